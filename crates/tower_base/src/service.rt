@@ -1,0 +1,147 @@
+//! Services, the futures and streams that they stand on, clocks and executors.
+ghost use Rattle.std.specs.Prelude.{◌≡◌, ◌≢◌, ⊤, ℕ, Result, Ok, ◌↔◌, IsTrue, IfErr, OnSome, Option};
+ghost use Rattle.futures.specs.Task.{Covers, Keeps, IsArmed};
+ghost use Rattle.futures.specs.Poll.{OnPending, IfReady};
+ghost use Rattle.futures.specs.declared.task.Poll.{Poll};
+ghost use Rattle.futures.specs.declared.task.Poll.TheVariants.{Ready};
+
+mod plain;
+mod sleep;
+
+use futures::future::Future;
+use futures::stream::Stream;
+use futures::task::{Context, Poll};
+pub use sleep::Sleep;
+
+/// A future whose poll has a relation, which a proof above it may use.
+pub trait Steps: Future {
+    // A poll may give this answer and leave the second value.
+    ghost stepped: { Self → Poll Self.Output → Self → Type 0 };
+
+    /// One poll. `Future::poll` is this call.
+    fn step(&mut self, cx: &mut Context<'_>) -> Poll<Self::Output>
+        requires { Self.can_poll self.old }
+        ensures step { stepped self.old result self.new }
+        ensures again { OnPending result (Self.can_poll self.new) }
+        ensures registered { OnPending result (Covers cx.new (Self.needs self.new)) }
+        ensures kept { Keeps cx.old cx.new };
+}
+
+/// A stream whose poll has a relation, which a proof above it may use.
+pub trait Flow: Stream {
+    // A poll may give this answer and leave the second value.
+    ghost flowed: { Self → Poll (Option Self.Item) → Self → Type 0 };
+
+    /// One poll. `Stream::poll_next` is this call.
+    fn flow(&mut self, cx: &mut Context<'_>) -> Poll<Option<Self::Item>>
+        requires { Self.can_poll self.old }
+        ensures flow { flowed self.old result self.new }
+        ensures goes { IfReady result (λ item. OnSome item (Self.can_poll self.new)) }
+        ensures again { OnPending result (Self.can_poll self.new) }
+        ensures registered { OnPending result (Covers cx.new (Self.needs self.new)) }
+        ensures kept { Keeps cx.old cx.new };
+}
+
+/// An asynchronous function from a request to a response: the Rust's `tower_service::Service`.
+///
+/// A caller asks `poll_ready` until it answers `Ok`, and then makes one call.
+pub trait Service<Request>: Drop {
+    type Response: Drop;
+
+    type Error: Drop;
+
+    type Future: Steps<Output = Result<Self::Response, Self::Error>>;
+
+    // What constructors make has it, and every call keeps it.
+    ghost sound: { Self → Type 0 } = { λ _. ⊤ };
+
+    // A call may be made.
+    ghost ready: { Self → Type 0 };
+
+    // A poll of readiness may give this answer and leave the second value.
+    ghost polled: { Self → Poll (Result (Unit {0}) Self.Error) → Self → Type 0 };
+
+    // A call with the request may give this future and leave the second value.
+    ghost called: { Self → Request → Self.Future → Self → Type 0 };
+
+    /// Asks whether a call may be made. An error says that the service can't be used any more.
+    fn poll_ready(&mut self, cx: &mut Context<'_>) -> Poll<Result<(), Self::Error>>
+        requires { sound self.old }
+        ensures polled { polled self.old result self.new }
+        ensures sound { sound self.new }
+        ensures armed { OnPending result (IsArmed cx.new) }
+        ensures kept { Keeps cx.old cx.new };
+
+    /// Makes a call.
+    fn call(&mut self, request: Request) -> Self::Future
+        requires sound { sound self.old }
+        requires ready { ready self.old }
+        ensures sound { sound self.new }
+        ensures called { called self.old request result self.new }
+        ensures fresh { Self.Future.can_poll result };
+
+    // An answer of `Ok` leaves a value that is ready.
+    ghost readies: { (old new : Self) → polled old (Ready (Ok tt)) new → ready new };
+}
+
+/// A clock, which may stand still and may go back. It stands for tokio's timer.
+pub trait Clock: Drop {
+    // The last reading.
+    ghost reading: { Self → ℕ };
+
+    // One reading may leave the second value.
+    ghost read: { Self → Self → Type 0 };
+
+    // The second is a further handle to the clock of the first.
+    ghost shared: { Self → Self → Type 0 };
+
+    /// The moment now, in nanoseconds.
+    fn now(&mut self) -> u64
+        ensures moment { result ≡ reading self.new }
+        ensures read { read self.old self.new };
+
+    /// A further handle to the same clock. It takes no memory and reads nothing.
+    fn share(&self) -> Self
+        ensures { shared self.now result };
+}
+
+/// What runs tasks beside the caller. It stands for tokio's `spawn`.
+pub trait Executor<T> {
+    // The task may be handed over.
+    ghost can_spawn: { Self → T → Type 0 } = { λ _ _. ⊤ };
+
+    // A spawn of the task may have this answer.
+    ghost spawned: { Self → T → Result (Unit {0}) T → Type 0 };
+
+    /// Takes the task, or gives it back as it was.
+    fn spawn(&self, task: T) -> Result<(), T>
+        requires { can_spawn self.now task }
+        ensures spawned { spawned self.now task result }
+        ensures given_back { IfErr result (λ back. back ≡ task) };
+}
+
+/// A fraction whose divisor isn't zero.
+#[derive(Clone, Copy, Debug, PartialEq, Eq)]
+pub struct Fraction {
+    pub numerator: u32,
+    pub divisor: u32,
+    ghost divides: { divisor ≢ 0 },
+}
+
+impl Fraction {
+    /// It asks for a divisor that isn't zero, which `fits` tests.
+    pub fn new(numerator: u32, divisor: u32) -> Fraction
+        requires { divisor ≢ 0 }
+        ensures numerator { result.numerator ≡ numerator }
+        ensures divisor { result.divisor ≡ divisor }
+    {
+        Fraction { numerator, divisor }
+    }
+
+    /// The divisor isn't zero.
+    pub fn fits(_numerator: u32, divisor: u32) -> bool
+        ensures { IsTrue result ↔ (divisor ≢ 0) }
+    {
+        divisor != 0
+    }
+}

@@ -1,0 +1,25 @@
+//! The kit's plain futures as `Steps`.
+ghost use Rattle.std.specs.Prelude.{◌≡◌};
+ghost use Rattle.futures.specs.Poll.{IfReady};
+ghost use Rattle.futures.specs.declared.task.Poll.TheVariants.{Pending};
+
+use crate::service::Steps;
+use futures::future::{Future, Pending, Ready};
+use futures::task::{Context, Poll};
+
+// An answer is the value that was put in. (The kit's contract leaves room for a pending poll.)
+impl<T: Drop> Steps for Ready<T> {
+    ghost stepped = { λ f answer g. IfReady answer (⟦<Ready<T> as Future>⟧.gives f) };
+
+    fn step(&mut self, cx: &mut Context<'_>) -> Poll<T> {
+        self.poll(cx)
+    }
+}
+
+impl<T: Drop> Steps for Pending<T> {
+    ghost stepped = { λ f answer g. answer ≡ Pending };
+
+    fn step(&mut self, cx: &mut Context<'_>) -> Poll<T> {
+        self.poll(cx)
+    }
+}

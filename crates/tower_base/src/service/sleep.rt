@@ -1,0 +1,60 @@
+//! A future of a clock.
+ghost use Rattle.std.specs.Prelude.{◌≡◌, ⊤, ◌+◌};
+ghost use Rattle.tower_base.specs.Gives.{MayGive};
+ghost use Rattle.tower_base.specs.Sleep.{Sleeping, Sleeps};
+
+use crate::service::{Clock, Steps};
+use futures::future::Future;
+use futures::task::{Context, Poll};
+use std::marker::Model;
+
+/// A future that answers at the first poll whose reading is at or past its deadline: the Rust's
+/// `tokio::time::Sleep` over a `Clock`.
+#[derive(Drop)]
+pub struct Sleep<C> {
+    clock: C,
+    deadline: u128,
+}
+
+impl<C> Model for Sleep<C> {
+    ghost Value = { Sleeping C };
+
+    ghost view = { λ s. record { clock = s.clock; deadline = s.deadline } };
+}
+
+impl<C: Clock> Sleep<C> {
+    /// Reads the clock once. The deadline is so many nanoseconds later.
+    pub fn new(mut clock: C, wait: u64) -> Sleep<C>
+        ensures deadline { result.deadline ≡ C.reading result.clock + wait }
+        ensures read { C.read clock result.clock }
+    {
+        let deadline = clock.now() as u128 + wait as u128;
+        Sleep { clock, deadline }
+    }
+}
+
+impl<C: Clock> Future for Sleep<C> {
+    type Output = ();
+
+    ghost gives = { MayGive (Sleeps C.Clock) };
+
+    // A pending poll wakes its own waker, whatever source is meant.
+    ghost needs = { λ _ _. ⊤ };
+
+    #[tactic(auto, using(crate::specs::Gives::gives_value, crate::specs::Gives::gives_same))]
+    fn poll(&mut self, cx: &mut Context<'_>) -> Poll<()> {
+        self.step(cx)
+    }
+}
+
+impl<C: Clock> Steps for Sleep<C> {
+    ghost stepped = { Sleeps C.Clock };
+
+    fn step(&mut self, cx: &mut Context<'_>) -> Poll<()> {
+        let moment = self.clock.now();
+        if moment as u128 >= self.deadline {
+            return Poll::Ready(());
+        }
+        cx.yield_now()
+    }
+}
