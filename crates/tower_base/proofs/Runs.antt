@@ -1,7 +1,7 @@
 -- Runs of events.
 use Rattle.std.proofs.Common.{◌≡◌, false, List, [], ◌∷◌, ◌++◌, Result, subst, refl, rules}
 use Rattle.futures.specs.declared.task.Poll.{Poll}
-use Rattle.tower_base.specs.Members.{ServiceOf}
+use Rattle.tower_base.specs.declared.service.Service.{Ghosts as ServiceOf}
 use Rattle.tower_base.specs.Drive.{State, Step, Run, opening}
 use Rattle.tower_base.specs.Driver.{state_of, Sound}
 use Rattle.tower_base.specs.declared.drive.Driver.{Driver}

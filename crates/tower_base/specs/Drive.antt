@@ -2,7 +2,7 @@
 use Rattle.std.specs.Prelude.{◌≡◌, ℕ, Bool, true, false, List, [], ◌∷◌, ◌++◌, length, Option, Some, None, Result, Ok, Err, slice_get, slice_set}
 use Rattle.futures.specs.declared.task.Poll.{Poll}
 use Rattle.futures.specs.declared.task.Poll.TheVariants.{Ready, Pending}
-use Rattle.tower_base.specs.Members.{ServiceOf}
+use Rattle.tower_base.specs.declared.service.Service.{Ghosts as ServiceOf}
 use Rattle.tower_base.specs.declared.drive.Event.{Event}
 use Rattle.tower_base.specs.declared.drive.Event.TheVariants.{Poll as PollEvent, Call, Future, Drop, Turn}
 use Rattle.tower_base.specs.declared.drive.Entry.{Entry}

@@ -1,0 +1,156 @@
+//! A limit on the time that a response may take: the Rust's `tower::timeout`.
+ghost use Rattle.std.specs.Prelude.{◌≡◌, IfOk};
+ghost use Rattle.tower_ware.specs.Timeout.{Limited, Limit, Polled, Called, Made, IsClone, poll_of-ok};
+
+pub mod error;
+pub mod future;
+
+pub use error::Error;
+use future::ResponseFuture;
+use futures::task::{Context, Poll};
+use std::alloc::AllocError;
+use std::marker::Model;
+use tower_base::layer::Layer;
+use tower_base::service::{Clock, Service};
+
+/// Answers `Elapsed` in place of a response that takes too long.
+///
+/// The time of a response begins at its call. The clock is handed in.
+#[derive(Drop)]
+pub struct Timeout<S, C> {
+    inner: S,
+    duration: u64,
+    clock: C,
+}
+
+impl<S, C> Model for Timeout<S, C> {
+    ghost Value = { Limited S C };
+
+    ghost view = { λ t. record { inner = t.inner; duration = t.duration; clock = t.clock } };
+}
+
+impl<S, C> Timeout<S, C> {
+    /// The duration is in nanoseconds. Nothing is read of the clock here.
+    pub fn new(inner: S, duration: u64, clock: C) -> Timeout<S, C>
+        ensures { result ≡ record { inner = inner; duration = duration; clock = clock } }
+    {
+        Timeout {
+            inner,
+            duration,
+            clock,
+        }
+    }
+}
+
+impl<Request, S: Service<Request>, C: Clock> Service<Request> for Timeout<S, C> {
+    type Response = S::Response;
+
+    type Error = Error<S::Error>;
+
+    type Future = ResponseFuture<S::Future, C>;
+
+    ghost sound = { λ v. S.sound v.inner };
+
+    ghost ready = { λ v. S.ready v.inner };
+
+    ghost polled = { Polled S.Service C.Clock };
+
+    ghost called = { Called S.Service C.Clock };
+
+    ghost readies = { λ old new p. S.readies old.inner new.inner (let e = poll_of-ok p.inner tt p.answers in Prim.rw e at p.came) };
+
+    fn poll_ready(&mut self, cx: &mut Context<'_>) -> Poll<Result<(), Self::Error>> {
+        match self.inner.poll_ready(cx) {
+            Poll::Ready(Ok(())) => Poll::Ready(Ok(())),
+            Poll::Ready(Err(error)) => Poll::Ready(Err(Error::Inner(error))),
+            Poll::Pending => Poll::Pending,
+        }
+    }
+
+    fn call(&mut self, request: Request) -> Self::Future {
+        let response = self.inner.call(request);
+        let moment = self.clock.now();
+        let deadline = moment as u128 + self.duration as u128;
+        ResponseFuture::new(response, deadline, self.clock.share())
+    }
+}
+
+/// A clone shares the clock.
+impl<S: Clone, C: Clock> Clone for Timeout<S, C> {
+    ghost is_clone = { IsClone C.Clock S.is_clone };
+
+    fn clone(&self) -> Result<Timeout<S, C>, AllocError> {
+        let inner = self.inner.clone()?;
+        Ok(Timeout::new(inner, self.duration, self.clock.share()))
+    }
+}
+
+impl<S, C> Timeout<S, C> {
+    ghost use Rattle.tower_ware.specs.TimeoutLends.{LendsInner};
+    ghost use Rattle.std.specs.Borrow.{sem};
+
+    /// The inner service.
+    pub fn get_ref(&self) -> &S
+        ensures { result.now ≡ self.now.inner }
+    {
+        &self.inner
+    }
+
+    /// The inner service, to be changed.
+    pub fn get_mut(&mut self) -> &mut S
+        ensures* writes_back { sem 𝓛 (LendsInner S.row C.row self.entry result) }
+        ensures value { result.now ≡ self.old.inner }
+    {
+        &mut self.inner
+    }
+
+    /// The inner service. The clock is dropped.
+    pub fn into_inner(self) -> S
+    where
+        C: Drop,
+        ensures { result ≡ self.inner }
+    {
+        self.inner
+    }
+}
+
+/// Makes a `Timeout` of a service.
+#[derive(Drop)]
+pub struct TimeoutLayer<C> {
+    duration: u64,
+    clock: C,
+}
+
+impl<C> Model for TimeoutLayer<C> {
+    ghost Value = { Limit C };
+
+    ghost view = { λ l. record { duration = l.duration; clock = l.clock } };
+}
+
+impl<C> TimeoutLayer<C> {
+    /// The duration is in nanoseconds.
+    pub fn new(duration: u64, clock: C) -> TimeoutLayer<C>
+        ensures { result ≡ record { duration = duration; clock = clock } }
+    {
+        TimeoutLayer { duration, clock }
+    }
+}
+
+impl<S, C: Clock> Layer<S> for TimeoutLayer<C> {
+    type Service = Timeout<S, C>;
+
+    ghost made = { Made C.Clock };
+
+    fn layer(&self, service: S) -> Result<Timeout<S, C>, AllocError> {
+        Ok(Timeout::new(service, self.duration, self.clock.share()))
+    }
+}
+
+/// A clone shares the clock.
+impl<C: Clock> Clone for TimeoutLayer<C> {
+    ghost is_clone = { λ layer copy. C.shared layer.clock copy.clock × (copy.duration ≡ layer.duration) };
+
+    fn clone(&self) -> Result<TimeoutLayer<C>, AllocError> {
+        Ok(TimeoutLayer::new(self.duration, self.clock.share()))
+    }
+}

@@ -1,0 +1,80 @@
+//! The response of a `Timeout`.
+ghost use Rattle.std.specs.Prelude.{◌≡◌, ⊤};
+ghost use Rattle.tower_base.specs.Gives.{MayGive};
+ghost use Rattle.tower_ware.specs.Timeout.{Waiting, Stepped};
+
+use crate::timeout::error::Error;
+use futures::future::Future;
+use futures::task::{Context, Poll};
+use std::marker::Model;
+use tower_base::service::{Clock, Steps};
+
+/// A response, or the end of its time.
+///
+/// The response is polled first. Only where it is pending is the clock read.
+#[derive(Drop)]
+pub struct ResponseFuture<F, C> {
+    response: F,
+    deadline: u128,
+    clock: C,
+}
+
+impl<F, C> Model for ResponseFuture<F, C> {
+    ghost Value = { Waiting F C };
+
+    ghost view = { λ f. record { response = f.response; deadline = f.deadline; clock = f.clock } };
+}
+
+impl<F, C> ResponseFuture<F, C> {
+    pub(crate) fn new(response: F, deadline: u128, clock: C) -> ResponseFuture<F, C>
+        ensures { result ≡ record { response = response; deadline = deadline; clock = clock } }
+    {
+        ResponseFuture {
+            response,
+            deadline,
+            clock,
+        }
+    }
+}
+
+impl<T, E, F, C> Future for ResponseFuture<F, C>
+where
+    F: Steps<Output = Result<T, E>>,
+    C: Clock,
+{
+    type Output = Result<T, Error<E>>;
+
+    ghost can_poll = { λ v. F.can_poll v.response };
+
+    ghost gives = { MayGive (Stepped F.Steps.own C.Clock) };
+
+    // A pending poll wakes its own waker, whatever source is meant.
+    ghost needs = { λ _ _. ⊤ };
+
+    #[tactic(auto, using(tower_base::specs::Gives::gives_value, tower_base::specs::Gives::gives_same))]
+    fn poll(&mut self, cx: &mut Context<'_>) -> Poll<Self::Output> {
+        self.step(cx)
+    }
+}
+
+impl<T, E, F, C> Steps for ResponseFuture<F, C>
+where
+    F: Steps<Output = Result<T, E>>,
+    C: Clock,
+{
+    ghost stepped = { Stepped F.Steps.own C.Clock };
+
+    fn step(&mut self, cx: &mut Context<'_>) -> Poll<Self::Output> {
+        match self.response.step(cx) {
+            Poll::Ready(Ok(response)) => Poll::Ready(Ok(response)),
+            Poll::Ready(Err(error)) => Poll::Ready(Err(Error::Inner(error))),
+            Poll::Pending => {
+                let moment = self.clock.now();
+                if moment as u128 >= self.deadline {
+                    return Poll::Ready(Err(Error::Elapsed));
+                }
+                cx.yield_now()
+            }
+        }
+    }
+}
