@@ -1,5 +1,6 @@
 pub mod Drive
 pub mod Driver
 pub mod Gives
+pub mod Latch
 pub mod Passes
 pub mod Sleep

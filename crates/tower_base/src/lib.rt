@@ -2,5 +2,6 @@
 #![tactic(auto)]
 
 pub mod drive;
+pub mod latch;
 pub mod layer;
 pub mod service;
