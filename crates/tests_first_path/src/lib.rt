@@ -1,0 +1,11 @@
+//! Tests of services, layers, `drive` and `Timeout` at concrete types.
+#![tactic(auto)]
+
+#[cfg(test)]
+mod drives;
+#[cfg(test)]
+mod layers;
+#[cfg(test)]
+mod scripted;
+#[cfg(test)]
+mod timeouts;
