@@ -1,4 +1,6 @@
 //! Small services and what combines them.
 #![tactic(auto)]
 
+#[cfg(test)]
+mod testing;
 pub mod util;

@@ -2,6 +2,8 @@
 
 mod closure_service;
 mod oneshot;
+#[cfg(test)]
+mod tests;
 
 pub use closure_service::{ServiceFn, service_fn};
 pub use oneshot::Oneshot;

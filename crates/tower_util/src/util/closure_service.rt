@@ -1,18 +1,29 @@
 //! A service by a closure.
 ghost use Rattle.std.specs.Prelude.{◌≡◌, Ok, Result};
 ghost use Rattle.futures.specs.declared.task.Poll.TheVariants.{Ready};
+ghost use Rattle.tower_util.specs.Parts.{Kept};
 
-use tower_base::service::{Service, Steps};
 use futures::task::{Context, Poll};
+use std::marker::Model;
+use tower_base::service::{Service, Steps};
 
-/// A service that is always ready, and calls a closure.
+/// A service that is always ready, and calls a closure: the Rust's `tower::util::ServiceFn`.
 #[derive(Clone, Copy, Drop)]
 pub struct ServiceFn<F> {
     f: F,
 }
 
+impl<F> Model for ServiceFn<F> {
+    ghost Value = { Kept F };
+
+    ghost view = { λ s. record { f = s.f } };
+
+    ghost inverse = { λ v. record { f = v.f } };
+}
+
+/// The Rust's `tower::util::service_fn`.
 pub fn service_fn<F>(f: F) -> ServiceFn<F>
-    ensures { result.f ≡ f }
+    ensures { result ≡ record { f = f } }
 {
     ServiceFn { f }
 }

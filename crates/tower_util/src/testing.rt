@@ -1,0 +1,145 @@
+//! What the tests stand on.
+ghost use Rattle.std.specs.Prelude.{◌≡◌, IsSome, Some, IfSome, Ok};
+ghost use Rattle.futures.specs.Poll.{IfReady, OnPending};
+
+use crate::util::Oneshot;
+use futures::executor::block_on;
+use futures::future::Future;
+use futures::task::{Context, Poll};
+use std::alloc::AllocGlobal;
+use std::io;
+use std::random::RandomSource;
+use std::sync::Wait;
+use tower_base::service::{Service, Steps};
+
+/// An answer that is there after so many pending polls.
+#[derive(Drop)]
+pub struct Delayed<T> {
+    waits: u8,
+    answer: Option<T>,
+}
+
+pub fn after<T>(waits: u8, answer: T) -> Delayed<T>
+    ensures { result.answer ≡ Some answer }
+{
+    Delayed {
+        waits,
+        answer: Some(answer),
+    }
+}
+
+impl<T: Drop> Future for Delayed<T> {
+    type Output = T;
+
+    ghost can_poll = { λ f. IsSome f.answer };
+
+    fn poll(&mut self, cx: &mut Context<'_>) -> Poll<T> {
+        self.step(cx)
+    }
+}
+
+impl<T: Drop> Steps for Delayed<T> {
+    ghost stepped = { λ old answer new. IfReady answer (λ x. old.answer ≡ Some x) × OnPending answer (new.answer ≡ old.answer) };
+
+    fn step(&mut self, cx: &mut Context<'_>) -> Poll<T> {
+        if self.waits > 0 {
+            self.waits -= 1;
+            return cx.yield_now();
+        }
+        Poll::Ready(self.answer.take().unwrap())
+    }
+}
+
+/// A service that is ready, or fails, after so many pending polls, and answers each request with itself.
+#[derive(Clone, Drop)]
+pub struct Echo {
+    pub waits: u8,
+    pub breaks: bool,
+    pub fails: bool,
+    pub delay: u8,
+}
+
+impl Echo {
+    /// Ready at once, and so is each response.
+    pub fn new() -> Echo {
+        Echo {
+            waits: 0,
+            breaks: false,
+            fails: false,
+            delay: 0,
+        }
+    }
+
+    pub fn failing() -> Echo {
+        Echo {
+            fails: true,
+            ..Echo::new()
+        }
+    }
+
+    pub fn broken() -> Echo {
+        Echo {
+            breaks: true,
+            ..Echo::new()
+        }
+    }
+
+    pub fn slow() -> Echo {
+        Echo {
+            waits: 1,
+            delay: 1,
+            ..Echo::new()
+        }
+    }
+}
+
+impl Service<u8> for Echo {
+    type Response = u8;
+
+    type Error = u8;
+
+    type Future = Delayed<Result<u8, u8>>;
+
+    ghost ready = { λ _. Unit {0} };
+
+    ghost polled = { λ _ _ _. Unit {0} };
+
+    ghost called = { λ _ _ future _. IsSome future.answer };
+
+    ghost readies = { λ _ _ _. tt };
+
+    fn poll_ready(&mut self, cx: &mut Context<'_>) -> Poll<Result<(), u8>> {
+        if self.waits > 0 {
+            self.waits -= 1;
+            return cx.yield_now();
+        }
+        if self.breaks {
+            return Poll::Ready(Err(90));
+        }
+        Poll::Ready(Ok(()))
+    }
+
+    fn call(&mut self, request: u8) -> Delayed<Result<u8, u8>> {
+        let answer = if self.fails {
+            Err(request)
+        } else {
+            Ok(request)
+        };
+        after(self.delay, answer)
+    }
+}
+
+/// Calls the service once, as its bound lets a caller do.
+pub fn fire<S, Request, R>(
+    rt: &R,
+    service: S,
+    request: Request,
+) -> io::Result<Result<S::Response, S::Error>>
+where
+    S: Service<Request>,
+    Request: Drop,
+    R: Wait + RandomSource + AllocGlobal,
+    requires { S.sound service }
+{
+    block_on(rt, Oneshot::new(service, request))
+}
