@@ -1,6 +1,7 @@
 //! Layers at concrete types, and a stack of closures through `drive` and `block_on`.
 
 use crate::scripted::{After, Hand, text_of};
+use futures::executor::block_on;
 use futures::task::Context;
 use futures::test::MockTask;
 use std::alloc::AllocError;
@@ -9,7 +10,7 @@ use std::test::Fail;
 use tower_base::drive::{Event, drive};
 use tower_base::layer::{Identity, Layer, Stack, layer_fn};
 use tower_base::service::Fraction;
-use tower_util::util::service_fn;
+use tower_util::util::{Oneshot, service_fn};
 use tower_ware::timeout::TimeoutLayer;
 
 #[test]
@@ -29,15 +30,15 @@ fn stack_of_closures_is_driven_and_blocked_on(rt: HostRuntime) -> Result<(), Fai
     let alloc = rt.alloc();
     let moment = Cell::new(0);
     let readings = Cell::new(0);
-    let inner = service_fn(|x: u8| After {
+    let answers = |x: u8| After {
         polls: Some(x),
         answer: Ok(x),
-    });
+    };
     let layers = Stack::new(
         layer_fn(|s| Ok(s)),
         TimeoutLayer::new(10, Hand::new(&moment, &readings)),
     );
-    let service = layers.layer(inner)?;
+    let service = layers.layer(service_fn(answers))?;
     let events = vec![in alloc;
         Event::Poll,
         Event::Call(1),
@@ -56,9 +57,8 @@ fn stack_of_closures_is_driven_and_blocked_on(rt: HostRuntime) -> Result<(), Fai
         text_of(alloc, &transcript)?.as_str(),
         "ready;call 0;0 pending;at 10;0 ok 1;"
     );
-        polls: Some(2),
-        answer: Ok(x),
-    }))?;
+    let other = layers.layer(service_fn(answers))?;
+    assert!(rt; matches!(block_on(&rt, Oneshot::new(other, 6))?, Ok(6)));
     Ok(())
 }
 

@@ -1,4 +1,4 @@
-//! A whole run of a service, by a list of events.
+//! A whole run of a service, by a list of events. The Rust has no such call.
 ghost use Rattle.std.specs.Prelude.{◌≡◌, [], ◌+◌, ◌<◌, true, false, All, IfOk, OnErr, Some, slice_get, slice_set, Result, IfSome, IfNone, IsOk};
 ghost use Rattle.futures.specs.Task.{Keeps};
 ghost use Rattle.tower_base.specs.Drive.{Step, Run, Calls, Polls, opening, allows, slot_after, IsLive, IsKept};
@@ -28,11 +28,17 @@ pub enum Event<Request, T> {
 /// What came of an event.
 #[derive(Drop)]
 pub enum Entry<A, E, U> {
+    /// The answer to a poll of readiness.
     Polled(Poll<Result<(), E>>),
+    /// A call was made, and its future has this number.
     Called(usize),
+    /// The future of this number was polled, and answered so.
     Answered(usize, Poll<Result<A, E>>),
+    /// The future of this number was dropped.
     Dropped(usize),
+    /// What the closure answered.
     Turned(U),
+    /// The event didn't fit, and nothing was done.
     Skipped,
 }
 
@@ -42,6 +48,7 @@ pub struct Transcript<A, E, U> {
     pub entries: Vec<Entry<A, E, U>>,
 }
 
+/// The place of a call's future.
 #[derive(Drop)]
 pub enum Slot<F> {
     Live(F),
@@ -58,6 +65,14 @@ struct Driver<S, F, O> {
 }
 
 /// Does what the events say, one after another, and tells what came of each.
+///
+/// The entry of an event that doesn't fit is `Skipped`, and nothing is done then: a call unless the
+/// last `Poll` answered `Ok` and no call came since; a poll of a future that is finished, dropped or
+/// unknown; a drop of one that is dropped or unknown. Futures are numbered from 0 in the order of
+/// the calls, and a finished one is kept until it is dropped.
+///
+/// Room for an entry and for a future is made before the event. Where there is none, the service and
+/// all futures are dropped and the answer is `AllocError`.
 pub fn drive<Request, S, T, U, O>(
     alloc: Global,
     cx: &mut Context<'_>,
