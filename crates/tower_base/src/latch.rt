@@ -3,7 +3,10 @@ ghost use Rattle.std.specs.Prelude.{◌≡◌, Bool, true, ⊤, IfOk};
 ghost use Rattle.tower_base.specs.Latch.{Came};
 ghost use Rattle.futures.specs.Task.{IsArmed, Keeps};
 
+mod guarded;
+
 use futures::task::Context;
+pub use guarded::Guarded;
 use std::alloc::AllocError;
 
 /// A machine without locks: one event is one `step`.

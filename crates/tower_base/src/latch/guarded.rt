@@ -1,0 +1,135 @@
+//! One lock round one core.
+ghost use Rattle.std.specs.Prelude.{◌≡◌, true};
+ghost use Rattle.tower_base.specs.Latch.{Reached, Came};
+ghost use Rattle.futures.specs.Task.{IsArmed, Keeps};
+
+use crate::latch::{Core, Latch};
+use futures::task::{Context, Poll, Source, Waker};
+use std::alloc::{AllocError, Global};
+use std::mem;
+use std::sync::{Arc, Mutex, Wait};
+
+/// A `Latch` of one lock round the one core that it was handed.
+///
+/// Wakers are kept beside the core. A step whose reply doesn't wait wakes all of them, once the
+/// lock is free. Where there is no room to keep a waker, its task is woken at once.
+#[derive(Drop)]
+pub struct Guarded<C: Core, R> {
+    rt: R,
+    shared: Arc<Shared<C>, Global>,
+}
+
+#[derive(Drop)]
+struct Shared<C: Core> {
+    source: Source,
+    kept: Mutex<Kept<C>>,
+}
+
+#[derive(Drop)]
+struct Kept<C: Core> {
+    core: C,
+    alloc: Global,
+    waiters: Vec<Waiter>,
+    // A run from an opening core leads to this one.
+    ghost reached: { ∥ Reached C.opens C.steps core ∥₁ },
+}
+
+#[derive(Drop)]
+struct Waiter {
+    task: usize,
+    waker: Option<Waker>,
+}
+
+impl<C: Core, R: Wait + Copy + Send + Sync> Guarded<C, R> {
+    pub fn new(rt: R, alloc: Global, core: C) -> Result<Guarded<C, R>, AllocError>
+        requires { C.opens core }
+    {
+        let shared = Shared {
+            source: Source::new(),
+            kept: Mutex::new(Kept {
+                core,
+                alloc,
+                waiters: Vec::new(alloc),
+            }),
+        };
+        Ok(Guarded {
+            rt,
+            shared: Arc::new(alloc, shared)?,
+        })
+    }
+}
+
+impl<C: Core> Kept<C> {
+    fn turn(&mut self, step: C::Step) -> C::Reply
+        requires { C.admits step }
+        ensures { Came C.opens C.steps step result }
+    {
+        self.core.step(step)
+    }
+
+    // The waiters, to be dropped once the lock is free, which wakes them.
+    fn take_waiters(&mut self) -> Vec<Waiter> {
+        mem::replace(&mut self.waiters, Vec::new(self.alloc))
+    }
+}
+
+// Keeps one waker of the task, where there is room.
+fn keep(waiters: &mut Vec<Waiter>, source: &Source, cx: &mut Context<'_>) -> bool
+    ensures armed { result ≡ true → IsArmed cx.new }
+    ensures kept { Keeps cx.old cx.new }
+{
+    let task = cx.task();
+    let place = match waiters.iter().position(|waiter| waiter.task == task) {
+        Some(place) => place,
+        None => {
+            let Ok(()) = waiters.push(Waiter { task, waker: None }) else {
+                return false;
+            };
+            waiters.len() - 1
+        }
+    };
+    let _pending: Poll<()> = cx.register(source, &mut waiters[place].waker);
+    true
+}
+
+impl<C: Core, R: Wait + Copy + Send + Sync> Latch<C> for Guarded<C, R> {
+    // Somewhere in a run from an opening core, the step had this reply.
+    ghost gave = { λ _ step reply. Came C.opens C.steps step reply };
+
+    ghost honest = { λ _ _ _ given. given };
+
+    fn step(&self, step: C::Step) -> C::Reply {
+        let mut kept = self.shared.kept.lock(&self.rt);
+        let reply = kept.turn(step);
+        if !C::waits(&reply) {
+            let woken = kept.take_waiters();
+            drop(kept);
+            drop(woken);
+        }
+        reply
+    }
+
+    fn wait(&self, step: C::Step, cx: &mut Context<'_>) -> C::Reply {
+        let mut kept = self.shared.kept.lock(&self.rt);
+        let reply = kept.turn(step);
+        if C::waits(&reply) {
+            let room = keep(&mut kept.waiters, &self.shared.source, cx);
+            drop(kept);
+            if !room {
+                let _pending: Poll<()> = cx.yield_now();
+            }
+        } else {
+            let woken = kept.take_waiters();
+            drop(kept);
+            drop(woken);
+        }
+        reply
+    }
+
+    fn share(&self) -> Result<Guarded<C, R>, AllocError> {
+        Ok(Guarded {
+            rt: self.rt,
+            shared: Arc::try_clone(&self.shared)?,
+        })
+    }
+}
