@@ -1,0 +1,3 @@
+pub mod Line
+pub mod LineCore
+pub mod LineLaws

@@ -1,0 +1,4 @@
+//! Limits on calls.
+#![tactic(auto)]
+
+pub mod limit;

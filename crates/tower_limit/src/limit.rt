@@ -1,0 +1,3 @@
+//! Limits: the Rust's `tower::limit`.
+
+pub mod concurrency;
