@@ -1,3 +1,4 @@
+pub mod Concurrency
 pub mod Line
 pub mod LineCore
 pub mod LineLaws

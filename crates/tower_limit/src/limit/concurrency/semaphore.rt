@@ -1,0 +1,170 @@
+//! Permits, and those who ask for them.
+ghost use Rattle.std.specs.Prelude.{◌≡◌, IfOk, IfSome, None};
+ghost use Rattle.tower_limit.specs.Concurrency.{Permits, Held, Asking, Shares, SharesPermits, Acquired};
+ghost use Rattle.futures.specs.Task.{IsArmed, Keeps};
+ghost use Rattle.futures.specs.Poll.{OnPending};
+
+use crate::limit::concurrency::line::{LineCore, LineReply, LineStep};
+use futures::task::{Context, Poll};
+use std::alloc::{AllocError, Global};
+use std::marker::Model;
+use std::sync::Wait;
+use tower_base::latch::{Guarded, Latch};
+
+/// A share of a line of permits: what the Rust has `tokio::sync::Semaphore` for.
+#[derive(Drop)]
+pub struct Semaphore<L: Latch<LineCore>> {
+    latch: L,
+    max: usize,
+}
+
+impl<L: Latch<LineCore>> Model for Semaphore<L> {
+    ghost Value = { Permits L };
+
+    ghost view = { λ s. record { latch = s.latch; max = s.max } };
+}
+
+impl<R: Wait + Copy + Send + Sync> Semaphore<Guarded<LineCore, R>> {
+    /// So many permits, all free, behind a lock. Any number will do, 0 too.
+    pub fn new(rt: R, alloc: Global, max: usize) -> Result<Self, AllocError>
+        ensures { IfOk result (λ made. made.max ≡ max) }
+    {
+        let core = LineCore::new(alloc, max);
+        let latch = Guarded::new(rt, alloc, core)?;
+        Ok(Semaphore { latch, max })
+    }
+}
+
+impl<L: Latch<LineCore>> Semaphore<L> {
+    /// A semaphore over a latch of the caller's, of so many permits.
+    pub fn with_latch(latch: L, max: usize) -> Semaphore<L>
+        ensures { result ≡ record { latch = latch; max = max } }
+    {
+        Semaphore { latch, max }
+    }
+
+    /// The number that it was made with.
+    pub fn max(&self) -> usize
+        ensures { result ≡ self.now.max }
+    {
+        self.max
+    }
+
+    /// How many permits are free, by one step at the latch.
+    pub fn available_permits(&self) -> usize
+        ensures { L.gave self.now.latch LineStep.Free (LineReply.Count result) }
+    {
+        match self.latch.step(LineStep::Free) {
+            LineReply::Count(free) => free,
+            _ => unreachable!(),
+        }
+    }
+
+    /// Another share of the same permits.
+    pub fn share(&self) -> Result<Semaphore<L>, AllocError>
+        ensures { IfOk result (λ other. SharesPermits L.gave self.now other) }
+    {
+        let latch = self.latch.share()?;
+        Ok(Semaphore {
+            latch,
+            max: self.max,
+        })
+    }
+}
+
+/// A permit, which is held until it is dropped.
+pub struct Permit<L: Latch<LineCore>> {
+    latch: L,
+}
+
+impl<L: Latch<LineCore>> Model for Permit<L> {
+    ghost Value = { Held L };
+
+    ghost view = { λ p. record { latch = p.latch } };
+}
+
+/// The permit goes back by one step at its latch.
+impl<L: Latch<LineCore>> Drop for Permit<L> {
+    fn drop(self)
+        ensures { (reply : _) × L.gave self.latch LineStep.Release reply }
+    {
+        self.latch.step(LineStep::Release);
+        let Permit { latch: _ } = self;
+    }
+}
+
+/// Asks a semaphore for permits, one at a time: the Rust's `tokio_util::sync::PollSemaphore`.
+pub struct PollSemaphore<L: Latch<LineCore>> {
+    semaphore: Semaphore<L>,
+    key: Option<u64>,
+}
+
+impl<L: Latch<LineCore>> Model for PollSemaphore<L> {
+    ghost Value = { Asking L };
+
+    ghost view = { λ p. record { semaphore = p.semaphore; key = p.key } };
+}
+
+impl<L: Latch<LineCore>> PollSemaphore<L> {
+    pub fn new(semaphore: Semaphore<L>) -> PollSemaphore<L>
+        ensures { result ≡ record { semaphore = semaphore; key = None } }
+    {
+        PollSemaphore {
+            semaphore,
+            key: None,
+        }
+    }
+
+    /// Another share of the permits that it asks for.
+    pub fn share(&self) -> Result<Semaphore<L>, AllocError>
+        ensures { IfOk result (λ other. SharesPermits L.gave self.now.semaphore other) }
+    {
+        self.semaphore.share()
+    }
+
+    /// A permit, or a place in the line, which is kept until the permit is there.
+    ///
+    /// The permit's share of the latch is made before the step. For want of memory it answers an
+    /// error, and the place, if there was one, is kept.
+    pub fn poll_acquire(&mut self, cx: &mut Context<'_>) -> Poll<Result<Permit<L>, AllocError>>
+        ensures acquired { Acquired L.gave self.old result self.new }
+        ensures armed { OnPending result (IsArmed cx.new) }
+        ensures kept { Keeps cx.old cx.new }
+    {
+        let Ok(latch) = self.semaphore.latch.share() else {
+            return Poll::Ready(Err(AllocError));
+        };
+        let step = match self.key {
+            None => LineStep::Join,
+            Some(key) => LineStep::Look(key),
+        };
+        match self.semaphore.latch.wait(step, cx) {
+            LineReply::Granted => {
+                self.key = None;
+                Poll::Ready(Ok(Permit { latch }))
+            }
+            LineReply::Waiting(key) => {
+                self.key = Some(key);
+                Poll::Pending
+            }
+            LineReply::Memory => Poll::Ready(Err(AllocError)),
+            LineReply::Unknown => cx.yield_now(),
+            LineReply::Left | LineReply::Count(_) => unreachable!(),
+        }
+    }
+}
+
+/// One that still waits leaves the line by one step at the latch.
+impl<L: Latch<LineCore>> Drop for PollSemaphore<L> {
+    fn drop(self)
+        ensures { IfSome self.key (λ key. (reply : _) × L.gave self.semaphore.latch (LineStep.Cancel key) reply) }
+    {
+        if let Some(key) = self.key {
+            self.semaphore.latch.step(LineStep::Cancel(key));
+        }
+        let PollSemaphore {
+            semaphore: _,
+            key: _,
+        } = self;
+    }
+}
