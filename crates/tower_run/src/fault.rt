@@ -1,0 +1,30 @@
+//! What can go wrong, with its text and its status.
+
+/// Why there is no transcript.
+#[derive(Debug, Drop, thiserror::Error)]
+pub enum Fault {
+    /// The first line, counted from 1, that isn't one of a script.
+    #[error("line {0}: bad line")]
+    BadLine(usize),
+    #[error("script too long")]
+    TooLong,
+    #[error("usage: tower-run STACK | tower-run storm T N M")]
+    Usage,
+    #[error("out of memory")]
+    Memory,
+    #[error("cannot read")]
+    CannotRead,
+    #[error("cannot write")]
+    CannotWrite,
+}
+
+impl Fault {
+    /// The status that the program ends with.
+    pub fn status(&self) -> u8 {
+        match self {
+            Fault::BadLine(_) | Fault::TooLong | Fault::Usage => 2,
+            Fault::Memory => 1,
+            Fault::CannotRead | Fault::CannotWrite => 3,
+        }
+    }
+}

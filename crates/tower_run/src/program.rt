@@ -1,0 +1,80 @@
+//! From the words and the script to what is written.
+
+use crate::fault::Fault;
+use crate::script;
+use crate::script::MAX_BYTES;
+use crate::stacks::Stack;
+use std::alloc::{AllocGlobal, Global};
+use std::env;
+use std::io::{ErrorKind, Read, Write};
+use std::rt::Env;
+
+/// The program: `words` are the arguments after its name. It answers the status.
+///
+/// The whole script is read before anything runs, and the whole output is built before the first write.
+pub fn run<H, R, O, E>(rt: &H, words: &[String], reader: R, out: O, err: E) -> u8
+where
+    H: AllocGlobal,
+    R: Read + Drop,
+    O: Write + Drop,
+    E: Write + Drop,
+{
+    match play(rt.alloc(), words, reader).and_then(|text| write(out, text.as_str())) {
+        Ok(()) => 0,
+        Err(fault) => report(fault, err),
+    }
+}
+
+/// Writes the fault's line, and answers its status, whether that can be written or not.
+pub fn report<E: Write + Drop>(fault: Fault, mut err: E) -> u8 {
+    let _ = writeln!(err, "{fault}");
+    fault.status()
+}
+
+fn play<R: Read + Drop>(alloc: Global, words: &[String], reader: R) -> Result<String, Fault> {
+    let [name] = words else {
+        return Err(Fault::Usage);
+    };
+    let stack = Stack::named(name.as_str()).ok_or(Fault::Usage)?;
+    let script = read(alloc, reader)?;
+    let commands = script::parse(alloc, &script)?;
+    stack.play(alloc, commands).map_err(|_| Fault::Memory)
+}
+
+// The whole script. It reads no byte after the first one that is too many.
+fn read<R: Read + Drop>(alloc: Global, mut reader: R) -> Result<Vec<u8>, Fault> {
+    let mut script = Vec::new(alloc);
+    let mut chunk = [0; 4096];
+    for _ in 0..u64::MAX {
+        let room = chunk
+            .len()
+            .min((MAX_BYTES + 1).saturating_sub(script.len()));
+        match reader.read(&mut chunk[..room]) {
+            Ok(0) => return Ok(script),
+            Ok(count) => script
+                .extend_from_slice(&chunk[..count])
+                .map_err(|_| Fault::Memory)?,
+            Err(error) if error.kind() == ErrorKind::Interrupted => {}
+            Err(_) => return Err(Fault::CannotRead),
+        }
+        if script.len() > MAX_BYTES {
+            return Err(Fault::TooLong);
+        }
+    }
+    Err(Fault::CannotRead)
+}
+
+fn write<O: Write + Drop>(mut out: O, text: &str) -> Result<(), Fault> {
+    out.write_all(text.as_bytes())
+        .map_err(|_| Fault::CannotWrite)?;
+    out.flush().map_err(|_| Fault::CannotWrite)
+}
+
+/// The arguments after the program's name. One that isn't text is a wrong one.
+pub fn words_of<H: Env + AllocGlobal>(rt: &H) -> Result<Vec<String>, Fault> {
+    match env::args(rt) {
+        Ok(args) => args.skip(1).collect(rt.alloc()).map_err(|_| Fault::Memory),
+        Err(error) if error.kind() == ErrorKind::OutOfMemory => Err(Fault::Memory),
+        Err(_) => Err(Fault::Usage),
+    }
+}

@@ -1,0 +1,134 @@
+//! The lines of a script.
+
+use crate::fault::Fault;
+use std::alloc::Global;
+use std::fmt::Display;
+use std::{fmt, str};
+use tower_base::drive::Event;
+
+/// The most bytes that a script has.
+pub const MAX_BYTES: usize = 1_048_576;
+
+/// The most lines that a script has.
+pub const MAX_LINES: usize = 10_000;
+
+const MAX_WORD: usize = 64;
+
+/// A request, a response or an error: 1 to 64 visible characters of ASCII.
+#[derive(Clone, Copy, Debug)]
+pub struct Word<'a> {
+    text: &'a str,
+}
+
+impl Display for Word<'_> {
+    fn fmt<W: fmt::Write>(&self, f: &mut fmt::Formatter<W>) -> fmt::Result {
+        let text = self.text;
+        write!(f, "{text}")
+    }
+}
+
+/// What a script changes around the service.
+#[derive(Drop)]
+pub enum Turn<'a> {
+    /// The clock gives this moment from now on.
+    At(u64),
+    /// So many grants are left.
+    Allow(u64),
+    /// The inner call of this number has this answer.
+    Answer(u64, Result<Word<'a>, Word<'a>>),
+}
+
+/// A line of a script.
+pub type Command<'a> = Event<Word<'a>, Turn<'a>>;
+
+/// The commands of a whole script, in order.
+pub fn parse(alloc: Global, script: &[u8]) -> Result<Vec<Command<'_>>, Fault> {
+    let mut commands = Vec::new(alloc);
+    if script.is_empty() {
+        return Ok(commands);
+    }
+    let body = script.strip_suffix(b"\n").unwrap_or(script);
+    for line in body.split(|byte| *byte == b'\n') {
+        let number = commands.len().saturating_add(1);
+        if number > MAX_LINES {
+            return Err(Fault::BadLine(number));
+        }
+        let Some(command) = read_command(line).filter(is_known) else {
+            return Err(Fault::BadLine(number));
+        };
+        commands.push(command).map_err(|_| Fault::Memory)?;
+    }
+    Ok(commands)
+}
+
+// The lines that the stacks know so far.
+fn is_known(command: &Command<'_>) -> bool {
+    !matches!(
+        command,
+        Event::Turn(Turn::Allow(_) | Turn::Answer(_, Err(_))) | Event::Drop(_)
+    )
+}
+
+// The command that this line is.
+fn read_command(line: &[u8]) -> Option<Command<'_>> {
+    if line == b"poll".as_slice() {
+        return Some(Event::Poll);
+    }
+    if let Some(rest) = after(line, b"at ") {
+        return Some(Event::Turn(Turn::At(read_number(rest)?)));
+    }
+    if let Some(rest) = after(line, b"allow ") {
+        return Some(Event::Turn(Turn::Allow(read_number(rest)?)));
+    }
+    if let Some(rest) = after(line, b"call ") {
+        return Some(Event::Call(read_word(rest)?));
+    }
+    if let Some(rest) = after(line, b"answer ") {
+        return Some(Event::Turn(read_answer(rest)?));
+    }
+    if let Some(rest) = after(line, b"fut ") {
+        return Some(Event::Future(read_number(rest)? as usize));
+    }
+    let rest = after(line, b"drop ")?;
+    Some(Event::Drop(read_number(rest)? as usize))
+}
+
+// The number of an inner call, and its answer.
+fn read_answer(text: &[u8]) -> Option<Turn<'_>> {
+    let end = text.iter().position(|byte| *byte == b' ')?;
+    let (index, rest) = text.split_at(end);
+    let index = read_number(index)?;
+    if let Some(rest) = after(rest, b" ok ") {
+        return Some(Turn::Answer(index, Ok(read_word(rest)?)));
+    }
+    let rest = after(rest, b" err ")?;
+    Some(Turn::Answer(index, Err(read_word(rest)?)))
+}
+
+// What follows the prefix.
+fn after<'a>(text: &'a [u8], prefix: &[u8]) -> Option<&'a [u8]> {
+    if text.starts_with(prefix) {
+        Some(&text[prefix.len()..])
+    } else {
+        None
+    }
+}
+
+// A decimal number without leading zeros.
+fn read_number(text: &[u8]) -> Option<u64> {
+    match text {
+        [b'0'] => Some(0),
+        [b'1'..=b'9', ..] => str::from_utf8(text).ok()?.parse().ok(),
+        _ => None,
+    }
+}
+
+// A word of the script.
+fn read_word(text: &[u8]) -> Option<Word<'_>> {
+    let is_word = text.iter().all(|byte| byte.is_ascii_graphic());
+    if text.is_empty() || text.len() > MAX_WORD || !is_word {
+        return None;
+    }
+    let text = str::from_utf8(text).ok()?;
+    Some(Word { text })
+}

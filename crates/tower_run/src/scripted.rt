@@ -1,0 +1,235 @@
+//! The clock and the inner service that a script moves.
+ghost use Rattle.std.specs.Prelude.{◌≡◌, ⊤, true, Ok, refl};
+ghost use Rattle.futures.specs.declared.task.Poll.TheVariants.{Ready};
+
+use crate::script::{Turn, Word};
+use futures::future::Future;
+use futures::task::{Context, Poll};
+use std::alloc::{AllocError, Global};
+use std::cell::Cell;
+use tower_base::service::{Clock, Service, Steps};
+
+/// The answer to an inner call.
+type Reply<'a> = Result<Word<'a>, Word<'a>>;
+
+/// What the script and the scripted service share.
+#[derive(Drop)]
+pub struct Stage<'a> {
+    moment: Cell<u64>,
+    grants: Cell<Grants>,
+    polls: Cell<u64>,
+    calls: Cell<usize>,
+    answers: Vec<Cell<Option<Reply<'a>>>>,
+}
+
+/// How many grants are left.
+#[derive(Clone, Copy)]
+enum Grants {
+    Unlimited,
+    Left(u64),
+}
+
+/// What came of a `Turn`.
+#[derive(Drop)]
+pub enum Turned {
+    At(u64),
+    Allowed(u64),
+    Answered(u64),
+    Skipped,
+}
+
+impl<'a> Stage<'a> {
+    /// The clock stands at 0, and the grants have no limit. There is room for so many inner calls.
+    pub fn new(alloc: Global, calls: usize) -> Result<Stage<'a>, AllocError> {
+        let mut answers = Vec::with_capacity(alloc, calls)?;
+        for _ in 0..calls {
+            let unanswered: Cell<Option<Reply<'a>>> = Cell::new(None);
+            answers.push(unanswered)?;
+        }
+        Ok(Stage {
+            moment: Cell::new(0),
+            grants: Cell::new(Grants::Unlimited),
+            polls: Cell::new(0),
+            calls: Cell::new(0),
+            answers,
+        })
+    }
+
+    /// A handle to the clock.
+    pub fn clock(&self) -> ScriptedClock<'_> {
+        ScriptedClock {
+            moment: &self.moment,
+            last: self.moment.get(),
+        }
+    }
+
+    /// Does what the script says around the service.
+    pub fn turn(&self, turn: Turn<'a>) -> Turned {
+        match turn {
+            Turn::At(moment) => {
+                self.moment.set(moment);
+                Turned::At(moment)
+            }
+            Turn::Allow(grants) => {
+                self.grants.set(Grants::Left(grants));
+                Turned::Allowed(grants)
+            }
+            Turn::Answer(index, answer) => {
+                if self.answer(index as usize, answer) {
+                    Turned::Answered(index)
+                } else {
+                    Turned::Skipped
+                }
+            }
+        }
+    }
+
+    // Answers the inner call, if it is there and has no answer yet.
+    fn answer(&self, index: usize, answer: Reply<'a>) -> bool {
+        let Some(slot) = self.answers.get(index) else {
+            return false;
+        };
+        let is_open = index < self.calls.get() && slot.get().is_none();
+        if is_open {
+            slot.set(Some(answer));
+        }
+        is_open
+    }
+
+    // The answer to the inner call, if it has one.
+    fn answer_to(&self, index: usize) -> Option<Reply<'a>> {
+        self.answers.get(index)?.get()
+    }
+
+    // Takes a grant, if there is one.
+    fn take_grant(&self) -> bool {
+        match self.grants.get() {
+            Grants::Unlimited => true,
+            Grants::Left(0) => false,
+            Grants::Left(grants) => {
+                self.grants.set(Grants::Left(grants - 1));
+                true
+            }
+        }
+    }
+
+    /// The polls of readiness that reached the scripted service.
+    pub fn polls(&self) -> u64 {
+        self.polls.get()
+    }
+
+    /// The calls that reached the scripted service.
+    pub fn calls(&self) -> usize {
+        self.calls.get()
+    }
+}
+
+/// A clock that stands where the script put it.
+#[derive(Drop)]
+pub struct ScriptedClock<'s> {
+    moment: &'s Cell<u64>,
+    last: u64,
+}
+
+impl Clock for ScriptedClock<'_> {
+    ghost reading = { λ clock. clock.last };
+
+    ghost read = { λ old new. ⊤ };
+
+    ghost shared = { λ clock other. ⊤ };
+
+    fn now(&mut self) -> u64 {
+        self.last = self.moment.get();
+        self.last
+    }
+
+    fn share(&self) -> Self {
+        ScriptedClock {
+            moment: self.moment,
+            last: self.last,
+        }
+    }
+}
+
+/// The inner service of a script.
+#[derive(Drop)]
+pub struct Scripted<'s, 'a> {
+    stage: &'s Stage<'a>,
+    has_grant: bool,
+}
+
+impl<'s, 'a> Scripted<'s, 'a> {
+    pub fn new(stage: &'s Stage<'a>) -> Scripted<'s, 'a> {
+        Scripted {
+            stage,
+            has_grant: false,
+        }
+    }
+}
+
+impl<'s, 'a> Service<Word<'a>> for Scripted<'s, 'a> {
+    type Response = Word<'a>;
+
+    type Error = Word<'a>;
+
+    type Future = Answer<'s, 'a>;
+
+    ghost ready = { λ service. service.has_grant ≡ true };
+
+    ghost polled = { λ old answer new. (answer ≡ Ready (Ok tt)) → (new.has_grant ≡ true) };
+
+    ghost called = { λ _ _ _ _. ⊤ };
+
+    ghost readies = { λ old new p. p refl };
+
+    fn poll_ready(&mut self, cx: &mut Context<'_>) -> Poll<Result<(), Word<'a>>> {
+        let polls = &self.stage.polls;
+        polls.set(polls.get().saturating_add(1));
+        if !self.has_grant {
+            self.has_grant = self.stage.take_grant();
+        }
+        if self.has_grant {
+            return Poll::Ready(Ok(()));
+        }
+        cx.yield_now()
+    }
+
+    fn call(&mut self, _request: Word<'a>) -> Answer<'s, 'a> {
+        self.has_grant = false;
+        let calls = &self.stage.calls;
+        let index = calls.get();
+        calls.set(index.saturating_add(1));
+        Answer {
+            stage: self.stage,
+            index,
+        }
+    }
+}
+
+/// The answer that the script gives to one inner call.
+#[derive(Drop)]
+pub struct Answer<'s, 'a> {
+    stage: &'s Stage<'a>,
+    index: usize,
+}
+
+impl<'a> Future for Answer<'_, 'a> {
+    type Output = Result<Word<'a>, Word<'a>>;
+
+    ghost needs = { λ _ _. ⊤ };
+
+    fn poll(&mut self, cx: &mut Context<'_>) -> Poll<Self::Output> {
+        self.step(cx)
+    }
+}
+
+impl<'a> Steps for Answer<'_, 'a> {
+    ghost stepped = { λ _ _ _. ⊤ };
+
+    fn step(&mut self, cx: &mut Context<'_>) -> Poll<Self::Output> {
+        if let Some(answer) = self.stage.answer_to(self.index) {
+            return Poll::Ready(answer);
+        }
+        cx.yield_now()
+    }
+}

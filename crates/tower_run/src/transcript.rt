@@ -1,0 +1,49 @@
+//! What a run prints.
+
+use crate::script::Word;
+use crate::scripted::Turned;
+use futures::task::Poll;
+use std::alloc::{AllocError, Global};
+use std::fmt::Display;
+use tower_base::drive::{Entry, Transcript};
+
+/// A line for each entry, in order.
+pub fn print<E: Display>(
+    alloc: Global,
+    transcript: &Transcript<Word<'_>, E, Turned>,
+) -> Result<String, AllocError> {
+    let mut text = String::new(alloc);
+    for entry in &transcript.entries {
+        print_entry(&mut text, entry)?;
+    }
+    Ok(text)
+}
+
+fn print_entry<E: Display>(
+    text: &mut String,
+    entry: &Entry<Word<'_>, E, Turned>,
+) -> Result<(), AllocError> {
+    match entry {
+        Entry::Polled(Poll::Ready(Ok(()))) => writeln!(text, "poll ready"),
+        Entry::Polled(Poll::Ready(Err(error))) => writeln!(text, "poll error {error}"),
+        Entry::Polled(Poll::Pending) => writeln!(text, "poll pending"),
+        Entry::Called(index) => writeln!(text, "call {index}"),
+        Entry::Answered(index, Poll::Ready(Ok(word))) => writeln!(text, "fut {index} ok {word}"),
+        Entry::Answered(index, Poll::Ready(Err(error))) => {
+            writeln!(text, "fut {index} error {error}")
+        }
+        Entry::Answered(index, Poll::Pending) => writeln!(text, "fut {index} pending"),
+        Entry::Dropped(index) => writeln!(text, "drop {index}"),
+        Entry::Turned(turned) => print_turned(text, turned),
+        Entry::Skipped => writeln!(text, "skipped"),
+    }
+}
+
+fn print_turned(text: &mut String, turned: &Turned) -> Result<(), AllocError> {
+    match turned {
+        Turned::At(moment) => writeln!(text, "at {moment}"),
+        Turned::Allowed(grants) => writeln!(text, "allow {grants}"),
+        Turned::Answered(index) => writeln!(text, "answer {index}"),
+        Turned::Skipped => writeln!(text, "skipped"),
+    }
+}
