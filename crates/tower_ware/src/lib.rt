@@ -1,4 +1,5 @@
 //! Middleware that shares nothing.
 #![tactic(auto)]
 
+pub mod load_shed;
 pub mod timeout;

@@ -1,0 +1,68 @@
+//! The future of `LoadShed`.
+ghost use Rattle.std.specs.Prelude.{◌≡◌, Option, Some, None, IfSome, IsSomeAnd};
+ghost use Rattle.tower_base.specs.Gives.{MayGive};
+ghost use Rattle.tower_ware.specs.LoadShed.{Stepped};
+
+use crate::load_shed::error::{Error, Overloaded};
+use futures::future::Future;
+use futures::task::{Context, Poll};
+use std::marker::Model;
+use tower_base::service::Steps;
+
+/// The response, or the refusal: the Rust's `tower::load_shed::future::ResponseFuture`.
+#[derive(Drop)]
+pub struct ResponseFuture<F> {
+    response: Option<F>,
+}
+
+impl<F> Model for ResponseFuture<F> {
+    ghost Value = { Option F };
+
+    ghost view = { λ f. f.response };
+}
+
+impl<F> ResponseFuture<F> {
+    pub(crate) fn called(response: F) -> ResponseFuture<F>
+        ensures { result ≡ Some response }
+    {
+        ResponseFuture {
+            response: Some(response),
+        }
+    }
+
+    pub(crate) fn overloaded() -> ResponseFuture<F>
+        ensures { result ≡ None }
+    {
+        ResponseFuture { response: None }
+    }
+}
+
+impl<T, E, F: Steps<Output = Result<T, E>>> Future for ResponseFuture<F> {
+    type Output = Result<T, Error<E>>;
+
+    ghost can_poll = { λ f. IfSome f F.can_poll };
+
+    ghost gives = { MayGive (Stepped F.stepped) };
+
+    ghost needs = { λ f source. IsSomeAnd f (λ response. F.needs response source) };
+
+    #[tactic(auto, using(tower_base::specs::Gives::gives_value, tower_base::specs::Gives::gives_same))]
+    fn poll(&mut self, cx: &mut Context<'_>) -> Poll<Result<T, Error<E>>> {
+        self.step(cx)
+    }
+}
+
+impl<T, E, F: Steps<Output = Result<T, E>>> Steps for ResponseFuture<F> {
+    ghost stepped = { Stepped F.stepped };
+
+    fn step(&mut self, cx: &mut Context<'_>) -> Poll<Result<T, Error<E>>> {
+        let Some(response) = &mut self.response else {
+            return Poll::Ready(Err(Error::Overloaded(Overloaded::new())));
+        };
+        match response.step(cx) {
+            Poll::Ready(Ok(response)) => Poll::Ready(Ok(response)),
+            Poll::Ready(Err(error)) => Poll::Ready(Err(Error::Inner(error))),
+            Poll::Pending => Poll::Pending,
+        }
+    }
+}

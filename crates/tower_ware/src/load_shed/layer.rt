@@ -1,0 +1,26 @@
+//! The layer of `LoadShed`.
+ghost use Rattle.std.specs.Prelude.{◌≡◌, false};
+
+use crate::load_shed::LoadShed;
+use std::alloc::AllocError;
+use tower_base::layer::Layer;
+
+/// Makes a `LoadShed` of a service. It takes no memory.
+#[derive(Clone, Copy, Debug, Default, PartialEq, Eq)]
+pub struct LoadShedLayer;
+
+impl LoadShedLayer {
+    pub fn new() -> LoadShedLayer {
+        LoadShedLayer
+    }
+}
+
+impl<S> Layer<S> for LoadShedLayer {
+    type Service = LoadShed<S>;
+
+    ghost made = { λ _ inner shed. shed ≡ record { inner = inner; is_ready = false } };
+
+    fn layer(&self, service: S) -> Result<LoadShed<S>, AllocError> {
+        Ok(LoadShed::new(service))
+    }
+}
