@@ -3,4 +3,5 @@ pub mod Driver
 pub mod Gives
 pub mod Latch
 pub mod Passes
+pub mod Rng
 pub mod Sleep

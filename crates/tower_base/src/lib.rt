@@ -5,3 +5,4 @@ pub mod drive;
 pub mod latch;
 pub mod layer;
 pub mod service;
+pub mod util;

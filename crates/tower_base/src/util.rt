@@ -1,0 +1,2 @@
+//! What the libraries share.
+pub mod rng;

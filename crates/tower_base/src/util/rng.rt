@@ -1,0 +1,88 @@
+//! Random words.
+ghost use Rattle.std.specs.Prelude.{◌≡◌, ◌<◌, ◌+◌, ◌-◌, ◌%◌, ℕ};
+ghost use Rattle.tower_base.specs.Rng.{Fresh, Hashing, Word};
+
+use std::alloc::AllocError;
+use std::hash::{BuildHasher, BuildHasherDefault, FoldHasher};
+use std::marker::Model;
+use std::ops::Range;
+
+/// A source of random words: the Rust's `tower::util::rng::Rng`.
+pub trait Rng: Drop {
+    // A draw may give this word and leave the second value.
+    ghost drew: { Self → ℕ → Self → Type 0 };
+
+    fn next_u64(&mut self) -> u64
+        ensures { drew self.old result self.new };
+
+    /// One word, brought below the end by division, and not below the start.
+    fn next_range(&mut self, range: Range<u64>) -> u64
+        requires { range.start < range.end }
+        ensures { (word : ℕ) × drew self.old word self.new × (result ≡ word % (range.end - range.start) + range.start) }
+    {
+        let word = self.next_u64();
+        word % (range.end - range.start) + range.start
+    }
+}
+
+/// Hashes a counter, which begins at 0 and goes up by one with each word.
+#[derive(Drop)]
+pub struct HasherRng<H = BuildHasherDefault<FoldHasher>> {
+    hasher: H,
+    counter: u64,
+}
+
+impl<H> Model for HasherRng<H> {
+    ghost Value = { Hashing H };
+
+    ghost view = { λ r. record { hasher = r.hasher; counter = r.counter } };
+}
+
+impl HasherRng {
+    /// Hashes as a `HashMap` does by default, so that each such generator gives the same words.
+    pub fn new() -> Self
+        ensures { Fresh result }
+    {
+        HasherRng::with_hasher(BuildHasherDefault::new())
+    }
+}
+
+impl Default for HasherRng {
+    ghost is_default = { Fresh };
+
+    fn default() -> Self {
+        HasherRng::new()
+    }
+}
+
+impl<H> HasherRng<H> {
+    pub fn with_hasher(hasher: H) -> HasherRng<H>
+        ensures { result ≡ record { hasher = hasher; counter = 0 } }
+    {
+        HasherRng { hasher, counter: 0 }
+    }
+}
+
+impl<H: Clone> Clone for HasherRng<H> {
+    ghost is_clone = { λ old new. H.is_clone old.hasher new.hasher × (new.counter ≡ old.counter) };
+
+    fn clone(&self) -> Result<Self, AllocError> {
+        Ok(HasherRng {
+            hasher: self.hasher.clone()?,
+            counter: self.counter,
+        })
+    }
+}
+
+impl<H: BuildHasher + Drop> Rng for HasherRng<H> {
+    ghost drew = { λ old word new. Word H.BuildHasher H.Hasher.Hasher old word new };
+
+    fn next_u64(&mut self) -> u64 {
+        let word = self.hasher.hash_one(self.counter);
+        self.counter = self.counter.wrapping_add(1);
+        word
+    }
+}
+
+#[cfg(test)]
+mod tests;
