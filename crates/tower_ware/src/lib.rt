@@ -2,4 +2,5 @@
 #![tactic(auto)]
 
 pub mod load_shed;
+pub mod steer;
 pub mod timeout;

@@ -1,0 +1,112 @@
+//! One of many services for each request: the Rust's `tower::steer`.
+ghost use Rattle.std.specs.Prelude.{◌≡◌, ◌<◌, [], All, IfOk, length};
+ghost use Rattle.std.specs.VecDeque.{deque_capacity};
+ghost use Rattle.tower_ware.specs.Steer.{Called, Cloned, Polled, Sound, Standing, Steered, polled_ok, upto};
+
+mod picker;
+
+use futures::task::{Context, Poll};
+pub use picker::{Picker, PickerFn};
+use std::alloc::{AllocError, Global};
+use std::collections::VecDeque;
+use std::marker::{Model, PhantomData};
+use tower_base::service::Service;
+
+/// Calls the service that its picker chooses. It is ready where all its services are.
+#[derive(Drop)]
+pub struct Steer<S, F, Req> {
+    picker: F,
+    services: Vec<S>,
+    listed: VecDeque<usize>,
+    of: PhantomData<Req>,
+}
+
+impl<S, F, Req> Model for Steer<S, F, Req> {
+    ghost Value = { Steered S F };
+
+    ghost view = { λ m. record {
+        picker = m.picker;
+        services = m.services.items;
+        listed = m.listed.items;
+        room = deque_capacity m.listed
+    } };
+}
+
+impl<S: Service<Req>, F: Picker<S, Req>, Req> Steer<S, F, Req> {
+    /// Makes room for the list of the services that are to be asked, which are all at first. Where that is
+    /// refused, what was handed in is dropped.
+    pub fn new(alloc: Global, services: Vec<S>, picker: F) -> Result<Steer<S, F, Req>, AllocError>
+        requires { 0 < length services.items }
+        ensures parts { IfOk result (λ m. (m.picker ≡ picker) × (m.services ≡ services.items) × (m.listed ≡ upto (length services.items))) }
+        ensures sound { F.sound picker → All S.sound services.items → IfOk result (Sound F.sound S.sound S.ready) }
+    {
+        let count = services.len();
+        let mut listed = VecDeque::with_capacity(alloc, count)?;
+        for index in 0..count {
+            listed.push_back_reserved(index);
+        }
+        Ok(Steer {
+            picker,
+            services,
+            listed,
+            of: PhantomData,
+        })
+    }
+}
+
+impl<S: Service<Req>, F: Picker<S, Req>, Req> Service<Req> for Steer<S, F, Req> {
+    type Response = S::Response;
+
+    type Error = S::Error;
+
+    type Future = S::Future;
+
+    ghost sound = { Sound F.sound S.sound S.ready };
+
+    ghost ready = { λ m. m.listed ≡ [] };
+
+    ghost polled = { Polled S.Service };
+
+    ghost called = { Called S.Service F.picked };
+
+    ghost readies = { λ old new p. polled_ok old new p };
+
+    fn poll_ready(&mut self, cx: &mut Context<'_>) -> Poll<Result<(), S::Error>> {
+        while let Some(front) = self.listed.front() {
+            let index = *front;
+            match self.services[index].poll_ready(cx) {
+                Poll::Ready(Ok(())) => {
+                    let _ = self.listed.pop_front();
+                }
+                stop => return stop,
+            }
+        }
+        Poll::Ready(Ok(()))
+    }
+
+    fn call(&mut self, request: Req) -> S::Future {
+        let index = self.picker.pick(&request, self.services.as_slice());
+        self.listed.push_back_reserved(index);
+        self.services[index].call(request)
+    }
+}
+
+impl<S: Clone, F: Clone, Req> Clone for Steer<S, F, Req> {
+    ghost is_clone = { Cloned F.is_clone S.is_clone };
+
+    fn clone(&self) -> Result<Steer<S, F, Req>, AllocError> {
+        let picker = self.picker.clone()?;
+        let services = self.services.clone()?;
+        let count = services.len();
+        let mut listed = VecDeque::with_capacity(*services.allocator(), count)?;
+        for index in 0..count {
+            listed.push_back_reserved(index);
+        }
+        Ok(Steer {
+            picker,
+            services,
+            listed,
+            of: PhantomData,
+        })
+    }
+}

@@ -1,0 +1,37 @@
+//! What chooses among services.
+ghost use Rattle.std.specs.Prelude.{◌≡◌, ◌<◌, ⊤, ℕ, List, length};
+
+/// Chooses a service for a request. The index is inside the list.
+pub trait Picker<S, Req>: Drop {
+    // What constructors make has it, and every pick keeps it.
+    ghost sound: { Self → Type 0 } = { λ _. ⊤ };
+
+    // A pick for the request among the services may be the index, and leave the last value.
+    ghost picked: { Self → Req → List S → ℕ → Self → Type 0 };
+
+    /// The index of the service that is to be called.
+    fn pick(&mut self, request: &Req, services: &[S]) -> usize
+        requires sound { sound self.old }
+        requires some { 0 < length services.now }
+        ensures sound { sound self.new }
+        ensures inside { result < length services.now }
+        ensures picked { picked self.old request.now services.now result self.new };
+}
+
+/// A closure as a `Picker`. It may be called with any list that isn't empty, and its answers are inside.
+#[derive(Clone, Copy, Drop)]
+pub struct PickerFn<F> {
+    pub f: F,
+}
+
+impl<S, Req, F: Fn(&Req, &[S]) -> usize + Copy + Drop> Picker<S, Req> for PickerFn<F> {
+    ghost sound = { λ m. ((q : _) (ss : _) → 0 < length ss.now → F.pre m.f q ss)
+        × ((q : _) (ss : _) (i : ℕ) → 0 < length ss.now → F.post m.f q ss i → i < length ss.now) };
+
+    ghost picked = { λ m request services i n. (n ≡ m)
+        × ((q : _) × (ss : _) × (q.now ≡ request) × (ss.now ≡ services) × F.post m.f q ss i) };
+
+    fn pick(&mut self, request: &Req, services: &[S]) -> usize {
+        (self.f)(request, services)
+    }
+}
