@@ -1,14 +1,14 @@
 //! A clock and futures that follow a script, and a transcript as text.
-ghost use Rattle.std.specs.Prelude.{◌≡◌, ℕ, ⊤};
+ghost use Rattle.std.specs.Prelude.{⊤, IfSome};
 
 use futures::future::Future;
-use futures::task::{Context, Poll};
+use futures::task::{Context, Poll, Solo};
 use std::alloc::{AllocError, Global};
 use std::cell::Cell;
 use std::fmt::{Display, Write};
 use std::rc::Rc;
 use tower_base::drive::{Entry, Transcript};
-use tower_base::service::{Clock, Steps};
+use tower_base::service::{Clock, Service, Steps};
 
 /// A clock that a test sets, and that counts its readings through all shares.
 #[derive(Drop)]
@@ -100,4 +100,18 @@ pub fn text_of<A: Display, E: Display, U: Display>(
         };
     }
     Ok(text)
+}
+
+/// A poll of readiness, and a call where it answers `Ok`: a generic caller.
+pub fn called<S: Service<u8>>(solo: &Solo, service: &mut S, request: u8) -> Option<S::Future>
+    requires { S.sound service.old }
+    ensures { IfSome result S.Future.can_poll }
+{
+    let mut cx = solo.begin();
+    let answer = service.poll_ready(&mut cx);
+    cx.end(&answer);
+    match answer {
+        Poll::Ready(Ok(())) => Some(service.call(request)),
+        _ => None,
+    }
 }

@@ -1,14 +1,13 @@
 //! `Timeout` at concrete types.
 
-use crate::scripted::{After, Hand, text_of};
-use futures::future::Future;
-use futures::task::{Context, Poll};
+use crate::scripted::{After, Hand, called, text_of};
+use futures::task::{Context, Doorbell, Solo};
 use futures::test::MockTask;
 use std::cell::Cell;
 use std::test::Fail;
 use tower_base::drive::{Event, drive};
 use tower_base::layer::Layer;
-use tower_base::service::{Clock, Service, Sleep};
+use tower_base::service::Sleep;
 use tower_util::util::service_fn;
 use tower_ware::timeout::error::Elapsed;
 use tower_ware::timeout::{Error, Timeout, TimeoutLayer};
@@ -113,12 +112,8 @@ fn clock_is_read_at_the_call_and_where_the_response_is_pending(
     let layer = TimeoutLayer::new(10, Hand::new(&moment, &readings)).clone()?;
     let mut service = layer.layer(inner)?;
     assert_eq!(rt; readings.get(), 0);
-    let mut shot = task
-        .enter(|cx: &mut Context<'_>| match service.poll_ready(cx) {
-            Poll::Ready(Ok(())) => Some(service.call(1)),
-            _ => None,
-        })
-        .ok_or("not ready")?;
+    let solo = Solo::new(&rt, Doorbell::spinning())?;
+    let mut shot = called(&solo, &mut service, 1).ok_or("not ready")?;
     assert_eq!(rt; readings.get(), 1);
     assert!(rt; task.poll(&mut shot).is_pending());
     assert_eq!(rt; readings.get(), 2);

@@ -5,3 +5,4 @@ pub mod Latch
 pub mod Passes
 pub mod Rng
 pub mod Sleep
+pub mod SystemClock

@@ -7,11 +7,13 @@ ghost use Rattle.futures.specs.declared.task.Poll.TheVariants.{Ready};
 
 mod plain;
 mod sleep;
+mod system;
 
 use futures::future::Future;
 use futures::stream::Stream;
 use futures::task::{Context, Poll};
 pub use sleep::Sleep;
+pub use system::SystemClock;
 
 /// A future whose poll has a relation, which a proof above it may use.
 pub trait Steps: Future {

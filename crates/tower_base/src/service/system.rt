@@ -1,0 +1,61 @@
+//! The machine's own clock.
+ghost use Rattle.std.specs.Prelude.{◌≡◌, IfOk};
+ghost use Rattle.tower_base.specs.SystemClock.{Running, Reads};
+
+use crate::service::Clock;
+use std::io;
+use std::marker::Model;
+use std::rt;
+use std::time::Instant;
+
+/// The machine's monotonic clock: a reading is the nanoseconds since it was made. It stands for
+/// tokio's timer.
+///
+/// Where the clock can't be read, or is past 2^64 - 1, a reading is the last one again.
+#[derive(Drop)]
+pub struct SystemClock<R> {
+    rt: R,
+    start: Instant,
+    last: u64,
+}
+
+impl<R> Model for SystemClock<R> {
+    ghost Value = { Running R };
+
+    ghost view = { λ c. record { rt = c.rt; start = c.start; last = c.last } };
+}
+
+impl<R: rt::Clock + Copy> SystemClock<R> {
+    /// Reads the machine's clock once, and fails where that can't be read.
+    pub fn new(rt: R) -> io::Result<SystemClock<R>>
+        ensures { IfOk result (λ clock. (clock.rt ≡ rt) × (clock.last ≡ 0)) }
+    {
+        let start = Instant::now(&rt)?;
+        Ok(SystemClock { rt, start, last: 0 })
+    }
+}
+
+impl<R: rt::Clock + Copy> Clock for SystemClock<R> {
+    ghost reading = { λ clock. clock.last };
+
+    ghost read = { Reads };
+
+    ghost shared = { λ clock other. other ≡ clock };
+
+    fn now(&mut self) -> u64 {
+        if let Ok(elapsed) = self.start.elapsed(&self.rt) {
+            if let Ok(moment) = u64::try_from(elapsed.as_nanos()) {
+                self.last = moment;
+            }
+        }
+        self.last
+    }
+
+    fn share(&self) -> SystemClock<R> {
+        SystemClock {
+            rt: self.rt,
+            start: self.start,
+            last: self.last,
+        }
+    }
+}
