@@ -46,6 +46,11 @@ step_of (Some key) = Look key
 abbrev pub idle : {S L : Type 0} → S → Permits L → Limited S L
 idle inner semaphore = record { inner = inner; asking = record { semaphore = semaphore; key = None }; permit = None }
 
+-- round the service, over a semaphore of its own of so many permits, idle
+pub record Fresh {S L : Type 0} (service : S) (max : ℕ) (made : Limited S L) : Type 0 where
+  pub size : made.asking.semaphore.max ≡ max
+  pub round : made ≡ idle service made.asking.semaphore
+
 -- the inner answer, as the limited service gives it
 abbrev pub answer_of : {A E : Type 0} → Poll (Result A E) → Poll (Result A (Error E))
 answer_of (Ready (Ok x)) = Ready (Ok x)
@@ -82,6 +87,23 @@ module _ {L : Type 0} (gave : L → LineStep → LineReply → Type 0) where
     pub came : (RanOut answer × (new.key ≡ old.key))
         ⊎ ((reply : LineReply) × gave old.semaphore.latch (step_of old.key) reply × Replies old reply answer new.key)
 
+  module _ {S : Type 0} where
+    -- what the layer over a semaphore makes: round the service, over a share of the permits, idle
+    pub record Joined (semaphore : Permits L) (service : S) (made : Limited S L) : Type 0 where
+      pub shares : SharesPermits semaphore made.asking.semaphore
+      pub round : made ≡ idle service made.asking.semaphore
+
+    -- a clone: of the inner service, over a share of the permits, idle
+    pub record IsClone (is_clone : S → S → Type 0) (old copy : Limited S L) : Type 0 where
+      pub inner : is_clone old.inner copy.inner
+      pub shares : SharesPermits old.asking.semaphore copy.asking.semaphore
+      pub round : copy ≡ idle copy.inner copy.asking.semaphore
+
+  -- the permit that is held, or one that is asked for
+  abbrev pub Gets : Option (Held L) → Asking L → Poll (Result (Held L) AllocError) → Asking L → Type 0
+  Gets (Some permit) old got new = (got ≡ Ready (Ok permit)) × (new ≡ old)
+  Gets None old got new = Acquired old got new
+
   module _ {S Q A E F : Type 0} (s : ServiceOf S Q A E F) where
     -- after the answer about a permit, the inner service is polled once where there is one, and the permit is kept
     abbrev pub Goes : Poll (Result (Held L) AllocError) → Limited S L → Poll (Result (Unit {0}) (Error E)) → Limited S L → Type 0
@@ -90,21 +112,11 @@ module _ {L : Type 0} (gave : L → LineStep → LineReply → Type 0) where
     Goes (Ready (Err e)) old answer new = (new.permit ≡ None) × (new.inner ≡ old.inner) × (answer ≡ Ready (Err NoMemory))
     Goes Pending old answer new = (new.permit ≡ None) × (new.inner ≡ old.inner) × (answer ≡ Pending)
 
-    -- a poll with a permit goes inside, and one without asks for a permit first
-    abbrev pub PollsWith : Option (Held L) → Limited S L → Poll (Result (Unit {0}) (Error E)) → Limited S L → Type 0
-    PollsWith (Some permit) old answer new = (new.asking ≡ old.asking) × Goes (Ready (Ok permit)) old answer new
-    PollsWith None old answer new = (got : Poll (Result (Held L) AllocError)) × Acquired old.asking got new.asking × Goes got old answer new
-
-    abbrev pub Polled : Limited S L → Poll (Result (Unit {0}) (Error E)) → Limited S L → Type 0
-    Polled old answer new = PollsWith old.permit old answer new
-
-    -- a call: one call of the inner service, which is ready, and the permit goes into the future
-    pub record Called (old : Limited S L) (request : Q) (future : InFlight F L) (new : Limited S L) : Type 0 where
-      pub ready : s.ready old.inner
-      pub came : s.called old.inner request future.response new.inner
-      pub moved : old.permit ≡ Some future.permit
-      pub left : new.permit ≡ None
-      pub same : new.asking ≡ old.asking
+    -- a poll of readiness: a permit that was held or is asked for, and where there is one the inner service is polled once
+    pub record Polled (old : Limited S L) (answer : Poll (Result (Unit {0}) (Error E))) (new : Limited S L) : Type 0 where
+      pub got : Poll (Result (Held L) AllocError)
+      pub gets : Gets old.permit old.asking got new.asking
+      pub goes : Goes got old answer new
 
     inside : (old new : S) (inner : Poll (Result (Unit {0}) E)) → ((v w : S) → s.polled v (Ready (Ok tt)) w → s.ready w)
         → s.polled old inner new → Ready (Ok tt) ≡ answer_of inner → s.ready new
@@ -118,11 +130,19 @@ module _ {L : Type 0} (gave : L → LineStep → LineReply → Type 0) where
     went (Ready (Err e)) old new law g = absurd (cc)
     went Pending old new law g = absurd (cc)
 
-    -- a poll that answers that it is ready leaves a permit and a ready service
-    pub ready_after : (permit : Option (Held L)) (old new : Limited S L) → ((v w : S) → s.polled v (Ready (Ok tt)) w → s.ready w)
-        → PollsWith permit old (Ready (Ok tt)) new → IsSome new.permit × s.ready new.inner
-    ready_after (Some permit) old new law p = went (Ready (Ok permit)) old new law p.1
-    ready_after None old new law p = went p.0 old new law p.2
+  -- a poll that answers that it is ready leaves a permit and a ready service
+  pub ready_after : {S Q A E F : Type 0} {s : ServiceOf S Q A E F} (old new : Limited S L) → ((v w : S) → s.polled v (Ready (Ok tt)) w → s.ready w)
+      → Polled s old (Ready (Ok tt)) new → IsSome new.permit × s.ready new.inner
+  ready_after {s = s} old new law p = went s p.got old new law p.goes
+
+module _ {L S Q A E F : Type 0} (s : ServiceOf S Q A E F) where
+  -- a call: one call of the inner service, which is ready, and the permit goes into the future
+  pub record Called (old : Limited S L) (request : Q) (future : InFlight F L) (new : Limited S L) : Type 0 where
+    pub ready : s.ready old.inner
+    pub came : s.called old.inner request future.response new.inner
+    pub moved : old.permit ≡ Some future.permit
+    pub left : new.permit ≡ None
+    pub same : new.asking ≡ old.asking
 
 module _ {F L A E : Type 0} (f : StepsOf F (Result A E)) where
   -- a poll of the future: one poll of the response, and the permit stays

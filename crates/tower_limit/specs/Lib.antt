@@ -1,4 +1,5 @@
 pub mod Concurrency
+pub mod ConcurrencyLends
 pub mod Line
 pub mod LineCore
 pub mod LineLaws

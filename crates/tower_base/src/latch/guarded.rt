@@ -40,7 +40,7 @@ struct Waiter {
     waker: Option<Waker>,
 }
 
-impl<C: Core, R: Wait + Copy + Send + Sync> Guarded<C, R> {
+impl<C: Core, R: Wait + Copy> Guarded<C, R> {
     pub fn new(rt: R, alloc: Global, core: C) -> Result<Guarded<C, R>, AllocError>
         requires { C.opens core }
     {
@@ -92,7 +92,7 @@ fn keep(waiters: &mut Vec<Waiter>, source: &Source, cx: &mut Context<'_>) -> boo
     true
 }
 
-impl<C: Core, R: Wait + Copy + Send + Sync> Latch<C> for Guarded<C, R> {
+impl<C: Core, R: Wait + Copy> Latch<C> for Guarded<C, R> {
     // Somewhere in a run from an opening core, the step had this reply.
     ghost gave = { λ _ step reply. Came C.opens C.steps step reply };
 

@@ -1,11 +1,16 @@
 //! A limit on the calls in flight, and the line for their permits.
 
 mod error;
+pub mod future;
 mod laws;
+mod layer;
 mod line;
 mod semaphore;
+mod service;
 
 pub use error::Error;
 pub use laws::law;
+pub use layer::{ConcurrencyLimitLayer, GlobalConcurrencyLimitLayer};
 pub use line::{LineCore, LineReply, LineStep};
 pub use semaphore::{Permit, PollSemaphore, Semaphore};
+pub use service::ConcurrencyLimit;

@@ -1,3 +1,7 @@
+ghost use Rattle.std.specs.Prelude.{◌≡◌};
+ghost use Rattle.tower_limit.specs.Concurrency.{answer_of};
+
+use futures::task::Poll;
 use std::fmt::Display;
 
 /// Why there is no response.
@@ -10,4 +14,14 @@ pub enum Error<E> {
     /// There was no memory to ask for a permit. The line is as it was, and nothing is held.
     #[error("out of memory")]
     Memory,
+}
+
+pub(crate) fn outward<T, E>(answer: Poll<Result<T, E>>) -> Poll<Result<T, Error<E>>>
+    ensures { result ≡ answer_of answer }
+{
+    match answer {
+        Poll::Ready(Ok(value)) => Poll::Ready(Ok(value)),
+        Poll::Ready(Err(error)) => Poll::Ready(Err(Error::Inner(error))),
+        Poll::Pending => Poll::Pending,
+    }
 }

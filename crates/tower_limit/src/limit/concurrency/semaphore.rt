@@ -24,7 +24,7 @@ impl<L: Latch<LineCore>> Model for Semaphore<L> {
     ghost view = { λ s. record { latch = s.latch; max = s.max } };
 }
 
-impl<R: Wait + Copy + Send + Sync> Semaphore<Guarded<LineCore, R>> {
+impl<R: Wait + Copy> Semaphore<Guarded<LineCore, R>> {
     /// So many permits, all free, behind a lock. Any number will do, 0 too.
     pub fn new(rt: R, alloc: Global, max: usize) -> Result<Self, AllocError>
         ensures { IfOk result (λ made. made.max ≡ max) }

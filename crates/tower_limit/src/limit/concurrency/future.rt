@@ -1,0 +1,65 @@
+//! The response of a `ConcurrencyLimit`.
+ghost use Rattle.std.specs.Prelude.{◌≡◌};
+ghost use Rattle.tower_base.specs.Gives.{MayGive};
+ghost use Rattle.tower_limit.specs.Concurrency.{InFlight, Stepped};
+
+use crate::limit::concurrency::error::{Error, outward};
+use crate::limit::concurrency::line::LineCore;
+use crate::limit::concurrency::semaphore::Permit;
+use futures::future::Future;
+use futures::task::{Context, Poll};
+use std::marker::Model;
+use tower_base::latch::Latch;
+use tower_base::service::Steps;
+
+/// The inner response. It holds the permit of its call until it is dropped.
+#[derive(Drop)]
+pub struct ResponseFuture<F, L: Latch<LineCore>> {
+    response: F,
+    permit: Permit<L>,
+}
+
+impl<F, L: Latch<LineCore>> Model for ResponseFuture<F, L> {
+    ghost Value = { InFlight F L };
+
+    ghost view = { λ f. record { response = f.response; permit = f.permit } };
+}
+
+impl<F, L: Latch<LineCore>> ResponseFuture<F, L> {
+    pub(crate) fn new(response: F, permit: Permit<L>) -> ResponseFuture<F, L>
+        ensures { result ≡ record { response = response; permit = permit } }
+    {
+        ResponseFuture { response, permit }
+    }
+}
+
+impl<T, E, F, L> Future for ResponseFuture<F, L>
+where
+    F: Steps<Output = Result<T, E>>,
+    L: Latch<LineCore>,
+{
+    type Output = Result<T, Error<E>>;
+
+    ghost can_poll = { λ v. F.can_poll v.response };
+
+    ghost gives = { MayGive (Stepped F.Steps.own) };
+
+    ghost needs = { λ v. F.needs v.response };
+
+    #[tactic(auto, using(tower_base::specs::Gives::gives_value, tower_base::specs::Gives::gives_same))]
+    fn poll(&mut self, cx: &mut Context<'_>) -> Poll<Self::Output> {
+        self.step(cx)
+    }
+}
+
+impl<T, E, F, L> Steps for ResponseFuture<F, L>
+where
+    F: Steps<Output = Result<T, E>>,
+    L: Latch<LineCore>,
+{
+    ghost stepped = { Stepped F.Steps.own };
+
+    fn step(&mut self, cx: &mut Context<'_>) -> Poll<Self::Output> {
+        outward(self.response.step(cx))
+    }
+}

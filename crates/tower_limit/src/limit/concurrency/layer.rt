@@ -1,0 +1,104 @@
+//! What makes a `ConcurrencyLimit` of a service.
+ghost use Rattle.std.specs.Prelude.{◌≡◌, ℕ, IfOk};
+ghost use Rattle.tower_limit.specs.Concurrency.{Permits, Fresh, Joined, SharesPermits};
+
+use crate::limit::concurrency::line::LineCore;
+use crate::limit::concurrency::semaphore::Semaphore;
+use crate::limit::concurrency::service::ConcurrencyLimit;
+use std::alloc::{AllocError, Global};
+use std::marker::Model;
+use std::sync::Wait;
+use tower_base::latch::{Guarded, Latch};
+use tower_base::layer::Layer;
+
+/// Gives each service a limit of its own.
+#[derive(Drop)]
+pub struct ConcurrencyLimitLayer<R> {
+    rt: R,
+    alloc: Global,
+    max: usize,
+}
+
+impl<R> Model for ConcurrencyLimitLayer<R> {
+    ghost Value = { ℕ };
+
+    ghost view = { λ l. l.max };
+}
+
+impl<R> ConcurrencyLimitLayer<R> {
+    /// At most `max` calls of each service in flight.
+    pub fn new(rt: R, alloc: Global, max: usize) -> ConcurrencyLimitLayer<R>
+        ensures { result ≡ max }
+    {
+        ConcurrencyLimitLayer { rt, alloc, max }
+    }
+}
+
+impl<S: Drop, R: Wait + Copy> Layer<S> for ConcurrencyLimitLayer<R> {
+    type Service = ConcurrencyLimit<S, Guarded<LineCore, R>>;
+
+    ghost made = { λ max service made. Fresh service max made };
+
+    fn layer(&self, service: S) -> Result<Self::Service, AllocError> {
+        ConcurrencyLimit::new(self.rt, self.alloc, service, self.max)
+    }
+}
+
+impl<R: Copy> Clone for ConcurrencyLimitLayer<R> {
+    ghost is_clone = { λ layer copy. copy ≡ layer };
+
+    fn clone(&self) -> Result<ConcurrencyLimitLayer<R>, AllocError> {
+        Ok(ConcurrencyLimitLayer::new(self.rt, self.alloc, self.max))
+    }
+}
+
+/// Gives all services one limit.
+#[derive(Drop)]
+pub struct GlobalConcurrencyLimitLayer<L: Latch<LineCore>> {
+    semaphore: Semaphore<L>,
+}
+
+impl<L: Latch<LineCore>> Model for GlobalConcurrencyLimitLayer<L> {
+    ghost Value = { Permits L };
+
+    ghost view = { λ l. l.semaphore };
+}
+
+impl<R: Wait + Copy> GlobalConcurrencyLimitLayer<Guarded<LineCore, R>> {
+    /// At most `max` calls of all services in flight.
+    pub fn new(rt: R, alloc: Global, max: usize) -> Result<Self, AllocError>
+        ensures { IfOk result (λ made. made.max ≡ max) }
+    {
+        let semaphore = Semaphore::new(rt, alloc, max)?;
+        Ok(GlobalConcurrencyLimitLayer::with_semaphore(semaphore))
+    }
+}
+
+impl<L: Latch<LineCore>> GlobalConcurrencyLimitLayer<L> {
+    pub fn with_semaphore(semaphore: Semaphore<L>) -> GlobalConcurrencyLimitLayer<L>
+        ensures { result ≡ semaphore }
+    {
+        GlobalConcurrencyLimitLayer { semaphore }
+    }
+}
+
+impl<S: Drop, L: Latch<LineCore>> Layer<S> for GlobalConcurrencyLimitLayer<L> {
+    type Service = ConcurrencyLimit<S, L>;
+
+    ghost made = { Joined L.gave };
+
+    fn layer(&self, service: S) -> Result<Self::Service, AllocError> {
+        let semaphore = self.semaphore.share()?;
+        Ok(ConcurrencyLimit::with_semaphore(service, semaphore))
+    }
+}
+
+/// A clone shares the semaphore.
+impl<L: Latch<LineCore>> Clone for GlobalConcurrencyLimitLayer<L> {
+    ghost is_clone = { SharesPermits L.gave };
+
+    fn clone(&self) -> Result<GlobalConcurrencyLimitLayer<L>, AllocError> {
+        let semaphore = self.semaphore.share()?;
+        Ok(GlobalConcurrencyLimitLayer { semaphore })
+    }
+}

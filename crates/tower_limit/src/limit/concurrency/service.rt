@@ -1,0 +1,130 @@
+//! A service with a limit on the calls in flight.
+ghost use Rattle.std.specs.Prelude.{◌≡◌, IfOk, IsSome};
+ghost use Rattle.tower_limit.specs.Concurrency.{Limited, Polled, Called, IsClone, Fresh, idle, ready_after};
+
+use crate::limit::concurrency::error::{Error, outward};
+use crate::limit::concurrency::future::ResponseFuture;
+use crate::limit::concurrency::line::LineCore;
+use crate::limit::concurrency::semaphore::{Permit, PollSemaphore, Semaphore};
+use futures::task::{Context, Poll};
+use std::alloc::{AllocError, Global};
+use std::marker::Model;
+use std::sync::Wait;
+use tower_base::latch::{Guarded, Latch};
+use tower_base::service::Service;
+
+/// Makes a call only with a permit of its semaphore.
+///
+/// The permit is asked for by `poll_ready`, goes into the response future at the call, and goes back
+/// when that future is dropped. One that waits and is dropped leaves the line, and so passes on a
+/// permit that it hasn't seen.
+#[derive(Drop)]
+pub struct ConcurrencyLimit<S, L: Latch<LineCore>> {
+    inner: S,
+    asking: PollSemaphore<L>,
+    permit: Option<Permit<L>>,
+}
+
+impl<S, L: Latch<LineCore>> Model for ConcurrencyLimit<S, L> {
+    ghost Value = { Limited S L };
+
+    ghost view = { λ c. record { inner = c.inner; asking = c.asking; permit = c.permit } };
+}
+
+impl<S: Drop, R: Wait + Copy> ConcurrencyLimit<S, Guarded<LineCore, R>> {
+    /// At most `max` calls in flight. For want of memory the service is dropped.
+    pub fn new(rt: R, alloc: Global, inner: S, max: usize) -> Result<Self, AllocError>
+        ensures { IfOk result (λ made. Fresh inner max made) }
+    {
+        let semaphore = Semaphore::new(rt, alloc, max)?;
+        Ok(ConcurrencyLimit::with_semaphore(inner, semaphore))
+    }
+}
+
+impl<S, L: Latch<LineCore>> ConcurrencyLimit<S, L> {
+    /// The calls in flight count together with those of the semaphore's other shares.
+    pub fn with_semaphore(inner: S, semaphore: Semaphore<L>) -> ConcurrencyLimit<S, L>
+        ensures { result ≡ idle inner semaphore }
+    {
+        ConcurrencyLimit {
+            inner,
+            asking: PollSemaphore::new(semaphore),
+            permit: None,
+        }
+    }
+}
+
+impl<Request, S: Service<Request>, L: Latch<LineCore>> Service<Request> for ConcurrencyLimit<S, L> {
+    type Response = S::Response;
+
+    type Error = Error<S::Error>;
+
+    type Future = ResponseFuture<S::Future, L>;
+
+    ghost sound = { λ v. S.sound v.inner };
+
+    ghost ready = { λ v. IsSome v.permit × S.ready v.inner };
+
+    ghost polled = { Polled L.gave S.Service };
+
+    ghost called = { Called S.Service };
+
+    ghost readies = { λ old new p. ready_after _ old new S.readies p };
+
+    fn poll_ready(&mut self, cx: &mut Context<'_>) -> Poll<Result<(), Self::Error>> {
+        if let Some(_held) = &self.permit {
+            return outward(self.inner.poll_ready(cx));
+        }
+        match self.asking.poll_acquire(cx) {
+            Poll::Ready(Ok(permit)) => {
+                self.permit = Some(permit);
+                outward(self.inner.poll_ready(cx))
+            }
+            Poll::Ready(Err(AllocError)) => Poll::Ready(Err(Error::Memory)),
+            Poll::Pending => Poll::Pending,
+        }
+    }
+
+    fn call(&mut self, request: Request) -> Self::Future {
+        let permit = self.permit.take().unwrap();
+        ResponseFuture::new(self.inner.call(request), permit)
+    }
+}
+
+/// A clone shares the semaphore. It holds no permit and doesn't wait.
+impl<S: Clone, L: Latch<LineCore>> Clone for ConcurrencyLimit<S, L> {
+    ghost is_clone = { IsClone L.gave S.is_clone };
+
+    fn clone(&self) -> Result<ConcurrencyLimit<S, L>, AllocError> {
+        let inner = self.inner.clone()?;
+        let semaphore = self.asking.share()?;
+        Ok(ConcurrencyLimit::with_semaphore(inner, semaphore))
+    }
+}
+
+impl<S, L: Latch<LineCore>> ConcurrencyLimit<S, L> {
+    ghost use Rattle.tower_limit.specs.ConcurrencyLends.{LendsInner};
+    ghost use Rattle.std.specs.Borrow.{sem};
+
+    /// The inner service.
+    pub fn get_ref(&self) -> &S
+        ensures { result.now ≡ self.now.inner }
+    {
+        &self.inner
+    }
+
+    /// The inner service, to be changed.
+    pub fn get_mut(&mut self) -> &mut S
+        ensures* writes_back { sem 𝓛 (LendsInner S.row L.row L.Latch self.entry result) }
+        ensures value { result.now ≡ self.old.inner }
+    {
+        &mut self.inner
+    }
+
+    /// The inner service. A permit goes back, and one that waits leaves the line.
+    pub fn into_inner(self) -> S
+        ensures { result ≡ self.inner }
+    {
+        self.inner
+    }
+}
