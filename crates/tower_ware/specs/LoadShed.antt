@@ -47,4 +47,4 @@ module _ {F A E : Type 0} (stepped : F → Poll (Result A E) → F → Type 0) w
   abbrev pub Stepped : Option F → Poll (Result A (Error E)) → Option F → Type 0
   Stepped (Some f) answer (Some g) = (inner : Poll (Result A E)) × stepped f inner g × (answer ≡ answer_of inner)
   Stepped (Some f) answer None = ⊥
-  Stepped None answer new = (answer ≡ Ready (Err (Overloaded record {}))) × (new ≡ None)
+  Stepped None answer new = (answer ≡ Ready (Err Overloaded)) × (new ≡ None)

@@ -5,9 +5,11 @@ ghost use Rattle.tower_ware.specs.LoadShed.{Shedding, Polled, Called};
 pub mod error;
 pub mod future;
 mod layer;
+#[cfg(test)]
+mod tests;
 
-use crate::load_shed::error::Error;
-use crate::load_shed::future::ResponseFuture;
+pub use error::Error;
+use future::ResponseFuture;
 use futures::task::{Context, Poll};
 pub use layer::LoadShedLayer;
 use std::alloc::AllocError;

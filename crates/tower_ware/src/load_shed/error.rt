@@ -2,7 +2,7 @@
 
 use std::fmt::Display;
 
-/// The inner service wasn't ready: the Rust's `tower::load_shed::error::Overloaded`.
+/// The inner service wasn't ready.
 #[derive(Clone, Copy, Debug, Default, PartialEq, Eq, thiserror::Error)]
 #[error("service overloaded")]
 pub struct Overloaded;
@@ -13,13 +13,14 @@ impl Overloaded {
     }
 }
 
-#[derive(Debug, Drop, thiserror::Error)]
+/// The error of a `LoadShed`, in place of the Rust's boxed one.
+#[derive(Debug, Drop, PartialEq, Eq, thiserror::Error)]
 #[error_bound(E: Display)]
 pub enum Error<E> {
     /// The inner service's own error.
     #[error(transparent)]
     Inner(E),
     /// The inner service wasn't ready at the call.
-    #[error(transparent)]
-    Overloaded(Overloaded),
+    #[error("service overloaded")]
+    Overloaded,
 }

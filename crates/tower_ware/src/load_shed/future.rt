@@ -3,7 +3,7 @@ ghost use Rattle.std.specs.Prelude.{◌≡◌, Option, Some, None, IfSome, IsSom
 ghost use Rattle.tower_base.specs.Gives.{MayGive};
 ghost use Rattle.tower_ware.specs.LoadShed.{Stepped};
 
-use crate::load_shed::error::{Error, Overloaded};
+use crate::load_shed::error::Error;
 use futures::future::Future;
 use futures::task::{Context, Poll};
 use std::marker::Model;
@@ -57,7 +57,7 @@ impl<T, E, F: Steps<Output = Result<T, E>>> Steps for ResponseFuture<F> {
 
     fn step(&mut self, cx: &mut Context<'_>) -> Poll<Result<T, Error<E>>> {
         let Some(response) = &mut self.response else {
-            return Poll::Ready(Err(Error::Overloaded(Overloaded::new())));
+            return Poll::Ready(Err(Error::Overloaded));
         };
         match response.step(cx) {
             Poll::Ready(Ok(response)) => Poll::Ready(Ok(response)),

@@ -1,0 +1,262 @@
+//! Requests that pass a predicate: the Rust's `tower::filter`.
+ghost use Rattle.std.specs.Prelude.{◌≡◌};
+ghost use Rattle.tower_ware.specs.Filter.{Filtering, Polled, Calls, AsyncCalls, answer_of-ok};
+
+mod error;
+pub mod future;
+mod layer;
+mod predicate;
+mod state;
+#[cfg(test)]
+mod tests;
+
+pub use error::Error;
+use future::{AsyncResponseFuture, ResponseFuture};
+use futures::task::{Context, Poll};
+pub use layer::{AsyncFilterLayer, FilterLayer};
+pub use predicate::{AsyncPredicate, AsyncPredicateFn, Predicate, PredicateFn};
+use state::{AsyncState, State};
+use std::alloc::AllocError;
+use std::marker::Model;
+use std::mem;
+use tower_base::service::{Service, Steps};
+
+/// Calls the inner service with the checked request, or answers `Rejected`.
+#[derive(Drop)]
+pub struct Filter<S, U> {
+    inner: S,
+    predicate: U,
+}
+
+impl<S, U> Model for Filter<S, U> {
+    ghost Value = { Filtering S U };
+
+    ghost view = { λ f. record { inner = f.inner; predicate = f.predicate } };
+}
+
+impl<S, U> Filter<S, U> {
+    ghost use Rattle.tower_ware.specs.FilterLends.{LendsInner};
+    ghost use Rattle.std.specs.Borrow.{sem};
+
+    pub fn new(inner: S, predicate: U) -> Filter<S, U>
+        ensures { result ≡ record { inner = inner; predicate = predicate } }
+    {
+        Filter { inner, predicate }
+    }
+
+    /// A layer with the predicate.
+    pub fn layer(predicate: U) -> FilterLayer<U>
+        ensures { result ≡ predicate }
+    {
+        FilterLayer::new(predicate)
+    }
+
+    /// What the predicate makes of the request. The inner service isn't asked.
+    pub fn check<R>(&mut self, request: R) -> Result<U::Request, U::Error>
+    where
+        U: Predicate<R>,
+        requires { U.sound self.old.predicate }
+        ensures checked { U.checked self.old.predicate request result self.new.predicate }
+        ensures sound { U.sound self.new.predicate }
+        ensures same { self.new.inner ≡ self.old.inner }
+    {
+        self.predicate.check(request)
+    }
+
+    /// The inner service.
+    pub fn get_ref(&self) -> &S
+        ensures { result.now ≡ self.now.inner }
+    {
+        &self.inner
+    }
+
+    /// The inner service, to be changed.
+    pub fn get_mut(&mut self) -> &mut S
+        ensures* writes_back { sem 𝓛 (LendsInner S.row U.row self.entry result) }
+        ensures value { result.now ≡ self.old.inner }
+    {
+        &mut self.inner
+    }
+
+    /// The inner service. The predicate is dropped.
+    pub fn into_inner(self) -> S
+    where
+        U: Drop,
+        ensures { result ≡ self.inner }
+    {
+        self.inner
+    }
+}
+
+/// A clone has clones of both parts.
+impl<S: Clone + Drop, U: Clone> Clone for Filter<S, U> {
+    ghost is_clone = { λ filter copy. S.is_clone filter.inner copy.inner × U.is_clone filter.predicate copy.predicate };
+
+    fn clone(&self) -> Result<Filter<S, U>, AllocError> {
+        let inner = self.inner.clone()?;
+        let predicate = self.predicate.clone()?;
+        Ok(Filter::new(inner, predicate))
+    }
+}
+
+impl<R, P, S, U> Service<R> for Filter<S, U>
+where
+    S: Service<P>,
+    U: Predicate<R, Request = P>,
+{
+    type Response = S::Response;
+
+    type Error = Error<S::Error, U::Error>;
+
+    type Future = ResponseFuture<S::Future, U::Error>;
+
+    ghost sound = { λ f. S.sound f.inner × U.sound f.predicate };
+
+    ghost ready = { λ f. S.ready f.inner };
+
+    ghost polled = { Polled S.Service };
+
+    ghost called = { Calls S.Service U.checked };
+
+    ghost readies = { λ old new p. S.readies old.inner new.inner (let e = answer_of-ok p.inner tt p.answers in Prim.rw e at p.came) };
+
+    fn poll_ready(&mut self, cx: &mut Context<'_>) -> Poll<Result<(), Error<S::Error, U::Error>>> {
+        match self.inner.poll_ready(cx) {
+            Poll::Ready(Ok(())) => Poll::Ready(Ok(())),
+            Poll::Ready(Err(error)) => Poll::Ready(Err(Error::Inner(error))),
+            Poll::Pending => Poll::Pending,
+        }
+    }
+
+    fn call(&mut self, request: R) -> ResponseFuture<S::Future, U::Error> {
+        match self.predicate.check(request) {
+            Ok(request) => ResponseFuture::new(State::Response(self.inner.call(request))),
+            Err(error) => ResponseFuture::new(State::Refusal(error)),
+        }
+    }
+}
+
+/// Calls the inner service with the request that the predicate's future gives, or answers `Rejected`.
+///
+/// The service that was polled goes into the future, and a clone stays behind. Where no clone is had
+/// for want of memory the service stays, the predicate isn't asked, and the answer is `Memory`.
+#[derive(Drop)]
+pub struct AsyncFilter<S, U> {
+    inner: S,
+    predicate: U,
+}
+
+impl<S, U> Model for AsyncFilter<S, U> {
+    ghost Value = { Filtering S U };
+
+    ghost view = { λ f. record { inner = f.inner; predicate = f.predicate } };
+}
+
+impl<S, U> AsyncFilter<S, U> {
+    ghost use Rattle.tower_ware.specs.FilterLends.{AsyncLendsInner};
+    ghost use Rattle.std.specs.Borrow.{sem};
+
+    pub fn new(inner: S, predicate: U) -> AsyncFilter<S, U>
+        ensures { result ≡ record { inner = inner; predicate = predicate } }
+    {
+        AsyncFilter { inner, predicate }
+    }
+
+    /// A layer with the predicate.
+    pub fn layer(predicate: U) -> AsyncFilterLayer<U>
+        ensures { result ≡ predicate }
+    {
+        AsyncFilterLayer::new(predicate)
+    }
+
+    /// The predicate's future for the request. The inner service isn't asked.
+    pub fn check<R>(&mut self, request: R) -> U::Future
+    where
+        U: AsyncPredicate<R>,
+        requires { U.sound self.old.predicate }
+        ensures asked { U.asked self.old.predicate request result self.new.predicate }
+        ensures fresh { U.Future.can_poll result }
+        ensures sound { U.sound self.new.predicate }
+        ensures same { self.new.inner ≡ self.old.inner }
+    {
+        self.predicate.check(request)
+    }
+
+    /// The inner service.
+    pub fn get_ref(&self) -> &S
+        ensures { result.now ≡ self.now.inner }
+    {
+        &self.inner
+    }
+
+    /// The inner service, to be changed.
+    pub fn get_mut(&mut self) -> &mut S
+        ensures* writes_back { sem 𝓛 (AsyncLendsInner S.row U.row self.entry result) }
+        ensures value { result.now ≡ self.old.inner }
+    {
+        &mut self.inner
+    }
+
+    /// The inner service. The predicate is dropped.
+    pub fn into_inner(self) -> S
+    where
+        U: Drop,
+        ensures { result ≡ self.inner }
+    {
+        self.inner
+    }
+}
+
+/// A clone has clones of both parts.
+impl<S: Clone + Drop, U: Clone> Clone for AsyncFilter<S, U> {
+    ghost is_clone = { λ filter copy. S.is_clone filter.inner copy.inner × U.is_clone filter.predicate copy.predicate };
+
+    fn clone(&self) -> Result<AsyncFilter<S, U>, AllocError> {
+        let inner = self.inner.clone()?;
+        let predicate = self.predicate.clone()?;
+        Ok(AsyncFilter::new(inner, predicate))
+    }
+}
+
+impl<R, P, S, U> Service<R> for AsyncFilter<S, U>
+where
+    R: Drop,
+    S: Service<P> + Clone,
+    U: AsyncPredicate<R, Request = P>,
+{
+    type Response = S::Response;
+
+    type Error = Error<S::Error, U::Error>;
+
+    type Future = AsyncResponseFuture<U::Future, S, S::Future>;
+
+    // A clone of a sound service is sound.
+    ghost sound = { λ f. S.sound f.inner × U.sound f.predicate × ((x y : S) → S.is_clone x y → S.sound x → S.sound y) };
+
+    ghost ready = { λ f. S.ready f.inner };
+
+    ghost polled = { Polled S.Service };
+
+    ghost called = { AsyncCalls S.ready S.is_clone U.asked };
+
+    ghost readies = { λ old new p. S.readies old.inner new.inner (let e = answer_of-ok p.inner tt p.answers in Prim.rw e at p.came) };
+
+    fn poll_ready(&mut self, cx: &mut Context<'_>) -> Poll<Result<(), Error<S::Error, U::Error>>> {
+        match self.inner.poll_ready(cx) {
+            Poll::Ready(Ok(())) => Poll::Ready(Ok(())),
+            Poll::Ready(Err(error)) => Poll::Ready(Err(Error::Inner(error))),
+            Poll::Pending => Poll::Pending,
+        }
+    }
+
+    fn call(&mut self, request: R) -> AsyncResponseFuture<U::Future, S, S::Future> {
+        match self.inner.clone() {
+            Ok(clone) => {
+                let polled = mem::replace(&mut self.inner, clone);
+                let check = self.predicate.check(request);
+                AsyncResponseFuture::new(AsyncState::Check(check, polled))
+            }
+            Err(_) => AsyncResponseFuture::new(AsyncState::NoClone),
+        }
+    }
+}

@@ -1,0 +1,86 @@
+//! The layers of the filters.
+ghost use Rattle.std.specs.Prelude.{◌≡◌};
+ghost use Rattle.tower_ware.specs.Filter.{Filtering};
+
+use crate::filter::{AsyncFilter, Filter};
+use std::alloc::AllocError;
+use std::marker::Model;
+use tower_base::layer::Layer;
+
+/// Makes a `Filter` of a service, with a clone of the predicate.
+#[derive(Drop)]
+pub struct FilterLayer<U> {
+    predicate: U,
+}
+
+impl<U> Model for FilterLayer<U> {
+    ghost Value = { U };
+
+    ghost view = { λ l. l.predicate };
+}
+
+impl<U> FilterLayer<U> {
+    pub fn new(predicate: U) -> FilterLayer<U>
+        ensures { result ≡ predicate }
+    {
+        FilterLayer { predicate }
+    }
+}
+
+impl<S: Drop, U: Clone + Drop> Layer<S> for FilterLayer<U> {
+    type Service = Filter<S, U>;
+
+    ghost made = { λ predicate service filter. (filter.inner ≡ service) × U.is_clone predicate filter.predicate };
+
+    fn layer(&self, service: S) -> Result<Filter<S, U>, AllocError> {
+        let predicate = self.predicate.clone()?;
+        Ok(Filter::new(service, predicate))
+    }
+}
+
+impl<U: Clone> Clone for FilterLayer<U> {
+    ghost is_clone = { U.is_clone };
+
+    fn clone(&self) -> Result<FilterLayer<U>, AllocError> {
+        Ok(FilterLayer::new(self.predicate.clone()?))
+    }
+}
+
+/// Makes an `AsyncFilter` of a service, with a clone of the predicate.
+#[derive(Drop)]
+pub struct AsyncFilterLayer<U> {
+    predicate: U,
+}
+
+impl<U> Model for AsyncFilterLayer<U> {
+    ghost Value = { U };
+
+    ghost view = { λ l. l.predicate };
+}
+
+impl<U> AsyncFilterLayer<U> {
+    pub fn new(predicate: U) -> AsyncFilterLayer<U>
+        ensures { result ≡ predicate }
+    {
+        AsyncFilterLayer { predicate }
+    }
+}
+
+impl<S: Drop, U: Clone + Drop> Layer<S> for AsyncFilterLayer<U> {
+    type Service = AsyncFilter<S, U>;
+
+    ghost made = { λ predicate service filter. (filter.inner ≡ service) × U.is_clone predicate filter.predicate };
+
+    fn layer(&self, service: S) -> Result<AsyncFilter<S, U>, AllocError> {
+        let predicate = self.predicate.clone()?;
+        Ok(AsyncFilter::new(service, predicate))
+    }
+}
+
+impl<U: Clone> Clone for AsyncFilterLayer<U> {
+    ghost is_clone = { U.is_clone };
+
+    fn clone(&self) -> Result<AsyncFilterLayer<U>, AllocError> {
+        Ok(AsyncFilterLayer::new(self.predicate.clone()?))
+    }
+}
