@@ -1,0 +1,68 @@
+-- The waits of `retry::backoff`.
+use Rattle.std.specs.Prelude.{◌≡◌, ℕ, ◌+◌, ◌-◌, ◌*◌, ◌/◌, ◌^◌, min, nat_lt, nat_eq, if◌then◌else◌, true, false, Bool, Result, Ok, Err}
+use Rattle.std.specs.declared.alloc.AllocError.{AllocError}
+use Rattle.tower_base.specs.Rng.{Fresh}
+use Rattle.tower_base.specs.Sleep.{Sleeping}
+use Rattle.tower_base.specs.declared.service.Clock.{Ghosts as ClockOf}
+use Rattle.tower_base.specs.declared.service.Fraction.{Fraction}
+use Rattle.tower_base.specs.declared.util.rng.Rng.{Ghosts as RngOf}
+use Rattle.tower_retry.specs.declared.retry.backoff.invalid.InvalidBackoff.{InvalidBackoff}
+use Rattle.tower_retry.specs.declared.retry.backoff.invalid.InvalidBackoff.TheVariants.{MaximumBelowMinimum, MaximumIsZero, JitterAbove100}
+
+-- an `ExponentialBackoffMaker`
+pub record Maker (R C : Type 0) : Type 0 where
+  pub least : ℕ
+  pub most : ℕ
+  pub jitter : Fraction
+  pub rng : R
+  pub clock : C
+
+-- an `ExponentialBackoff`, and how many waits it gave
+pub record Waiter (R C : Type 0) : Type 0 where
+  pub maker : Maker R C
+  pub count : ℕ
+
+-- A maker of these parts: the least wait isn't above the greatest, which isn't 0, and the jitter isn't above 100.
+abbrev pub maker_of : {R C : Type 0} → Maker R C → Result (Maker R C) InvalidBackoff
+maker_of m =
+    if nat_lt m.most m.least then Err MaximumBelowMinimum
+    else (if nat_eq m.most 0 then Err MaximumIsZero
+    else (if nat_lt (100 * m.jitter.divisor) m.jitter.numerator then Err JitterAbove100 else Ok m))
+
+-- a wait without its jitter: the least one doubled with each earlier wait, 32 times at most, up to the greatest
+abbrev pub base_of : {R C : Type 0} → Waiter R C → ℕ
+base_of w = min (w.maker.least * min (2 ^ w.count) (2 ^ 32 - 1)) w.maker.most
+
+-- The jitter of a word: its top 53 bits as a part of 2 ^ 53, times the fraction. The wait doesn't pass the greatest.
+abbrev pub jitter_of : {R C : Type 0} → Waiter R C → ℕ → ℕ
+jitter_of w word = min (base_of w * (word / 2 ^ 11) / 2 ^ 53 * w.maker.jitter.numerator / w.maker.jitter.divisor) (w.maker.most - base_of w)
+
+module _ {R C : Type 0} (r : RngOf R) where
+  -- The jitter of the next wait: of one word, or 0 without a word where the fraction is 0.
+  abbrev pub Jitters : Bool → Waiter R C → ℕ → Waiter R C → Type 0
+  Jitters true old extra new = (extra ≡ 0) × (new.maker.rng ≡ old.maker.rng)
+  Jitters false old extra new = (word : ℕ) × r.drew old.maker.rng word new.maker.rng × (extra ≡ jitter_of old word)
+
+module _ {R C : Type 0} (r : RngOf R) (c : ClockOf C) where
+  -- the next wait begins at one reading of a share of the clock
+  pub record Begins (old : Waiter R C) (sleep : Sleeping C) (new : Waiter R C) : Type 0 where
+    pub extra : ℕ
+    pub share : C
+    pub jitters : Jitters r (nat_eq old.maker.jitter.numerator 0) old extra new
+    pub shared : c.shared old.maker.clock share
+    pub read : c.read share sleep.clock
+    pub deadline : sleep.deadline ≡ c.reading sleep.clock + (base_of old + extra)
+    pub counted : new.count ≡ min (old.count + 1) (2 ^ 32 - 1)
+    pub same : new.maker ≡ record old.maker { rng = new.maker.rng }
+
+-- a copy of each part, with a share of the clock
+module _ {R C : Type 0} (is_clone : R → R → Type 0) (c : ClockOf C) where
+  pub record Copies (old new : Maker R C) : Type 0 where
+    pub rng : is_clone old.rng new.rng
+    pub clock : c.shared old.clock new.clock
+    pub same : new ≡ record old { rng = new.rng; clock = new.clock }
+
+  -- a fresh backoff of the maker, which stays as it was
+  abbrev pub Makes : Maker R C → Result (Waiter R C) AllocError → Maker R C → Type 0
+  Makes old (Ok waiter) new = Copies old waiter.maker × (waiter.count ≡ 0) × (new ≡ old)
+  Makes old (Err e) new = new ≡ old

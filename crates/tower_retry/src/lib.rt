@@ -1,0 +1,4 @@
+//! Services that try again.
+#![tactic(auto)]
+
+pub mod retry;

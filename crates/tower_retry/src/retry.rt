@@ -1,0 +1,2 @@
+//! Retries of requests: the Rust's `tower::retry`.
+pub mod backoff;
