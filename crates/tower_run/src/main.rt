@@ -6,6 +6,8 @@ mod program;
 mod script;
 mod scripted;
 mod stacks;
+#[cfg(test)]
+mod tests;
 mod transcript;
 
 pub use program::run;
