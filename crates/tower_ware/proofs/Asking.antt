@@ -1,12 +1,10 @@
 -- Lists of indexes to ask.
-use Rattle.std.proofs.Common.{All, ◌≡◌, ◌≢◌, ℕ, zero, suc, ◌<◌, ◌≤◌, List, [], ◌∷◌, ◌++◌, ◌⊎◌, inl, inr, ⊎_elim, length, slice_index_or, slice_set, drop, refl, sym, ◌∙◌, subst, arith, rules, length-set}
+use Rattle.std.proofs.Common.{All, ◌≡◌, ◌≢◌, ℕ, ◌<◌, List, [], ◌∷◌, ◌⊎◌, inl, inr, ⊎_elim, length, slice_index_or, slice_set, drop, sym, ◌∙◌, subst, arith, length-set}
 use Rattle.std.proofs.lemmas.List.{get_or-set_other}
-use Rattle.std.proofs.lemmas.Grind.{common_steps, get_or-set_at}
+use Rattle.std.proofs.lemmas.Grind.{get_or-set_at}
 use Rattle.std.proofs.lemmas.Bool.Decides.{eqb_tells}
-use Rattle.std.proofs.Math.Logic.{∥∥₁_elim}
-use Rattle.std.specs.Coded.{le_prop}
-use Rattle.std.proofs.lemmas.List.Elements.{All-append, All-drop}
-use Rattle.tower_ware.specs.Steer.{Listed, Rested, Standing, upto}
+use Rattle.std.proofs.lemmas.List.Elements.{All-drop}
+use Rattle.tower_ware.specs.Steer.{Listed, Rested, Standing}
 
 module _ {S : Type 0} (ready : S → Type 0) where
   -- what stood elsewhere stands there after a write
@@ -28,8 +26,8 @@ module _ {S : Type 0} (ready : S → Type 0) where
   rested_next ss [] i w front some inside now h = absurd (omega arith)
   rested_next ss (k ∷ is) i w front some inside now h = λ j v below there.
       ⊎_elim (λ t. inl (subst ready (sym (get_or-set_at ss i j w v t.1 inside) ∙ there) now))
-        (λ f. ⊎_elim inl (⊎_elim (λ e. absurd (f.1 (sym e ∙ front))) inr) (elsewhere ss (k ∷ is) i j v w f.1 h below there))
-        (eqb_tells j i)
+      (λ f. ⊎_elim inl (⊎_elim (λ e. absurd (f.1 (sym e ∙ front))) inr) (elsewhere ss (k ∷ is) i j v w f.1 h below there))
+      (eqb_tells j i)
 
 -- what stands in front
 front_is : (is : List ℕ) (i : ℕ) (P : ℕ → Type 0) → All P is → slice_index_or is 0 i ≡ i → 0 < length is → P i
@@ -40,7 +38,7 @@ module _ {S : Type 0} (sound ready : S → Type 0) where
   each_write ss i w now h k d below =
       let size = simp length-set at below in
       ⊎_elim (λ t. subst sound (sym (get_or-set_at ss i k w d t.1 (subst (λ x. x < length ss) t.1 size))) now)
-        (λ f. subst sound (sym (get_or-set_other ss i k w d f.1)) (h k d size)) (eqb_tells k i)
+      (λ f. subst sound (sym (get_or-set_other ss i k w d f.1)) (h k d size)) (eqb_tells k i)
 
   inside_write : (ss : List S) (is : List ℕ) (i : ℕ) (w : S) → All (λ k. k < length ss) is → All (λ k. k < length (slice_set ss i w)) is
   inside_write ss is i w h = λ k d below. simp length-set (h k d below)
@@ -52,7 +50,7 @@ module _ {S : Type 0} (sound ready : S → Type 0) where
     each = each_write ss i w now h.each;
     some = simp length-set h.some;
     inside = inside_write ss is i w h.inside;
-    rested = rested_write ready ss is i w front some h.rested
+    rested = rested_write ready ss is i w front some h.rested;
   }
 
   -- a write of one that is ready there, which leaves the list
@@ -62,5 +60,5 @@ module _ {S : Type 0} (sound ready : S → Type 0) where
     each = each_write ss i w now h.each;
     some = simp length-set h.some;
     inside = All-drop (λ k. k < length (slice_set ss i w)) 1 is (inside_write ss is i w h.inside);
-    rested = rested_next ready ss is i w front some (front_is is i (λ k. k < length ss) h.inside front some) ok h.rested
+    rested = rested_next ready ss is i w front some (front_is is i (λ k. k < length ss) h.inside front some) ok h.rested;
   }

@@ -1,10 +1,10 @@
 -- A list of all indexes stands for services of which nothing is known.
-use Rattle.std.proofs.Common.{All, ◌≡◌, ℕ, zero, suc, ◌<◌, ◌≤◌, List, [], ◌∷◌, ◌++◌, inl, inr, ⊎_elim, length, refl, sym, subst, arith}
+use Rattle.std.proofs.Common.{All, ℕ, zero, suc, ◌<◌, ◌≤◌, List, [], ◌∷◌, ◌++◌, inl, inr, ⊎_elim, length, refl, sym, subst, arith}
 use Rattle.std.proofs.lemmas.Grind.{common_steps}
 use Rattle.std.proofs.lemmas.Bool.Decides.{eqb_tells}
 use Rattle.std.proofs.lemmas.List.Elements.{All-append, AllZip-get_or, length_all_zip}
 use Rattle.std.specs.List.{AllZip}
-use Rattle.tower_ware.specs.Steer.{Cloned, Listed, Rested, Sound, Standing, Steered, upto}
+use Rattle.tower_ware.specs.Steer.{Cloned, Listed, Sound, Standing, Steered, upto}
 
 all_upto : (n m : ℕ) → n ≤ m → All (λ i. i < m) (upto n)
 all_upto zero m below = λ k d at. absurd (omega arith)
@@ -22,7 +22,7 @@ listed_upto : (n j : ℕ) → j < n → Listed (upto n) j
 listed_upto zero j below = absurd (omega arith)
 listed_upto (suc n) j below =
     ⊎_elim (λ t. subst (Listed (upto (suc n))) (sym t.1) (listed_last (upto n) n))
-      (λ f. let less : j < n = (let other = f.1 in omega arith) in listed_more (upto n) n j (listed_upto n j less)) (eqb_tells j n)
+    (λ f. let less : j < n = (let other = f.1 in omega arith) in listed_more (upto n) n j (listed_upto n j less)) (eqb_tells j n)
 
 -- all are listed at first
 pub standing_new : {S : Type 0} (sound ready : S → Type 0) (ss : List S) → 0 < length ss → All sound ss → Standing sound ready ss (upto (length ss))
@@ -30,7 +30,7 @@ standing_new sound ready ss some each = record {
   each = each;
   some = some;
   inside = all_upto (length ss) (length ss) (omega arith);
-  rested = λ j v below there. inr (listed_upto (length ss) j below)
+  rested = λ j v below there. inr (listed_upto (length ss) j below);
 }
 
 -- A clone is sound where clones of its parts are.
@@ -49,6 +49,6 @@ module _ {S F : Type 0} (picker : F → F → Type 0) (service : S → S → Typ
       record {
         chooses = picks _ _ cloned.chooses h.chooses;
         standing = rw cloned.listed (standing_new sound ready new.services some
-          (each_sound keeps old.services new.services cloned.services h.standing.each));
-        fits = (let room = cloned.room in omega arith)
+            (each_sound keeps old.services new.services cloned.services h.standing.each));
+        fits = (let room = cloned.room in omega arith);
       }

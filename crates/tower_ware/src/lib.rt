@@ -6,4 +6,6 @@ pub mod load_shed;
 pub mod steer;
 #[cfg(test)]
 mod scripted;
+pub mod reconnect;
+pub mod steer;
 pub mod timeout;

@@ -25,10 +25,10 @@ impl<S, F, Req> Model for Steer<S, F, Req> {
     ghost Value = { Steered S F };
 
     ghost view = { λ m. record {
-        picker = m.picker;
-        services = m.services.items;
-        listed = m.listed.items;
-        room = deque_capacity m.listed
+      picker = m.picker;
+      services = m.services.items;
+      listed = m.listed.items;
+      room = deque_capacity m.listed;
     } };
 }
 

@@ -1,8 +1,7 @@
 //! Why there is no response.
 
-use std::error;
-use std::fmt;
 use std::fmt::Display;
+use std::{error, fmt};
 
 /// The time of a response is over.
 #[derive(Clone, Copy, Debug, PartialEq, Eq)]

@@ -10,5 +10,5 @@ returns-clause-sound g c =
     λ chooses each. record {
       chooses = chooses;
       standing = rw (c.loop-index.invariant.listed, all) (standing_new _ _ _ c.requires each);
-      fits = fits
+      fits = fits;
     }

@@ -7,5 +7,5 @@ abbrev pub invariant-loop-index : goal.invariant-loop-index
 invariant-loop-index g l = record {
   listed : l.listed.items ≡ upto l.index;
   count : deque_len l.listed ≡ l.index;
-  room : vec_len l.services ≤ deque_capacity l.listed
+  room : vec_len l.services ≤ deque_capacity l.listed;
 }

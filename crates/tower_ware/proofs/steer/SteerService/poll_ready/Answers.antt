@@ -1,4 +1,4 @@
-use Rattle.std.proofs.Common.{rules, ◌≡◌, ◌<◌, length}
+use Rattle.std.proofs.Common.{rules, ◌<◌, length}
 use Rattle.tower_ware.proofs.Asking.{standing_next}
 use Rattle.tower_ware.proofs.steer.SteerService.poll_ready.Goals as goal
 
@@ -13,5 +13,5 @@ loop-front-preserved-in-Ready-Ok-2 g c =
       standing = rw c.pop_front.ensures.rest (standing_next _ _ _ _ _ _ (search rules) some c.poll_ready.ensures.sound now c.loop-front.invariant.standing);
       room = search rules;
       fits = search rules;
-      kept = search rules
+      kept = search rules;
     }

@@ -13,7 +13,7 @@ invariant-loop-front g l = record {
   standing : Standing g.S.Service.sound g.S.Service.ready l.self-inside.services.items l.self-inside.listed.items;
   room : deque_capacity l.self-inside.listed ≡ l.fn.self.room;
   fits : 0 < l.fn.self.room;
-  kept : Keeps l.fn.cx l.cx
+  kept : Keeps l.fn.cx l.cx;
 }
 
 abbrev pub decreases-loop-front : goal.decreases-loop-front

@@ -1,0 +1,67 @@
+//! The response of a `Reconnect`.
+ghost use Rattle.std.specs.Prelude.{◌≡◌, ⊤};
+ghost use Rattle.tower_base.specs.Gives.{MayGive};
+ghost use Rattle.tower_ware.specs.Reconnect.{CanPoll, Stepped, needs_of};
+ghost use Rattle.tower_ware.specs.declared.reconnect.state.Reply.{Reply};
+
+use crate::reconnect::error::Error;
+use crate::reconnect::state::Reply;
+use futures::future::Future;
+use futures::task::{Context, Poll};
+use std::marker::Model;
+use tower_base::service::Steps;
+
+/// The connection's response, or the error of a connect.
+#[derive(Drop)]
+pub struct ResponseFuture<F, E> {
+    reply: Reply<F, E>,
+}
+
+impl<F, E> Model for ResponseFuture<F, E> {
+    ghost Value = { Reply F E };
+
+    ghost view = { λ r. r.reply };
+}
+
+impl<F, E> ResponseFuture<F, E> {
+    pub(crate) fn new(reply: Reply<F, E>) -> ResponseFuture<F, E>
+        ensures { result ≡ reply }
+    {
+        ResponseFuture { reply }
+    }
+}
+
+impl<T, E, M: Drop, F: Steps<Output = Result<T, E>>> Future for ResponseFuture<F, M> {
+    type Output = Result<T, Error<E, M>>;
+
+    ghost can_poll = { CanPoll F.can_poll };
+
+    ghost gives = { MayGive (Stepped F.Steps.own) };
+
+    ghost needs = { needs_of F.needs };
+
+    #[tactic(auto, using(tower_base::specs::Gives::gives_value, tower_base::specs::Gives::gives_same))]
+    fn poll(&mut self, cx: &mut Context<'_>) -> Poll<Self::Output> {
+        self.step(cx)
+    }
+}
+
+impl<T, E, M: Drop, F: Steps<Output = Result<T, E>>> Steps for ResponseFuture<F, M> {
+    ghost stepped = { Stepped F.Steps.own };
+
+    fn step(&mut self, cx: &mut Context<'_>) -> Poll<Self::Output> {
+        match &mut self.reply {
+            Reply::Called(response) => match response.step(cx) {
+                Poll::Ready(Ok(response)) => Poll::Ready(Ok(response)),
+                Poll::Ready(Err(error)) => Poll::Ready(Err(Error::Inner(error))),
+                Poll::Pending => Poll::Pending,
+            },
+            Reply::Failed(error) => {
+                let Some(error) = error.take() else {
+                    unreachable!()
+                };
+                Poll::Ready(Err(Error::Make(error)))
+            }
+        }
+    }
+}
