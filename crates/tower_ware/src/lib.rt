@@ -7,5 +7,4 @@ pub mod steer;
 #[cfg(test)]
 mod scripted;
 pub mod reconnect;
-pub mod steer;
 pub mod timeout;
