@@ -87,13 +87,10 @@ fn steered(
     count: u64,
     moment: &Cell<u64>,
 ) -> Result<u64, AllocError> {
-    let mut services = Vec::new(alloc);
-    services.push(Echo)?;
-    for _ in 0..7u8 {
-        services.push(Echo)?;
-    }
-    let picker = PickerFn::new(|request: &u64, services: &[Echo]| (*request as usize)
-        % services.len());
+    let services = vec![in alloc; Echo, Echo, Echo, Echo, Echo, Echo, Echo, Echo]?;
+    let picker = PickerFn {
+        f: |request: &u64, services: &[Echo]| (*request as usize) % services.len(),
+    };
     let service = Steer::new(alloc, services, picker)?;
     Ok(rounds(cx, service, count, moment, 0))
 }

@@ -101,7 +101,7 @@ impl<C: Core, R: Wait + Copy> Latch<C> for Guarded<C, R> {
     fn step(&self, step: C::Step) -> C::Reply {
         let mut kept = self.shared.kept.lock(&self.rt);
         let reply = kept.turn(step);
-        if !C::waits(&reply) {
+        if !C::waits(&reply) && !kept.waiters.is_empty() {
             let woken = kept.take_waiters();
             drop(kept);
             drop(woken);
@@ -118,7 +118,7 @@ impl<C: Core, R: Wait + Copy> Latch<C> for Guarded<C, R> {
             if !room {
                 let _pending: Poll<()> = cx.yield_now();
             }
-        } else {
+        } else if !kept.waiters.is_empty() {
             let woken = kept.take_waiters();
             drop(kept);
             drop(woken);
