@@ -1,7 +1,6 @@
 -- The waits of `retry::backoff`.
 use Rattle.std.specs.Prelude.{◌≡◌, ℕ, ◌+◌, ◌-◌, ◌*◌, ◌/◌, ◌^◌, min, nat_lt, nat_eq, if◌then◌else◌, true, false, Bool, Result, Ok, Err}
 use Rattle.std.specs.declared.alloc.AllocError.{AllocError}
-use Rattle.tower_base.specs.Rng.{Fresh}
 use Rattle.tower_base.specs.Sleep.{Sleeping}
 use Rattle.tower_base.specs.declared.service.Clock.{Ghosts as ClockOf}
 use Rattle.tower_base.specs.declared.service.Fraction.{Fraction}

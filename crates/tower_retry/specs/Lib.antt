@@ -1,1 +1,3 @@
 pub mod Backoff
+pub mod Retry
+pub mod RetryLends

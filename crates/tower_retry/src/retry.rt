@@ -1,2 +1,128 @@
 //! Retries of requests: the Rust's `tower::retry`.
+ghost use Rattle.std.specs.Prelude.{◌≡◌};
+ghost use Rattle.tower_retry.specs.Retry.{Calls, Polled, Retries, poll_of-ok};
+
 pub mod backoff;
+mod error;
+pub mod future;
+mod layer;
+mod policy;
+
+pub use error::Error;
+use future::{Attempts, ResponseFuture, State};
+use futures::task::{Context, Poll};
+pub use layer::RetryLayer;
+pub use policy::Policy;
+use std::alloc::AllocError;
+use std::marker::Model;
+use tower_base::service::Service;
+
+/// Makes a request again as its policy says.
+#[derive(Drop)]
+pub struct Retry<P, S> {
+    policy: P,
+    service: S,
+}
+
+impl<P, S> Model for Retry<P, S> {
+    ghost Value = { Retries P S };
+
+    ghost view = { λ r. record { policy = r.policy; service = r.service } };
+}
+
+impl<P, S> Retry<P, S> {
+    pub fn new(policy: P, service: S) -> Retry<P, S>
+        ensures { result ≡ record { policy = policy; service = service } }
+    {
+        Retry { policy, service }
+    }
+}
+
+impl<P: Clone, S: Clone> Clone for Retry<P, S> {
+    ghost is_clone = { λ old new. P.is_clone old.policy new.policy × S.is_clone old.service new.service };
+
+    fn clone(&self) -> Result<Retry<P, S>, AllocError> {
+        Ok(Retry {
+            policy: self.policy.clone()?,
+            service: self.service.clone()?,
+        })
+    }
+}
+
+impl<Request, P, S> Service<Request> for Retry<P, S>
+where
+    P: Policy<Request, S::Response, S::Error> + Clone,
+    S: Service<Request> + Clone,
+    Request: Drop,
+{
+    type Response = S::Response;
+
+    type Error = Error<S::Error>;
+
+    type Future = ResponseFuture<P, S, Request, S::Future, P::Future>;
+
+    // Clones of a sound policy and of a sound service are sound.
+    ghost sound = { λ r. P.sound r.policy × S.sound r.service
+        × ((x y : P) → P.is_clone x y → P.sound x → P.sound y)
+        × ((x y : S) → S.is_clone x y → S.sound x → S.sound y) };
+
+    ghost ready = { λ r. S.ready r.service };
+
+    ghost polled = { Polled S.Service P.Policy };
+
+    ghost called = { Calls S.Service P.Policy P.is_clone S.is_clone };
+
+    ghost readies = { λ old new p. S.readies old.service new.service (let e = poll_of-ok p.inner tt p.answers in Prim.rw e at p.came) };
+
+    fn poll_ready(&mut self, cx: &mut Context<'_>) -> Poll<Result<(), Self::Error>> {
+        match self.service.poll_ready(cx) {
+            Poll::Ready(Ok(())) => Poll::Ready(Ok(())),
+            Poll::Ready(Err(error)) => Poll::Ready(Err(Error::Inner(error))),
+            Poll::Pending => Poll::Pending,
+        }
+    }
+
+    /// Where a clone is refused, the inner future is dropped, and the future's answer is `Memory`.
+    fn call(&mut self, request: Request) -> Self::Future {
+        let kept = self.policy.clone_request(&request);
+        let response = self.service.call(request);
+        match self.clone() {
+            Ok(Retry { policy, service }) => ResponseFuture::new(Attempts {
+                policy,
+                service,
+                request: kept,
+                state: State::Called(response),
+            }),
+            Err(AllocError) => ResponseFuture::refused(),
+        }
+    }
+}
+
+impl<P, S> Retry<P, S> {
+    ghost use Rattle.tower_retry.specs.RetryLends.{LendsInner};
+    ghost use Rattle.std.specs.Borrow.{sem};
+
+    /// The inner service.
+    pub fn get_ref(&self) -> &S
+        ensures { result.now ≡ self.now.service }
+    {
+        &self.service
+    }
+
+    /// The inner service, to be changed.
+    pub fn get_mut(&mut self) -> &mut S
+        ensures* writes_back { sem 𝓛 (LendsInner P.row S.row self.entry result) }
+        ensures value { result.now ≡ self.old.service }
+    {
+        &mut self.service
+    }
+
+    /// The inner service. The policy is dropped.
+    pub fn into_inner(self) -> S
+    where
+        P: Drop,
+        ensures { result ≡ self.service }
+    {
+        self.service
+    }
+}

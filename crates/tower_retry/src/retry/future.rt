@@ -1,0 +1,216 @@
+//! The response of a `Retry`.
+ghost use Rattle.std.specs.Prelude.{◌≡◌, Some, None, Option, IfSome, IsSome};
+ghost use Rattle.futures.specs.Poll.{OnPending};
+ghost use Rattle.futures.specs.Task.{Covers, Keeps};
+ghost use Rattle.futures.specs.declared.task.Poll.TheVariants.{Pending};
+ghost use Rattle.tower_base.specs.Gives.{MayGive};
+ghost use Rattle.tower_base.specs.Passes.{Passes};
+ghost use Rattle.tower_retry.specs.Retry.{AfterResult, Again, Needs, NeedsAt, Pass, Sound, Stepped, Unanswered, result_of};
+ghost use Rattle.tower_retry.specs.declared.retry.future.Attempts.{Attempts};
+
+use crate::retry::{Error, Policy};
+use futures::future::Future;
+use futures::task::{Context, Poll};
+use std::marker::Model;
+use tower_base::service::{Service, Steps};
+
+/// A response, after as many calls as the policy asks for.
+///
+/// An answer to the policy, the end of a wait and a call are one pass each. A poll makes 64 passes at most.
+#[derive(Drop)]
+pub struct ResponseFuture<P, S, Request, F, W> {
+    // None where there was no memory for a clone
+    attempts: Option<Attempts<P, S, Request, F, W>>,
+}
+
+/// What a response keeps: clones of the policy and of the service, the request to be made again if
+/// there is one, and what is under way.
+#[derive(Drop)]
+pub struct Attempts<P, S, Request, F, W> {
+    pub policy: P,
+    pub service: S,
+    pub request: Option<Request>,
+    pub state: State<F, W>,
+}
+
+/// What is under way.
+#[derive(Drop)]
+pub enum State<F, W> {
+    /// The inner future.
+    Called(F),
+    /// The wait that the policy asked for.
+    Waiting(W),
+    /// The readiness of the service.
+    Retrying,
+}
+
+impl<P, S, Request, F, W> Model for ResponseFuture<P, S, Request, F, W> {
+    ghost Value = { Option (Attempts P S Request F W) };
+
+    ghost view = { λ f. f.attempts };
+}
+
+impl<P, S, Request, F, W> ResponseFuture<P, S, Request, F, W> {
+    pub(crate) fn new(attempts: Attempts<P, S, Request, F, W>) -> Self
+        ensures { result ≡ Some attempts }
+    {
+        ResponseFuture {
+            attempts: Some(attempts),
+        }
+    }
+
+    pub(crate) fn refused() -> Self
+        ensures { result ≡ None }
+    {
+        ResponseFuture { attempts: None }
+    }
+}
+
+impl<P, S, Request> Future for ResponseFuture<P, S, Request, S::Future, P::Future>
+where
+    P: Policy<Request, S::Response, S::Error>,
+    S: Service<Request>,
+    Request: Drop,
+{
+    type Output = Result<S::Response, Error<S::Error>>;
+
+    ghost can_poll = { λ f. IfSome f (Sound P.sound S.sound S.Future.can_poll P.Future.can_poll) };
+
+    ghost gives = { MayGive (Stepped S.Service S.Future.stepped P.Policy P.Future.stepped) };
+
+    ghost needs = { Needs S.Future.needs P.Future.needs };
+
+    #[tactic(auto, using(tower_base::specs::Gives::gives_value, tower_base::specs::Gives::gives_same))]
+    fn poll(&mut self, cx: &mut Context<'_>) -> Poll<Self::Output> {
+        self.step(cx)
+    }
+}
+
+impl<P, S, Request> Steps for ResponseFuture<P, S, Request, S::Future, P::Future>
+where
+    P: Policy<Request, S::Response, S::Error>,
+    S: Service<Request>,
+    Request: Drop,
+{
+    ghost stepped = { Stepped S.Service S.Future.stepped P.Policy P.Future.stepped };
+
+    fn step(&mut self, cx: &mut Context<'_>) -> Poll<Self::Output> {
+        let Some(attempts) = &mut self.attempts else {
+            return Poll::Ready(Err(Error::Memory));
+        };
+        passes(attempts, cx)
+    }
+}
+
+fn passes<P, S, Request>(
+    attempts: &mut Attempts<P, S, Request, S::Future, P::Future>,
+    cx: &mut Context<'_>,
+) -> Poll<Result<S::Response, Error<S::Error>>>
+where
+    P: Policy<Request, S::Response, S::Error>,
+    S: Service<Request>,
+    Request: Drop,
+    requires { Sound P.sound S.sound S.Future.can_poll P.Future.can_poll attempts.old }
+    ensures passes { Passes (Pass S.Service S.Future.stepped P.Policy P.Future.stepped) 64 Pending attempts.old result attempts.new }
+    ensures again { OnPending result (Sound P.sound S.sound S.Future.can_poll P.Future.can_poll attempts.new) }
+    ensures registered { OnPending result (Covers cx.new (NeedsAt S.Future.needs P.Future.needs attempts.new.state)) }
+    ensures kept { Keeps cx.old cx.new }
+{
+    for _turn in 0..64u8 {
+        if let Some(answer) = pass(attempts, cx) {
+            return answer;
+        }
+    }
+    cx.yield_now()
+}
+
+fn pass<P, S, Request>(
+    attempts: &mut Attempts<P, S, Request, S::Future, P::Future>,
+    cx: &mut Context<'_>,
+) -> Option<Poll<Result<S::Response, Error<S::Error>>>>
+where
+    P: Policy<Request, S::Response, S::Error>,
+    S: Service<Request>,
+    Request: Drop,
+    requires { Sound P.sound S.sound S.Future.can_poll P.Future.can_poll attempts.old }
+    ensures pass { Pass S.Service S.Future.stepped P.Policy P.Future.stepped attempts.old result attempts.new }
+    ensures again { Unanswered result (Sound P.sound S.sound S.Future.can_poll P.Future.can_poll attempts.new) }
+    ensures registered { result ≡ Some Pending → Covers cx.new (NeedsAt S.Future.needs P.Future.needs attempts.new.state) }
+    ensures kept { Keeps cx.old cx.new }
+{
+    match &mut attempts.state {
+        State::Called(response) => match response.step(cx) {
+            Poll::Pending => Some(Poll::Pending),
+            Poll::Ready(outcome) => decide(attempts, outcome),
+        },
+        State::Waiting(wait) => match wait.step(cx) {
+            Poll::Pending => Some(Poll::Pending),
+            Poll::Ready(()) => {
+                attempts.state = State::Retrying;
+                None
+            }
+        },
+        State::Retrying => match attempts.service.poll_ready(cx) {
+            Poll::Pending => Some(Poll::Pending),
+            Poll::Ready(Err(error)) => Some(Poll::Ready(Err(Error::Inner(error)))),
+            Poll::Ready(Ok(())) => {
+                call_again(attempts);
+                None
+            }
+        },
+    }
+}
+
+// After a result. The finished inner future is dropped as a wait begins.
+fn decide<P, S, Request>(
+    attempts: &mut Attempts<P, S, Request, S::Future, P::Future>,
+    mut outcome: Result<S::Response, S::Error>,
+) -> Option<Poll<Result<S::Response, Error<S::Error>>>>
+where
+    P: Policy<Request, S::Response, S::Error>,
+    S: Service<Request>,
+    Request: Drop,
+    requires policy { P.sound attempts.old.policy }
+    requires service { S.sound attempts.old.service }
+    ensures after { AfterResult P.Policy attempts.old.request attempts.old outcome result attempts.new }
+    ensures again { Unanswered result (Sound P.sound S.sound S.Future.can_poll P.Future.can_poll attempts.new) }
+    ensures answers { ¬ (result ≡ Some Pending) }
+{
+    let Some(request) = &mut attempts.request else {
+        return Some(Poll::Ready(outer(outcome)));
+    };
+    match attempts.policy.retry(request, &mut outcome) {
+        None => Some(Poll::Ready(outer(outcome))),
+        Some(wait) => {
+            attempts.state = State::Waiting(wait);
+            None
+        }
+    }
+}
+
+fn call_again<P, S, Request>(attempts: &mut Attempts<P, S, Request, S::Future, P::Future>)
+where
+    P: Policy<Request, S::Response, S::Error>,
+    S: Service<Request>,
+    Request: Drop,
+    requires sound { Sound P.sound S.sound S.Future.can_poll P.Future.can_poll attempts.old }
+    requires ready { S.ready attempts.old.service }
+    requires had { IsSome attempts.old.request }
+    ensures again { Again S.Service P.Policy attempts.old attempts.new }
+    ensures sound { Sound P.sound S.sound S.Future.can_poll P.Future.can_poll attempts.new }
+{
+    let Some(request) = attempts.request.take() else {
+        unreachable!();
+    };
+    attempts.request = attempts.policy.clone_request(&request);
+    attempts.state = State::Called(attempts.service.call(request));
+}
+
+fn outer<A, E>(inner: Result<A, E>) -> Result<A, Error<E>>
+    ensures { result ≡ result_of inner }
+{
+    match inner {
+        Ok(value) => Ok(value),
+        Err(error) => Err(Error::Inner(error)),
+    }
+}

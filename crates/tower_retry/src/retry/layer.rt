@@ -1,0 +1,45 @@
+ghost use Rattle.std.specs.Prelude.{◌≡◌};
+
+use crate::retry::Retry;
+use std::alloc::AllocError;
+use std::marker::Model;
+use tower_base::layer::Layer;
+
+/// Makes a `Retry` of a service, with a clone of its policy.
+#[derive(Drop)]
+pub struct RetryLayer<P> {
+    policy: P,
+}
+
+impl<P> Model for RetryLayer<P> {
+    ghost Value = { P };
+
+    ghost view = { λ l. l.policy };
+}
+
+impl<P> RetryLayer<P> {
+    pub fn new(policy: P) -> RetryLayer<P>
+        ensures { result ≡ policy }
+    {
+        RetryLayer { policy }
+    }
+}
+
+impl<P: Clone, S: Drop> Layer<S> for RetryLayer<P> {
+    type Service = Retry<P, S>;
+
+    ghost made = { λ layer service made. P.is_clone layer made.policy × (made.service ≡ service) };
+
+    fn layer(&self, service: S) -> Result<Retry<P, S>, AllocError> {
+        let policy = self.policy.clone()?;
+        Ok(Retry::new(policy, service))
+    }
+}
+
+impl<P: Clone> Clone for RetryLayer<P> {
+    ghost is_clone = { P.is_clone };
+
+    fn clone(&self) -> Result<RetryLayer<P>, AllocError> {
+        Ok(RetryLayer::new(self.policy.clone()?))
+    }
+}
