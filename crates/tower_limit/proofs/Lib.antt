@@ -1,4 +1,6 @@
 pub mod Lines
 pub mod Places
+pub mod RateBound
+pub mod RateTight
 pub mod Replies
 pub mod Turned

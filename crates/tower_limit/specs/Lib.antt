@@ -3,3 +3,7 @@ pub mod ConcurrencyLends
 pub mod Line
 pub mod LineCore
 pub mod LineLaws
+pub mod Rate
+pub mod RateLaws
+pub mod RateLends
+pub mod RateReady

@@ -1,0 +1,58 @@
+//! The layer of a rate limit.
+ghost use Rattle.std.specs.Prelude.{◌≡◌, ◌≢◌};
+ghost use Rattle.tower_limit.specs.Rate.{Limit, Made};
+
+use crate::limit::rate::{Rate, RateLimit};
+use std::alloc::AllocError;
+use std::marker::Model;
+use tower_base::layer::Layer;
+use tower_base::service::Clock;
+
+/// Makes a `RateLimit` of a service. It takes no memory.
+///
+/// What it makes has a share of the clock, and reads it once.
+#[derive(Drop)]
+pub struct RateLimitLayer<C> {
+    rate: Rate,
+    clock: C,
+}
+
+impl<C> Model for RateLimitLayer<C> {
+    ghost Value = { Limit C };
+
+    ghost view = { λ l. record { num = l.rate.num; per = l.rate.per; clock = l.clock } };
+}
+
+impl<C> RateLimitLayer<C> {
+    /// So many calls in so many nanoseconds. It asks for what `Rate::fits` tests.
+    pub fn new(num: u64, per: u64, clock: C) -> RateLimitLayer<C>
+        requires num { num ≢ 0 }
+        requires per { per ≢ 0 }
+        ensures { result ≡ record { num = num; per = per; clock = clock } }
+    {
+        let rate = Rate::new(num, per);
+        RateLimitLayer { rate, clock }
+    }
+}
+
+impl<S, C: Clock> Layer<S> for RateLimitLayer<C> {
+    type Service = RateLimit<S, C>;
+
+    ghost made = { Made C.Clock };
+
+    fn layer(&self, service: S) -> Result<RateLimit<S, C>, AllocError> {
+        Ok(RateLimit::new(service, self.rate, self.clock.share()))
+    }
+}
+
+/// A clone shares the clock.
+impl<C: Clock> Clone for RateLimitLayer<C> {
+    ghost is_clone = { λ layer copy. (copy.num ≡ layer.num) × (copy.per ≡ layer.per) × C.shared layer.clock copy.clock };
+
+    fn clone(&self) -> Result<RateLimitLayer<C>, AllocError> {
+        Ok(RateLimitLayer {
+            rate: self.rate,
+            clock: self.clock.share(),
+        })
+    }
+}

@@ -1,0 +1,30 @@
+//! How many calls, and in which time.
+ghost use Rattle.std.specs.Prelude.{◌≡◌, ◌≢◌, ◌↔◌, IsTrue};
+
+/// So many calls in so many nanoseconds.
+#[derive(Clone, Copy, Debug, PartialEq, Eq)]
+pub struct Rate {
+    pub num: u64,
+    pub per: u64,
+    ghost counts: { num ≢ 0 },
+    ghost lasts: { per ≢ 0 },
+}
+
+impl Rate {
+    /// It asks for two positive numbers, which `fits` tests.
+    pub fn new(num: u64, per: u64) -> Rate
+        requires num { num ≢ 0 }
+        requires per { per ≢ 0 }
+        ensures num { result.num ≡ num }
+        ensures per { result.per ≡ per }
+    {
+        Rate { num, per }
+    }
+
+    /// Both numbers are positive.
+    pub fn fits(num: u64, per: u64) -> bool
+        ensures { IsTrue result ↔ (num ≢ 0) × (per ≢ 0) }
+    {
+        num != 0 && per != 0
+    }
+}
