@@ -102,15 +102,24 @@ pub fn text_of<A: Display, E: Display, U: Display>(
     Ok(text)
 }
 
+/// One poll of readiness.
+fn polled<S: Service<u8>>(solo: &Solo, service: &mut S) -> Poll<Result<(), S::Error>>
+    requires { S.sound service.old }
+    ensures polled { S.polled service.old result service.new }
+    ensures sound { S.sound service.new }
+{
+    let mut cx = solo.begin();
+    let answer = service.poll_ready(&mut cx);
+    cx.end(&answer);
+    answer
+}
+
 /// A poll of readiness, and a call where it answers `Ok`: a generic caller.
 pub fn called<S: Service<u8>>(solo: &Solo, service: &mut S, request: u8) -> Option<S::Future>
     requires { S.sound service.old }
     ensures { IfSome result S.Future.can_poll }
 {
-    let mut cx = solo.begin();
-    let answer = service.poll_ready(&mut cx);
-    cx.end(&answer);
-    match answer {
+    match polled(solo, service) {
         Poll::Ready(Ok(())) => Some(service.call(request)),
         _ => None,
     }
