@@ -1,7 +1,7 @@
 //! A service by a closure.
 ghost use Rattle.std.specs.Prelude.{◌≡◌, Ok, Result};
 ghost use Rattle.futures.specs.declared.task.Poll.TheVariants.{Ready};
-ghost use Rattle.tower_util.specs.Parts.{Kept};
+ghost use Rattle.tower_maps.specs.Parts.{Kept};
 
 use futures::task::{Context, Poll};
 use std::marker::Model;

@@ -1,0 +1,4 @@
+pub mod Answers
+pub mod MapFutureLends
+pub mod Maps
+pub mod Parts

@@ -1,0 +1,95 @@
+//! A closure over the requests.
+ghost use Rattle.std.specs.Prelude.{◌≡◌};
+ghost use Rattle.tower_maps.specs.Parts.{Kept, Mapped};
+
+use futures::task::{Context, Poll};
+use std::alloc::AllocError;
+use std::marker::Model;
+use tower_base::layer::Layer;
+use tower_base::service::Service;
+
+/// Changes each request by a closure: the Rust's `tower::util::MapRequest`.
+#[derive(Clone, Drop)]
+pub struct MapRequest<S, F> {
+    inner: S,
+    f: F,
+}
+
+impl<S, F> Model for MapRequest<S, F> {
+    ghost Value = { Mapped S F };
+
+    ghost view = { λ m. record { inner = m.inner; f = m.f } };
+}
+
+impl<S, F> MapRequest<S, F> {
+    pub fn new(inner: S, f: F) -> MapRequest<S, F>
+        ensures { result ≡ record { inner = inner; f = f } }
+    {
+        MapRequest { inner, f }
+    }
+
+    /// Its layer.
+    pub fn layer(f: F) -> MapRequestLayer<F>
+        ensures { result ≡ record { f = f } }
+    {
+        MapRequestLayer::new(f)
+    }
+}
+
+impl<S: Service<B>, F: FnMut(A) -> B + Drop, A, B> Service<A> for MapRequest<S, F> {
+    type Response = S::Response;
+
+    type Error = S::Error;
+
+    type Future = S::Future;
+
+    ghost sound = { λ m. S.sound m.inner × F.IsAlwaysCallable m.f };
+
+    ghost ready = { λ m. S.ready m.inner };
+
+    ghost polled = { λ m r n. S.polled m.inner r n.inner × (n.f ≡ m.f) };
+
+    // one call of the closure, and one of the inner service, at what it answered
+    ghost called = { λ m q t n. (p : _) × F.step m.f q p n.f × S.ready m.inner × S.called m.inner p t n.inner };
+
+    ghost readies = { λ v w p. S.readies v.inner w.inner p.0 };
+
+    fn poll_ready(&mut self, cx: &mut Context<'_>) -> Poll<Result<(), S::Error>> {
+        self.inner.poll_ready(cx)
+    }
+
+    fn call(&mut self, request: A) -> S::Future {
+        let request = (self.f)(request);
+        self.inner.call(request)
+    }
+}
+
+/// Makes a `MapRequest` of a service: the Rust's `tower::util::MapRequestLayer`.
+#[derive(Clone, Drop)]
+pub struct MapRequestLayer<F> {
+    f: F,
+}
+
+impl<F> Model for MapRequestLayer<F> {
+    ghost Value = { Kept F };
+
+    ghost view = { λ l. record { f = l.f } };
+}
+
+impl<F> MapRequestLayer<F> {
+    pub fn new(f: F) -> MapRequestLayer<F>
+        ensures { result ≡ record { f = f } }
+    {
+        MapRequestLayer { f }
+    }
+}
+
+impl<S: Drop, F: Clone> Layer<S> for MapRequestLayer<F> {
+    type Service = MapRequest<S, F>;
+
+    ghost made = { λ l s t. (t.inner ≡ s) × F.is_clone l.f t.f };
+
+    fn layer(&self, service: S) -> Result<MapRequest<S, F>, AllocError> {
+        Ok(MapRequest::new(service, self.f.clone()?))
+    }
+}

@@ -1,0 +1,169 @@
+//! A second future for each result.
+ghost use Rattle.std.specs.Prelude.{◌≡◌};
+ghost use Rattle.tower_base.specs.Gives.{MayGive};
+ghost use Rattle.tower_maps.specs.Answers.{Readies, ready_inside};
+ghost use Rattle.tower_maps.specs.Maps.{Thens};
+ghost use Rattle.tower_maps.specs.Parts.{Kept, Mapped};
+ghost use Rattle.tower_maps.specs.declared.chain.Chain.{Chain as Stages};
+ghost use Rattle.tower_maps.specs.declared.chain.Chain.TheVariants.{First, Second};
+
+use crate::chain::Chain;
+use futures::future::Future;
+use futures::ready;
+use futures::task::{Context, Poll};
+use std::alloc::AllocError;
+use std::marker::Model;
+use tower_base::layer::Layer;
+use tower_base::service::{Service, Steps};
+
+/// Goes on from each result with a future that a closure makes of it. An error of readiness is only converted: the Rust's `tower::util::Then`.
+#[derive(Clone, Drop)]
+pub struct Then<S, F> {
+    inner: S,
+    f: F,
+}
+
+impl<S, F> Model for Then<S, F> {
+    ghost Value = { Mapped S F };
+
+    ghost view = { λ m. record { inner = m.inner; f = m.f } };
+}
+
+impl<S, F> Then<S, F> {
+    pub fn new(inner: S, f: F) -> Then<S, F>
+        ensures { result ≡ record { inner = inner; f = f } }
+    {
+        Then { inner, f }
+    }
+
+    /// Its layer.
+    pub fn layer(f: F) -> ThenLayer<F>
+        ensures { result ≡ record { f = f } }
+    {
+        ThenLayer::new(f)
+    }
+}
+
+impl<R, S, F, G, A, E, T, U> Service<R> for Then<S, F>
+where
+    S: Service<R, Response = A, Error = E>,
+    F: Fn(Result<A, E>) -> G + Copy,
+    G: Steps<Output = Result<T, U>>,
+    T: Drop,
+    U: From<E> + Drop,
+{
+    type Response = T;
+
+    type Error = U;
+
+    type Future = ThenFuture<S::Future, F, G>;
+
+    // What the closure gives may be polled.
+    ghost sound = { λ m. S.sound m.inner × F.IsAlwaysCallable m.f × ((x : _) (t : G) → F.post m.f x t → G.can_poll t) };
+
+    ghost ready = { λ m. S.ready m.inner };
+
+    ghost polled = { λ m a n. (r : _) × S.polled m.inner r n.inner × (n.f ≡ m.f) × Readies U.from_gives r a };
+
+    ghost called = { λ m q t n. (p : _) × S.ready m.inner × S.called m.inner q p n.inner × (t ≡ First p m.f) × (n.f ≡ m.f) };
+
+    ghost readies = { λ v w p. S.readies v.inner w.inner (ready_inside _ (λ r. S.polled v.inner r w.inner) p.0 p.1 p.3) };
+
+    fn poll_ready(&mut self, cx: &mut Context<'_>) -> Poll<Result<(), U>> {
+        match ready!(self.inner.poll_ready(cx)) {
+            Ok(()) => Poll::Ready(Ok(())),
+            Err(error) => Poll::Ready(Err(U::from(error))),
+        }
+    }
+
+    fn call(&mut self, request: R) -> ThenFuture<S::Future, F, G> {
+        ThenFuture {
+            state: Chain::First(self.inner.call(request), self.f),
+        }
+    }
+}
+
+/// The response of a `Then`: the Rust's `tower::util::future::ThenFuture`.
+#[derive(Drop)]
+pub struct ThenFuture<N, F, G> {
+    state: Chain<N, F, G>,
+}
+
+impl<N, F, G> Model for ThenFuture<N, F, G> {
+    ghost Value = { Stages N F G };
+
+    ghost view = { λ t. t.state };
+}
+
+impl<N, F, G, A> Future for ThenFuture<N, F, G>
+where
+    N: Steps<Output = A>,
+    F: Fn(A) -> G + Copy,
+    G: Steps,
+{
+    type Output = G::Output;
+
+    ghost can_poll = { elim [
+      | First p f ↦ N.can_poll p × F.IsAlwaysCallable f × ((x : A) (s : G) → F.post f x s → G.can_poll s)
+      | Second s ↦ G.can_poll s
+    ] };
+
+    ghost gives = { MayGive (Thens N.stepped F.post G.stepped) };
+
+    ghost needs = { elim [ First p f ↦ N.needs p | Second s ↦ G.needs s ] };
+
+    #[tactic(auto, using(tower_base::specs::Gives::gives_value, tower_base::specs::Gives::gives_same))]
+    fn poll(&mut self, cx: &mut Context<'_>) -> Poll<G::Output> {
+        self.step(cx)
+    }
+}
+
+impl<N, F, G, A> Steps for ThenFuture<N, F, G>
+where
+    N: Steps<Output = A>,
+    F: Fn(A) -> G + Copy,
+    G: Steps,
+{
+    ghost stepped = { Thens N.stepped F.post G.stepped };
+
+    fn step(&mut self, cx: &mut Context<'_>) -> Poll<G::Output> {
+        if let Chain::First(first, f) = &mut self.state {
+            let result = ready!(first.step(cx));
+            self.state = Chain::Second(f(result));
+        }
+        let Chain::Second(second) = &mut self.state else {
+            unreachable!()
+        };
+        second.step(cx)
+    }
+}
+
+/// Makes a `Then` of a service: the Rust's `tower::util::ThenLayer`.
+#[derive(Clone, Drop)]
+pub struct ThenLayer<F> {
+    f: F,
+}
+
+impl<F> Model for ThenLayer<F> {
+    ghost Value = { Kept F };
+
+    ghost view = { λ l. record { f = l.f } };
+}
+
+impl<F> ThenLayer<F> {
+    pub fn new(f: F) -> ThenLayer<F>
+        ensures { result ≡ record { f = f } }
+    {
+        ThenLayer { f }
+    }
+}
+
+impl<S, F: Copy> Layer<S> for ThenLayer<F> {
+    type Service = Then<S, F>;
+
+    ghost made = { λ l s t. t ≡ record { inner = s; f = l.f } };
+
+    fn layer(&self, service: S) -> Result<Then<S, F>, AllocError> {
+        Ok(Then::new(service, self.f))
+    }
+}
