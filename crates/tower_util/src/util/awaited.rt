@@ -1,0 +1,166 @@
+//! A service that a future gives.
+ghost use Rattle.std.specs.Prelude.{◌≡◌, Ok, ⊤};
+ghost use Rattle.futures.specs.Poll.{OnPending};
+ghost use Rattle.futures.specs.Task.{IsArmed, Keeps};
+ghost use Rattle.tower_base.specs.Gives.{MayGive};
+ghost use Rattle.tower_maps.specs.Answers.{Readies};
+ghost use Rattle.tower_util.specs.FutureService.{Polled, Called, Answers, IsThere, Marks, Polled-ready};
+ghost use Rattle.tower_util.specs.declared.util.awaited.State.{State as Stage};
+ghost use Rattle.tower_util.specs.declared.util.awaited.State.TheVariants.{Coming, There, Lost};
+
+use crate::util::error::future_service::Error;
+use futures::future::Future;
+use futures::ready;
+use futures::task::{Context, Poll};
+use std::marker::Model;
+use tower_base::service::{Service, Steps};
+
+/// A service that a future gives: the Rust's `tower::util::FutureService`.
+///
+/// It is ready once the future gave the service and that is ready. An error of the future is
+/// answered once, and later polls answer `Gone`, where the Rust polls the finished future.
+#[derive(Clone, Drop)]
+pub struct FutureService<F, S> {
+    state: State<F, S>,
+}
+
+#[derive(Clone, Drop)]
+pub enum State<F, S> {
+    Coming(F),
+    There(S),
+    Lost,
+}
+
+impl<F, S> Model for FutureService<F, S> {
+    ghost Value = { Stage F S };
+
+    ghost view = { λ m. m.state };
+}
+
+impl<F, S> FutureService<F, S> {
+    pub fn new(future: F) -> FutureService<F, S>
+        ensures { result ≡ Coming future }
+    {
+        FutureService {
+            state: State::Coming(future),
+        }
+    }
+}
+
+/// The Rust's `tower::util::future_service`.
+pub fn future_service<F, S>(future: F) -> FutureService<F, S>
+    ensures { result ≡ Coming future }
+{
+    FutureService::new(future)
+}
+
+impl<R, F, S> Service<R> for FutureService<F, S>
+where
+    F: Steps<Output = Result<S, S::Error>>,
+    S: Service<R>,
+{
+    type Response = S::Response;
+
+    type Error = Error<S::Error>;
+
+    type Future = FutureServiceFuture<S::Future>;
+
+    // The future may be polled, and a service that it may give is sound.
+    ghost sound = { elim [
+      | Coming f ↦ F.can_poll f × ((s : S) → MayGive F.stepped f (Ok s) → S.sound s)
+      | There s ↦ S.sound s
+      | Lost ↦ ⊤
+    ] };
+
+    ghost ready = { IsThere S.ready };
+
+    ghost polled = { Polled F.stepped S.polled };
+
+    ghost called = { λ m q t n. Called S.ready S.called m q t n };
+
+    ghost readies = { λ v w p. Polled-ready F.stepped S.polled S.ready S.readies v w p };
+
+    #[tactic(auto, using(tower_base::specs::Gives::gives_value, tower_base::specs::Gives::gives_same))]
+    fn poll_ready(&mut self, cx: &mut Context<'_>) -> Poll<Result<(), Error<S::Error>>> {
+        match &mut self.state {
+            State::Coming(future) => match future.step(cx) {
+                Poll::Pending => Poll::Pending,
+                Poll::Ready(Err(error)) => {
+                    self.state = State::Lost;
+                    Poll::Ready(Err(Error::Inner(error)))
+                }
+                Poll::Ready(Ok(mut service)) => {
+                    let answer = serve::<R, S>(&mut service, cx);
+                    self.state = State::There(service);
+                    answer
+                }
+            },
+            State::There(service) => serve::<R, S>(service, cx),
+            State::Lost => Poll::Ready(Err(Error::Gone)),
+        }
+    }
+
+    fn call(&mut self, request: R) -> FutureServiceFuture<S::Future> {
+        let State::There(service) = &mut self.state else {
+            unreachable!()
+        };
+        FutureServiceFuture {
+            inner: service.call(request),
+        }
+    }
+}
+
+// Polls the service, and marks its error as its own.
+fn serve<R, S: Service<R>>(
+    service: &mut S,
+    cx: &mut Context<'_>,
+) -> Poll<Result<(), Error<S::Error>>>
+    requires { S.sound service.old }
+    ensures sound { S.sound service.new }
+    ensures served { (r : _) × S.polled service.old r service.new × Readies Marks r result }
+    ensures armed { OnPending result (IsArmed cx.new) }
+    ensures kept { Keeps cx.old cx.new }
+{
+    match ready!(service.poll_ready(cx)) {
+        Ok(()) => Poll::Ready(Ok(())),
+        Err(error) => Poll::Ready(Err(Error::Inner(error))),
+    }
+}
+
+/// The response of a `FutureService`.
+#[derive(Drop)]
+pub struct FutureServiceFuture<N> {
+    inner: N,
+}
+
+impl<N> Model for FutureServiceFuture<N> {
+    ghost Value = { N };
+
+    ghost view = { λ t. t.inner };
+}
+
+impl<N: Steps<Output = Result<A, E>>, A, E> Future for FutureServiceFuture<N> {
+    type Output = Result<A, Error<E>>;
+
+    ghost can_poll = { N.can_poll };
+
+    ghost gives = { MayGive (Answers N.stepped) };
+
+    ghost needs = { N.needs };
+
+    #[tactic(auto, using(tower_base::specs::Gives::gives_value, tower_base::specs::Gives::gives_same))]
+    fn poll(&mut self, cx: &mut Context<'_>) -> Poll<Result<A, Error<E>>> {
+        self.step(cx)
+    }
+}
+
+impl<N: Steps<Output = Result<A, E>>, A, E> Steps for FutureServiceFuture<N> {
+    ghost stepped = { Answers N.stepped };
+
+    fn step(&mut self, cx: &mut Context<'_>) -> Poll<Result<A, Error<E>>> {
+        match ready!(self.inner.step(cx)) {
+            Ok(response) => Poll::Ready(Ok(response)),
+            Err(error) => Poll::Ready(Err(Error::Inner(error))),
+        }
+    }
+}

@@ -1,0 +1,134 @@
+//! One of two services, layers or futures.
+ghost use Rattle.std.specs.Prelude.{◌≡◌};
+ghost use Rattle.std.proofs.Common.{rules};
+ghost use Rattle.tower_base.specs.Gives.{MayGive};
+ghost use Rattle.tower_util.specs.declared.util.either.Either.TheVariants.{Left, Right};
+ghost use Rattle.tower_util.specs.declared.util.either.EitherResponseFuture.TheVariants.{First, Second};
+
+use futures::future::Future;
+use futures::task::{Context, Poll};
+use std::alloc::AllocError;
+use tower_base::layer::{Identity, Layer};
+use tower_base::service::{Service, Steps};
+
+/// One of two services or layers: the Rust's `tower::util::Either`.
+#[derive(Clone, Copy, Drop)]
+pub enum Either<A, B> {
+    Left(A),
+    Right(B),
+}
+
+impl<R, A, B> Service<R> for Either<A, B>
+where
+    A: Service<R>,
+    B: Service<R, Response = A::Response, Error = A::Error>,
+{
+    type Response = A::Response;
+
+    type Error = A::Error;
+
+    type Future = EitherResponseFuture<A::Future, B::Future>;
+
+    ghost sound = { elim [ Left a ↦ A.sound a | Right b ↦ B.sound b ] };
+
+    ghost ready = { elim [ Left a ↦ A.ready a | Right b ↦ B.ready b ] };
+
+    // a poll of the side that is there
+    ghost polled = { λ m r n. elim m [
+      | Left a ↦ (c : A) × A.polled a r c × (n ≡ Left c)
+      | Right b ↦ (d : B) × B.polled b r d × (n ≡ Right d)
+    ] };
+
+    // a call of the side that is there
+    ghost called = { λ m q t n. elim m [
+      | Left a ↦ (c : A) × (f : _) × A.ready a × A.called a q f c × (t ≡ First f) × (n ≡ Left c)
+      | Right b ↦ (d : B) × (f : _) × B.ready b × B.called b q f d × (t ≡ Second f) × (n ≡ Right d)
+    ] };
+
+    ghost readies = { elim [
+      | Left a ↦ λ w p. Prim.search rules
+      | Right b ↦ λ w p. Prim.search rules
+    ] };
+
+    fn poll_ready(&mut self, cx: &mut Context<'_>) -> Poll<Result<(), A::Error>> {
+        match self {
+            Either::Left(a) => a.poll_ready(cx),
+            Either::Right(b) => b.poll_ready(cx),
+        }
+    }
+
+    fn call(&mut self, request: R) -> EitherResponseFuture<A::Future, B::Future> {
+        match self {
+            Either::Left(a) => EitherResponseFuture::First(a.call(request)),
+            Either::Right(b) => EitherResponseFuture::Second(b.call(request)),
+        }
+    }
+}
+
+impl<S, A: Layer<S>, B: Layer<S>> Layer<S> for Either<A, B> {
+    type Service = Either<A::Service, B::Service>;
+
+    ghost can_layer = { λ l s. elim l [ Left a ↦ A.can_layer a s | Right b ↦ B.can_layer b s ] };
+
+    // what the side that is there makes
+    ghost made = { λ l s m. elim l [
+      | Left a ↦ (t : A.Service) × A.made a s t × (m ≡ Left t)
+      | Right b ↦ (t : B.Service) × B.made b s t × (m ≡ Right t)
+    ] };
+
+    fn layer(&self, service: S) -> Result<Either<A::Service, B::Service>, AllocError> {
+        match self {
+            Either::Left(a) => Ok(Either::Left(a.layer(service)?)),
+            Either::Right(b) => Ok(Either::Right(b.layer(service)?)),
+        }
+    }
+}
+
+/// The layer, or one that gives the service itself: the Rust's `tower::util::option_layer`.
+pub fn option_layer<L>(layer: Option<L>) -> Either<L, Identity>
+    ensures { result ≡ elim layer [ Some l ↦ Left l | None ↦ Right (record {}) ] }
+{
+    match layer {
+        Some(layer) => Either::Left(layer),
+        None => Either::Right(Identity::new()),
+    }
+}
+
+/// The response of an `Either`: the Rust's `tower::util::future::EitherResponseFuture`.
+#[derive(Drop)]
+pub enum EitherResponseFuture<A, B> {
+    First(A),
+    Second(B),
+}
+
+impl<A: Steps, B: Steps<Output = A::Output>> Future for EitherResponseFuture<A, B> {
+    type Output = A::Output;
+
+    ghost can_poll = { elim [ First a ↦ A.can_poll a | Second b ↦ B.can_poll b ] };
+
+    ghost gives = { MayGive (λ t r u. elim t [
+      | First a ↦ (c : A) × A.stepped a r c × (u ≡ First c)
+      | Second b ↦ (d : B) × B.stepped b r d × (u ≡ Second d)
+    ]) };
+
+    ghost needs = { elim [ First a ↦ A.needs a | Second b ↦ B.needs b ] };
+
+    #[tactic(auto, using(tower_base::specs::Gives::gives_value, tower_base::specs::Gives::gives_same))]
+    fn poll(&mut self, cx: &mut Context<'_>) -> Poll<A::Output> {
+        self.step(cx)
+    }
+}
+
+impl<A: Steps, B: Steps<Output = A::Output>> Steps for EitherResponseFuture<A, B> {
+    ghost stepped = { λ t r u. elim t [
+      | First a ↦ (c : A) × A.stepped a r c × (u ≡ First c)
+      | Second b ↦ (d : B) × B.stepped b r d × (u ≡ Second d)
+    ] };
+
+    fn step(&mut self, cx: &mut Context<'_>) -> Poll<A::Output> {
+        match self {
+            EitherResponseFuture::First(a) => a.step(cx),
+            EitherResponseFuture::Second(b) => b.step(cx),
+        }
+    }
+}

@@ -1,0 +1,4 @@
+//! The errors of these services: the Rust's `tower::util::error`.
+
+pub mod future_service;
+pub mod optional;

@@ -1,0 +1,15 @@
+//! Why a service that a future gives has no response.
+
+use std::fmt::Display;
+
+/// The error of a `FutureService`.
+#[derive(Debug, Drop, PartialEq, Eq, thiserror::Error)]
+#[error_bound(E: Display)]
+pub enum Error<E> {
+    /// The service's own error, or the future's, which is answered once.
+    #[error(transparent)]
+    Inner(E),
+    /// The future failed earlier.
+    #[error("service is gone")]
+    Gone,
+}

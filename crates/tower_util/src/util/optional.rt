@@ -1,0 +1,66 @@
+//! A service that may be absent.
+ghost use Rattle.std.specs.Prelude.{◌≡◌, Option, IfSome};
+ghost use Rattle.tower_util.specs.Optional.{Polled, Called, Polled-ready};
+
+use crate::util::error::optional::Error;
+use crate::util::future::optional::ResponseFuture;
+use futures::ready;
+use futures::task::{Context, Poll};
+use std::marker::Model;
+use tower_base::service::Service;
+
+/// A service, or none, which is always ready and answers each call with an error: the Rust's
+/// `tower::util::Optional`.
+#[derive(Drop)]
+pub struct Optional<T> {
+    inner: Option<T>,
+}
+
+impl<T> Model for Optional<T> {
+    ghost Value = { Option T };
+
+    ghost view = { λ o. o.inner };
+}
+
+impl<T> Optional<T> {
+    pub fn new(inner: Option<T>) -> Optional<T>
+        ensures { result ≡ inner }
+    {
+        Optional { inner }
+    }
+}
+
+impl<T: Service<Request>, Request: Drop> Service<Request> for Optional<T> {
+    type Response = T::Response;
+
+    type Error = Error<T::Error>;
+
+    type Future = ResponseFuture<T::Future>;
+
+    ghost sound = { λ o. IfSome o T.sound };
+
+    ghost ready = { λ o. IfSome o T.ready };
+
+    ghost polled = { Polled T.polled };
+
+    ghost called = { Called T.ready T.called };
+
+    ghost readies = { λ v w p. Polled-ready T.polled T.ready T.readies v w p };
+
+    fn poll_ready(&mut self, cx: &mut Context<'_>) -> Poll<Result<(), Error<T::Error>>> {
+        match &mut self.inner {
+            Some(inner) => match ready!(inner.poll_ready(cx)) {
+                Ok(()) => Poll::Ready(Ok(())),
+                Err(error) => Poll::Ready(Err(Error::Inner(error))),
+            },
+            None => Poll::Ready(Ok(())),
+        }
+    }
+
+    fn call(&mut self, request: Request) -> ResponseFuture<T::Future> {
+        match &mut self.inner {
+            Some(inner) => ResponseFuture::new(Some(inner.call(request))),
+            None => ResponseFuture::new(None),
+        }
+    }
+}
