@@ -1,0 +1,55 @@
+//! A maker as a service, by reference.
+ghost use Rattle.std.specs.Prelude.{◌≡◌};
+
+use futures::task::{Context, Poll};
+use std::marker::PhantomData;
+use tower_base::service::Service;
+
+/// A borrowed maker as a service: the Rust's `tower::make::AsService`.
+#[derive(Drop)]
+pub struct AsService<'a, M, Request> {
+    make: &'a mut M,
+    request: PhantomData<Request>,
+}
+
+impl<'a, M, Request> AsService<'a, M, Request> {
+    pub(crate) fn new(make: &'a mut M) -> AsService<'a, M, Request>
+        ensures { result.make.now ≡ make.old }
+    {
+        AsService {
+            make,
+            request: PhantomData,
+        }
+    }
+}
+
+impl<'a, M, S, Target, Request> Service<Target> for AsService<'a, M, Request>
+where
+    M: Service<Target, Response = S>,
+    S: Service<Request>,
+    Request: Drop,
+{
+    type Response = S;
+
+    type Error = M::Error;
+
+    type Future = M::Future;
+
+    ghost sound = { λ v. M.sound v.make.now };
+
+    ghost ready = { λ v. M.ready v.make.now };
+
+    ghost polled = { λ v r w. M.polled v.make.now r w.make.now };
+
+    ghost called = { λ v q t w. M.ready v.make.now × M.called v.make.now q t w.make.now };
+
+    ghost readies = { λ v w p. M.readies v.make.now w.make.now p };
+
+    fn poll_ready(&mut self, cx: &mut Context<'_>) -> Poll<Result<(), M::Error>> {
+        self.make.poll_ready(cx)
+    }
+
+    fn call(&mut self, target: Target) -> M::Future {
+        self.make.call(target)
+    }
+}

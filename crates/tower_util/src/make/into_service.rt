@@ -1,0 +1,61 @@
+//! A maker as a service, by value.
+ghost use Rattle.std.specs.Prelude.{◌≡◌};
+
+use futures::task::{Context, Poll};
+use std::marker::{Model, PhantomData};
+use tower_base::service::Service;
+
+/// A maker as a service: the Rust's `tower::make::IntoService`.
+#[derive(Clone, Drop)]
+pub struct IntoService<M, Request> {
+    make: M,
+    request: PhantomData<Request>,
+}
+
+impl<M, Request> Model for IntoService<M, Request> {
+    ghost Value = { M };
+
+    ghost view = { λ s. s.make };
+}
+
+impl<M, Request> IntoService<M, Request> {
+    pub(crate) fn new(make: M) -> IntoService<M, Request>
+        ensures { result ≡ make }
+    {
+        IntoService {
+            make,
+            request: PhantomData,
+        }
+    }
+}
+
+impl<M, S, Target, Request> Service<Target> for IntoService<M, Request>
+where
+    M: Service<Target, Response = S>,
+    S: Service<Request>,
+    Request: Drop,
+{
+    type Response = S;
+
+    type Error = M::Error;
+
+    type Future = M::Future;
+
+    ghost sound = { M.sound };
+
+    ghost ready = { M.ready };
+
+    ghost polled = { M.polled };
+
+    ghost called = { λ m q t n. M.ready m × M.called m q t n };
+
+    ghost readies = { λ v w p. M.readies v w p };
+
+    fn poll_ready(&mut self, cx: &mut Context<'_>) -> Poll<Result<(), M::Error>> {
+        self.make.poll_ready(cx)
+    }
+
+    fn call(&mut self, target: Target) -> M::Future {
+        self.make.call(target)
+    }
+}

@@ -1,0 +1,76 @@
+//! Services whose responses are connections.
+ghost use Rattle.std.specs.Prelude.{⊤, Ok, Result};
+ghost use Rattle.futures.specs.Poll.{OnPending};
+ghost use Rattle.futures.specs.Task.{IsArmed, Keeps};
+ghost use Rattle.futures.specs.declared.task.Poll.{Poll};
+ghost use Rattle.futures.specs.declared.task.Poll.TheVariants.{Ready};
+
+use futures::task::{Context, Poll};
+use tower_base::service::{Service, Steps};
+
+/// A service whose responses are connections: the Rust's `tower::make::MakeConnection`, which
+/// each service has here, since nothing is asked of a connection.
+pub trait MakeConnection<Target>: Drop {
+    type Connection: Drop;
+
+    type Error: Drop;
+
+    type Future: Steps<Output = Result<Self::Connection, Self::Error>>;
+
+    // As of `Service`.
+    ghost sound: { Self → Type 0 } = { λ _. ⊤ };
+
+    ghost ready: { Self → Type 0 };
+
+    ghost polled: { Self → Poll (Result (Unit {0}) Self.Error) → Self → Type 0 };
+
+    ghost called: { Self → Target → Self.Future → Self → Type 0 };
+
+    /// Asks whether a connection may be made.
+    fn poll_ready(&mut self, cx: &mut Context<'_>) -> Poll<Result<(), Self::Error>>
+        requires { sound self.old }
+        ensures polled { polled self.old result self.new }
+        ensures sound { sound self.new }
+        ensures armed { OnPending result (IsArmed cx.new) }
+        ensures kept { Keeps cx.old cx.new };
+
+    /// Makes a connection.
+    fn make_connection(&mut self, target: Target) -> Self::Future
+        requires sound { sound self.old }
+        requires ready { ready self.old }
+        ensures sound { sound self.new }
+        ensures called { called self.old target result self.new }
+        ensures fresh { Self.Future.can_poll result };
+
+    // An answer of `Ok` leaves a value that is ready.
+    ghost readies: { (old new : Self) → polled old (Ready (Ok tt)) new → ready new };
+}
+
+impl<C, Target> MakeConnection<Target> for C
+where
+    C: Service<Target>,
+{
+    type Connection = C::Response;
+
+    type Error = C::Error;
+
+    type Future = C::Future;
+
+    ghost sound = { C.sound };
+
+    ghost ready = { C.ready };
+
+    ghost polled = { C.polled };
+
+    ghost called = { λ m q t n. C.ready m × C.called m q t n };
+
+    ghost readies = { λ v w p. C.readies v w p };
+
+    fn poll_ready(&mut self, cx: &mut Context<'_>) -> Poll<Result<(), C::Error>> {
+        Service::poll_ready(self, cx)
+    }
+
+    fn make_connection(&mut self, target: Target) -> C::Future {
+        Service::call(self, target)
+    }
+}

@@ -1,0 +1,104 @@
+//! Services whose responses are services.
+ghost use Rattle.std.specs.Prelude.{◌≡◌, ⊤, Ok, Result};
+ghost use Rattle.futures.specs.Poll.{OnPending};
+ghost use Rattle.futures.specs.Task.{IsArmed, Keeps};
+ghost use Rattle.futures.specs.declared.task.Poll.{Poll};
+ghost use Rattle.futures.specs.declared.task.Poll.TheVariants.{Ready};
+
+use crate::make::{AsService, IntoService};
+use futures::task::{Context, Poll};
+use tower_base::service::{Service, Steps};
+
+/// A service whose responses are services: the Rust's `tower::make::MakeService`, which each
+/// such service has.
+pub trait MakeService<Target, Request>: Drop {
+    type Response: Drop;
+
+    type Error: Drop;
+
+    type Service: Service<Request, Response = Self::Response, Error = Self::Error>;
+
+    type MakeError: Drop;
+
+    type Future: Steps<Output = Result<Self::Service, Self::MakeError>>;
+
+    // As of `Service`.
+    ghost sound: { Self → Type 0 } = { λ _. ⊤ };
+
+    ghost ready: { Self → Type 0 };
+
+    ghost polled: { Self → Poll (Result (Unit {0}) Self.MakeError) → Self → Type 0 };
+
+    ghost called: { Self → Target → Self.Future → Self → Type 0 };
+
+    /// Asks whether a service may be made.
+    fn poll_ready(&mut self, cx: &mut Context<'_>) -> Poll<Result<(), Self::MakeError>>
+        requires { sound self.old }
+        ensures polled { polled self.old result self.new }
+        ensures sound { sound self.new }
+        ensures armed { OnPending result (IsArmed cx.new) }
+        ensures kept { Keeps cx.old cx.new };
+
+    /// Makes a service.
+    fn make_service(&mut self, target: Target) -> Self::Future
+        requires sound { sound self.old }
+        requires ready { ready self.old }
+        ensures sound { sound self.new }
+        ensures called { called self.old target result self.new }
+        ensures fresh { Self.Future.can_poll result };
+
+    /// The maker as a service.
+    final fn into_service(self) -> IntoService<Self, Request>
+    where
+        Self: Sized,
+        ensures { result ≡ self }
+    {
+        IntoService::new(self)
+    }
+
+    /// The maker as a service, for as long as it is lent.
+    final fn as_service(&mut self) -> AsService<'_, Self, Request>
+    where
+        Self: Sized,
+        ensures { result.make.now ≡ self.old }
+    {
+        AsService::new(self)
+    }
+
+    // An answer of `Ok` leaves a value that is ready.
+    ghost readies: { (old new : Self) → polled old (Ready (Ok tt)) new → ready new };
+}
+
+impl<M, S, Target, Request> MakeService<Target, Request> for M
+where
+    M: Service<Target, Response = S>,
+    S: Service<Request>,
+{
+    type Response = S::Response;
+
+    type Error = S::Error;
+
+    type Service = S;
+
+    type MakeError = M::Error;
+
+    type Future = M::Future;
+
+    ghost sound = { M.sound };
+
+    ghost ready = { M.ready };
+
+    ghost polled = { M.polled };
+
+    ghost called = { λ m q t n. M.ready m × M.called m q t n };
+
+    ghost readies = { λ v w p. M.readies v w p };
+
+    fn poll_ready(&mut self, cx: &mut Context<'_>) -> Poll<Result<(), M::Error>> {
+        Service::poll_ready(self, cx)
+    }
+
+    fn make_service(&mut self, target: Target) -> M::Future {
+        Service::call(self, target)
+    }
+}

@@ -1,0 +1,103 @@
+//! A maker that gives clones of one service.
+ghost use Rattle.std.specs.Prelude.{◌≡◌, Option, Some, None, IsSome, Ok, Result};
+ghost use Rattle.futures.specs.declared.task.Poll.TheVariants.{Ready};
+ghost use Rattle.tower_base.specs.Gives.{MayGive};
+ghost use Rattle.tower_util.specs.Shared.{Gives, Holds};
+ghost use Rattle.tower_util.specs.declared.make.shared.Error.{Error as SharedError};
+
+use futures::future::Future;
+use futures::task::{Context, Poll};
+use std::marker::Model;
+use tower_base::service::{Service, Steps};
+
+/// Answers each call with a clone of its service: the Rust's `tower::make::Shared`.
+#[derive(Clone, Copy, Drop)]
+pub struct Shared<S> {
+    service: S,
+}
+
+impl<S> Model for Shared<S> {
+    ghost Value = { S };
+
+    ghost view = { λ s. s.service };
+
+    ghost inverse = { λ v. record { service = v } };
+}
+
+/// Why there is no clone, where the Rust's clones can't fail.
+#[derive(Clone, Copy, Debug, PartialEq, Eq, thiserror::Error)]
+pub enum Error {
+    #[error("out of memory")]
+    Memory,
+}
+
+impl<S> Shared<S> {
+    pub fn new(service: S) -> Shared<S>
+        ensures { result ≡ service }
+    {
+        Shared { service }
+    }
+}
+
+impl<S: Clone + Drop, T: Drop> Service<T> for Shared<S> {
+    type Response = S;
+
+    type Error = Error;
+
+    type Future = SharedFuture<S>;
+
+    ghost ready = { λ _. Unit {0} };
+
+    ghost polled = { λ old answer new. (answer ≡ Ready (Ok tt)) × (new ≡ old) };
+
+    ghost called = { λ old _ future new. Holds S.is_clone old future × (new ≡ old) };
+
+    ghost readies = { λ _ _ _. tt };
+
+    fn poll_ready(&mut self, _cx: &mut Context<'_>) -> Poll<Result<(), Error>> {
+        Poll::Ready(Ok(()))
+    }
+
+    fn call(&mut self, _target: T) -> SharedFuture<S> {
+        let answer = match self.service.clone() {
+            Ok(service) => Ok(service),
+            Err(_) => Err(Error::Memory),
+        };
+        SharedFuture {
+            answer: Some(answer),
+        }
+    }
+}
+
+/// The clone, or `Memory` where it was refused: the Rust's `tower::make::future::SharedFuture`.
+#[derive(Drop)]
+pub struct SharedFuture<S> {
+    answer: Option<Result<S, Error>>,
+}
+
+impl<S> Model for SharedFuture<S> {
+    ghost Value = { Option (Result S SharedError) };
+
+    ghost view = { λ t. t.answer };
+}
+
+impl<S: Drop> Future for SharedFuture<S> {
+    type Output = Result<S, Error>;
+
+    ghost can_poll = { λ t. IsSome t };
+
+    ghost gives = { MayGive Gives };
+
+    #[tactic(auto, using(tower_base::specs::Gives::gives_value, tower_base::specs::Gives::gives_same))]
+    fn poll(&mut self, cx: &mut Context<'_>) -> Poll<Result<S, Error>> {
+        self.step(cx)
+    }
+}
+
+impl<S: Drop> Steps for SharedFuture<S> {
+    ghost stepped = { Gives };
+
+    fn step(&mut self, _cx: &mut Context<'_>) -> Poll<Result<S, Error>> {
+        Poll::Ready(self.answer.take().unwrap())
+    }
+}
