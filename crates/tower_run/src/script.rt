@@ -1,4 +1,6 @@
 //! The lines of a script.
+ghost use Rattle.std.specs.Prelude.{◌≡◌, ◌≢◌, ℕ, ◌<◌, ◌^◌, List, ◌++◌, MatchOption, decimal};
+ghost use Rattle.tower_run.specs.Script.{IsWord};
 
 use crate::fault::Fault;
 use std::alloc::Global;
@@ -106,29 +108,43 @@ fn read_answer(text: &[u8]) -> Option<Turn<'_>> {
 }
 
 // What follows the prefix.
-fn after<'a>(text: &'a [u8], prefix: &[u8]) -> Option<&'a [u8]> {
-    if text.starts_with(prefix) {
-        Some(&text[prefix.len()..])
-    } else {
-        None
-    }
+fn after<'a>(text: &'a [u8], prefix: &[u8]) -> Option<&'a [u8]>
+    ensures { MatchOption result ((rest : List ℕ) → text.now ≢ prefix.now ++ rest) (λ rest. text.now ≡ prefix.now ++ rest.now) }
+{
+    text.strip_prefix(prefix)
 }
 
 // A decimal number without leading zeros.
-fn read_number(text: &[u8]) -> Option<u64> {
-    match text {
-        [b'0'] => Some(0),
-        [b'1'..=b'9', ..] => str::from_utf8(text).ok()?.parse().ok(),
-        _ => None,
+fn read_number(text: &[u8]) -> Option<u64>
+    ensures { MatchOption result ((n : ℕ) → n < 2 ^ 64 → text.now ≢ decimal n) (λ n. text.now ≡ decimal n) }
+{
+    if text == b"0".as_slice() {
+        return Some(0);
+    }
+    if text.is_empty() || text[0] < b'1' {
+        return None;
+    }
+    let Ok(digits) = str::from_utf8(text) else {
+        return None;
+    };
+    match digits.parse() {
+        Ok(number) => Some(number),
+        Err(_) => None,
     }
 }
 
 // A word of the script.
-fn read_word(text: &[u8]) -> Option<Word<'_>> {
-    let is_word = text.iter().all(|byte| byte.is_ascii_graphic());
-    if text.is_empty() || text.len() > MAX_WORD || !is_word {
+fn read_word(text: &[u8]) -> Option<Word<'_>>
+    ensures { MatchOption result (¬ IsWord text.now) (λ word. IsWord text.now × (word.text.now ≡ text.now)) }
+{
+    if text.is_empty() || text.len() > MAX_WORD {
         return None;
     }
-    let text = str::from_utf8(text).ok()?;
-    Some(Word { text })
+    if !text.iter().all(|byte| (33..=126).contains(byte)) {
+        return None;
+    }
+    match str::from_utf8(text) {
+        Ok(text) => Some(Word { text }),
+        Err(_) => None,
+    }
 }
