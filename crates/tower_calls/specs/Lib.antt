@@ -1,0 +1,4 @@
+pub mod Bag
+pub mod Calling
+pub mod Line
+pub mod Queue

@@ -1,0 +1,4 @@
+//! Streams of calls.
+#![tactic(auto)]
+
+pub mod util;
