@@ -3,8 +3,8 @@
 
 pub mod filter;
 pub mod load_shed;
-pub mod steer;
+pub mod reconnect;
 #[cfg(test)]
 mod scripted;
-pub mod reconnect;
+pub mod steer;
 pub mod timeout;

@@ -7,6 +7,8 @@ ghost use Rattle.tower_limit.specs.RateLaws.{Bounded, IsReached};
 mod layer;
 mod number;
 mod service;
+#[cfg(test)]
+mod tests;
 mod windows;
 
 pub use layer::RateLimitLayer;

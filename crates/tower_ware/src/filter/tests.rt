@@ -16,7 +16,11 @@ type Answer = Poll<Result<(u8, u8, u8), Error<u8, u8>>>;
 
 // Refuses requests from 100 on, and doubles the others.
 fn doubled(request: u8) -> Result<u8, u8> {
-    if request < 100 { Ok(request * 2) } else { Err(request) }
+    if request < 100 {
+        Ok(request * 2)
+    } else {
+        Err(request)
+    }
 }
 
 // Two calls of a filter, one of which is refused, and the inner service after them.
@@ -49,13 +53,19 @@ fn checked_request_goes_inside_and_a_refused_one_does_not(rt: HostRuntime) -> Re
 
 #[test]
 fn methods_of_a_filter(rt: HostRuntime) -> Result<(), Fail> {
-    let mut filter = Filter::new(Scripted::new(Mood::Busy), PredicateFn::new(|request: u8| doubled(request)));
+    let mut filter = Filter::new(
+        Scripted::new(Mood::Busy),
+        PredicateFn::new(|request: u8| doubled(request)),
+    );
     assert_eq!(rt; filter.check(3), Ok(6));
     assert_eq!(rt; filter.check(103), Err(103));
     filter.get_mut().number = 5;
     assert_eq!(rt; filter.get_ref().number, 5);
     let layer = FilterLayer::new(PredicateFn::new(|request: u8| doubled(request)));
-    assert_eq!(rt; layer.layer(Scripted::new(Mood::Busy))?.into_inner().calls, 0);
+    assert_eq!(rt;
+        layer.layer(Scripted::new(Mood::Busy))?.into_inner().calls,
+        0
+    );
     Ok(())
 }
 
@@ -116,7 +126,11 @@ impl AsyncPredicate<u8> for Asked {
 }
 
 // A poll, a call, and two polls of the future. With the answers go the filter's service and how often the predicate was asked.
-fn asked_twice(cx: &mut Context<'_>, inner: Scripted, request: u8) -> (Answer, Answer, Scripted, u8) {
+fn asked_twice(
+    cx: &mut Context<'_>,
+    inner: Scripted,
+    request: u8,
+) -> (Answer, Answer, Scripted, u8) {
     let mut filter = AsyncFilter::new(inner, Asked(0));
     match filter.poll_ready(cx) {
         Poll::Ready(Ok(())) => {
@@ -136,8 +150,11 @@ fn asked_twice(cx: &mut Context<'_>, inner: Scripted, request: u8) -> (Answer, A
 #[test]
 fn polled_service_is_called_once_the_check_is_ok(rt: HostRuntime) -> Result<(), Fail> {
     let task = MockTask::new(&rt)?;
-    let (first, last, left, asked) =
-        task.enter(|cx: &mut Context<'_>| asked_twice(cx, Scripted::new(Mood::Willing), 4));
+    let (first, last, left, asked) = task.enter(|cx: &mut Context<'_>| asked_twice(
+        cx,
+        Scripted::new(Mood::Willing),
+        4,
+    ));
     assert_eq!(rt; first, Poll::Pending);
     assert_eq!(rt; last, Poll::Ready(Ok((1, 1, 8))));
     assert_eq!(rt; left.number, 2);
@@ -148,8 +165,11 @@ fn polled_service_is_called_once_the_check_is_ok(rt: HostRuntime) -> Result<(), 
 #[test]
 fn refused_check_is_rejected(rt: HostRuntime) -> Result<(), Fail> {
     let task = MockTask::new(&rt)?;
-    let (_, last, left, _) =
-        task.enter(|cx: &mut Context<'_>| asked_twice(cx, Scripted::new(Mood::Willing), 104));
+    let (_, last, left, _) = task.enter(|cx: &mut Context<'_>| asked_twice(
+        cx,
+        Scripted::new(Mood::Willing),
+        104,
+    ));
     assert_eq!(rt; last, Poll::Ready(Err(Error::Rejected(104))));
     assert_eq!(rt; left.calls, 0);
     Ok(())

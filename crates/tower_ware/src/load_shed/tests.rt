@@ -45,8 +45,16 @@ fn goes_inside_exactly_after_ok(rt: HostRuntime) -> Result<(), Fail> {
         (None, Some(Willing), Poll::Ready(Ok((1, 1, 5)))),
         (Some(Busy), Some(Willing), Poll::Ready(Ok((1, 1, 5)))),
         (None, None, Poll::Ready(Err(Error::Overloaded))),
-        (Some(Willing), Some(Busy), Poll::Ready(Err(Error::Overloaded))),
-        (Some(Willing), Some(Broken), Poll::Ready(Err(Error::Overloaded))),
+        (
+            Some(Willing),
+            Some(Busy),
+            Poll::Ready(Err(Error::Overloaded)),
+        ),
+        (
+            Some(Willing),
+            Some(Broken),
+            Poll::Ready(Err(Error::Overloaded)),
+        ),
     ] {
         let answer = task.enter(|cx: &mut Context<'_>| polled_and_called(cx, first, last));
         assert_eq!(rt; answer?, expected);
@@ -80,7 +88,9 @@ fn only_an_inner_error_is_not_ok(rt: HostRuntime) -> Result<(), Fail> {
         (Mood::Busy, Poll::Ready(Ok(()))),
         (Mood::Broken, Poll::Ready(Err(Error::Inner(7)))),
     ] {
-        let answer = task.enter(|cx: &mut Context<'_>| LoadShed::new(Scripted::new(mood)).poll_ready(cx));
+        let answer = task.enter(|cx: &mut Context<'_>| LoadShed::new(Scripted::new(
+            mood,
+        )).poll_ready(cx));
         assert_eq!(rt; answer, expected);
     }
     Ok(())
@@ -91,9 +101,15 @@ fn texts(rt: HostRuntime) -> Result<(), Fail> {
     let alloc = rt.alloc();
     let refused: Error<u8> = Error::Overloaded;
     let inner: Error<u8> = Error::Inner(7);
-    assert_eq!(rt; format!(in alloc; "{}", refused)?.as_str(), "service overloaded");
+    assert_eq!(rt;
+        format!(in alloc; "{}", refused)?.as_str(),
+        "service overloaded"
+    );
     assert_eq!(rt; format!(in alloc; "{}", inner)?.as_str(), "7");
-    assert_eq!(rt; format!(in alloc; "{}", Overloaded::new())?.as_str(), "service overloaded");
+    assert_eq!(rt;
+        format!(in alloc; "{}", Overloaded::new())?.as_str(),
+        "service overloaded"
+    );
     assert_eq!(rt; Overloaded::default(), Overloaded::new());
     assert_eq!(rt; LoadShedLayer::default(), LoadShedLayer::new());
     Ok(())
@@ -101,7 +117,14 @@ fn texts(rt: HostRuntime) -> Result<(), Fail> {
 
 // The entries of a run, a letter each.
 fn letters(alloc: Global, cx: &mut Context<'_>) -> Result<String, AllocError> {
-    let events = vec![in alloc; Event::Call(1), Event::Poll, Event::Call(1), Event::Future(0), Event::Call(1), Event::Turn(3)]?;
+    let events = vec![in alloc;
+        Event::Call(1),
+        Event::Poll,
+        Event::Call(1),
+        Event::Future(0),
+        Event::Call(1),
+        Event::Turn(3),
+    ]?;
     let service = LoadShed::new(Scripted::new(Mood::Busy));
     let transcript = drive(alloc, cx, service, events, |t: u8| t / 2)?;
     let mut text = String::new(alloc);
