@@ -55,10 +55,14 @@ where
     let out = RefCell::new(out);
     let writing = Timeout::new(Writing { out: &out }, WRITE_TIME, clock.share());
     let service = RateLimit::new(writing, Rate::new(pace.lines, pace.window), clock);
-    let lines = Lines::new(alloc, reader);
-    let progress = if shows_progress { Some(&mut err) } else { None };
-    let copied = lines.and_then(|lines| copy(service, lines, solo, &pause, progress));
-    match copied.and_then(|()| flush(out)) {
+    let lines = match Lines::new(alloc, reader) {
+        Ok(lines) => lines,
+        Err(fault) => return report(fault, err),
+    };
+    if let Err(fault) = copy(service, lines, solo, &pause, &mut err, shows_progress) {
+        return report(fault, err);
+    }
+    match flush(out) {
         Ok(()) => 0,
         Err(fault) => report(fault, err),
     }
@@ -81,7 +85,8 @@ fn copy<S, R, E, P>(
     mut lines: Lines<R>,
     solo: &Solo,
     pause: &P,
-    mut progress: Option<&mut E>,
+    err: &mut E,
+    shows_progress: bool,
 ) -> Result<(), Fault>
 where
     S: Service<Vec<u8>, Response = (), Error = timeout::Error<CannotWrite>>,
@@ -97,11 +102,11 @@ where
         };
         ready(&mut service, solo, pause)?;
         written(service.call(line), solo, pause)?;
-        if let Some(err) = &mut progress {
+        if shows_progress {
             let _ = write!(err, "\r{count} lines");
         }
     }
-    if let Some(err) = &mut progress {
+    if shows_progress {
         let _ = writeln!(err);
     }
     Ok(())
@@ -117,7 +122,7 @@ where
     ensures sound { S.sound service.new }
     ensures ready { OnOk result (S.ready service.new) }
 {
-    for _ in 0..u64::MAX {
+    for _turn in 0..u64::MAX {
         match polled(service, solo) {
             Poll::Ready(Ok(())) => return Ok(()),
             Poll::Ready(Err(error)) => return Err(fault_of(error)),
@@ -147,7 +152,7 @@ where
     requires fresh { F.can_poll response }
     requires pause { P.IsAlwaysCallable pause.now }
 {
-    for _ in 0..u64::MAX {
+    for _turn in 0..u64::MAX {
         let mut cx = solo.begin();
         let answer = response.step(&mut cx);
         cx.end(&answer);
