@@ -7,8 +7,6 @@ pub mod future;
 mod layer;
 mod predicate;
 mod state;
-#[cfg(test)]
-mod tests;
 
 pub use error::Error;
 use future::{AsyncResponseFuture, ResponseFuture};

@@ -5,8 +5,6 @@ ghost use Rattle.tower_ware.specs.LoadShed.{Shedding, Polled, Called};
 pub mod error;
 pub mod future;
 mod layer;
-#[cfg(test)]
-mod tests;
 
 pub use error::Error;
 use future::ResponseFuture;

@@ -1,16 +1,18 @@
-use crate::filter::{
-    AsyncFilter, AsyncFilterLayer, AsyncPredicate, AsyncPredicateFn, Error, Filter, FilterLayer,
-    PredicateFn,
-};
+//! Filters at concrete types.
 use crate::scripted::{Mood, Scripted};
 use futures::future::{Future, ok};
 use futures::task::{Context, Poll};
 use futures::test::MockTask;
 use std::alloc::{AllocError, Global};
+use std::cell::Cell;
 use std::test::Fail;
 use tower_base::drive::{Entry, Event, drive};
 use tower_base::layer::Layer;
 use tower_base::service::{Service, Steps};
+use tower_ware::filter::{
+    AsyncFilter, AsyncFilterLayer, AsyncPredicate, AsyncPredicateFn, Error, Filter, FilterLayer,
+    PredicateFn,
+};
 
 type Answer = Poll<Result<(u8, u8, u8), Error<u8, u8>>>;
 
@@ -103,9 +105,9 @@ impl Steps for Second {
 
 // Counts how often it is asked.
 #[derive(Drop)]
-struct Asked(u8);
+struct Asked<'a>(&'a Cell<u8>);
 
-impl AsyncPredicate<u8> for Asked {
+impl AsyncPredicate<u8> for Asked<'_> {
     ghost use Rattle.std.specs.Prelude.{⊤};
 
     type Request = u8;
@@ -117,7 +119,7 @@ impl AsyncPredicate<u8> for Asked {
     ghost asked = { λ _ _ _ _. ⊤ };
 
     fn check(&mut self, request: u8) -> Second {
-        self.0 = self.0.wrapping_add(1);
+        self.0.set(self.0.get().wrapping_add(1));
         Second {
             outcome: doubled(request),
             polls: 0,
@@ -131,7 +133,8 @@ fn asked_twice(
     inner: Scripted,
     request: u8,
 ) -> (Answer, Answer, Scripted, u8) {
-    let mut filter = AsyncFilter::new(inner, Asked(0));
+    let count = Cell::new(0);
+    let mut filter = AsyncFilter::new(inner, Asked(&count));
     match filter.poll_ready(cx) {
         Poll::Ready(Ok(())) => {
             let mut future = filter.call(request);
@@ -140,8 +143,7 @@ fn asked_twice(
                 Poll::Pending => future.poll(cx),
                 _ => Poll::Pending,
             };
-            let asked = filter.predicate.0;
-            (first, last, filter.into_inner(), asked)
+            (first, last, filter.into_inner(), count.get())
         }
         _ => (Poll::Pending, Poll::Pending, filter.into_inner(), 0),
     }

@@ -1,4 +1,4 @@
-//! A service that follows a script, for the tests.
+//! A service that follows a script.
 ghost use Rattle.std.specs.Prelude.{◌≡◌, Ok, true, refl, IsSome};
 ghost use Rattle.futures.specs.declared.task.Poll.TheVariants.{Ready};
 
@@ -19,6 +19,8 @@ pub enum Mood {
 #[derive(Debug, Drop, PartialEq, Eq)]
 pub struct Scripted {
     pub mood: Mood,
+    /// The mood after the next poll, if it changes then.
+    pub later: Option<Mood>,
     pub has_clones: bool,
     pub is_ready: bool,
     pub polls: u8,
@@ -30,6 +32,7 @@ impl Scripted {
     pub fn new(mood: Mood) -> Scripted {
         Scripted {
             mood,
+            later: None,
             has_clones: true,
             is_ready: false,
             polls: 0,
@@ -46,6 +49,7 @@ impl Clone for Scripted {
         }
         Ok(Scripted {
             mood: self.mood,
+            later: self.later,
             has_clones: true,
             is_ready: false,
             polls: 0,
@@ -73,7 +77,9 @@ impl Service<u8> for Scripted {
     fn poll_ready(&mut self, cx: &mut Context<'_>) -> Poll<Result<(), u8>> {
         self.polls = self.polls.wrapping_add(1);
         self.is_ready = self.mood == Mood::Willing;
-        match self.mood {
+        let mood = self.mood;
+        self.mood = self.later.take().unwrap_or(mood);
+        match mood {
             Mood::Willing => Poll::Ready(Ok(())),
             Mood::Busy => cx.yield_now(),
             Mood::Broken => Poll::Ready(Err(7)),

@@ -1,7 +1,6 @@
+//! `LoadShed` at concrete types.
 ghost use Rattle.std.specs.Prelude.{◌≡◌, true};
 
-use crate::load_shed::error::Overloaded;
-use crate::load_shed::{Error, LoadShed, LoadShedLayer};
 use crate::scripted::{Mood, Scripted};
 use futures::future::Future;
 use futures::task::{Context, Poll};
@@ -11,29 +10,32 @@ use std::test::Fail;
 use tower_base::drive::{Entry, Event, drive};
 use tower_base::layer::Layer;
 use tower_base::service::Service;
+use tower_ware::load_shed::error::Overloaded;
+use tower_ware::load_shed::{Error, LoadShed, LoadShedLayer};
 
 type Answer = Poll<Result<(u8, u8, u8), Error<u8>>>;
 
-// A poll in this mood, if there is one.
-fn ask(cx: &mut Context<'_>, shed: &mut LoadShed<Scripted>, mood: Option<Mood>)
+// A poll, if it is wanted.
+fn ask(cx: &mut Context<'_>, shed: &mut LoadShed<Scripted>, wanted: bool)
     requires { shed.old.is_ready ≡ true → shed.old.inner.is_ready ≡ true }
     ensures { shed.new.is_ready ≡ true → shed.new.inner.is_ready ≡ true }
 {
-    if let Some(mood) = mood {
-        shed.inner.mood = mood;
+    if wanted {
         let _ = shed.poll_ready(cx);
     }
 }
 
-// Up to two polls, and then a call.
+// Up to two polls in these moods, and then a call.
 fn polled_and_called(
     cx: &mut Context<'_>,
     first: Option<Mood>,
     last: Option<Mood>,
 ) -> Result<Answer, AllocError> {
-    let mut shed = LoadShedLayer::new().layer(Scripted::new(Mood::Willing))?;
-    ask(cx, &mut shed, first);
-    ask(cx, &mut shed, last);
+    let mut inner = Scripted::new(first.or(last).unwrap_or(Mood::Willing));
+    inner.later = last;
+    let mut shed = LoadShedLayer::new().layer(inner)?;
+    ask(cx, &mut shed, first.is_some());
+    ask(cx, &mut shed, last.is_some());
     Ok(shed.call(5).poll(cx))
 }
 
