@@ -1,7 +1,7 @@
 -- The machine of `Optional`: the service's, whose errors are marked as its own; where there is none, always ready, and each call's answer is `None`.
 use Rattle.std.specs.Prelude.{◌≡◌, Option, Some, None, IfSome, Result, Ok, Err}
 use Rattle.futures.specs.declared.task.Poll.{Poll}
-use Rattle.futures.specs.declared.task.Poll.TheVariants.{Ready, Pending}
+use Rattle.futures.specs.declared.task.Poll.TheVariants.{Ready}
 use Rattle.tower_maps.specs.Answers.{Lifts, Sides, Same, Readies, ready_inside}
 use Rattle.tower_util.specs.declared.util.error.optional.Error.{Error}
 use Rattle.tower_util.specs.declared.util.error.optional.Error.TheVariants.{Inner, None as Missing}

@@ -1,4 +1,3 @@
-use Rattle.std.proofs.Common.{Ok}
 use Rattle.futures.specs.declared.task.Poll.TheVariants.{Ready, Pending}
 use Rattle.tower_base.specs.Gives.{gives_value, gives_same}
 use Rattle.tower_util.proofs.util.awaited.FutureServiceService.poll_ready.Goals as goal

@@ -1,0 +1,199 @@
+//! Layers on layers: the Rust's `tower::builder`.
+ghost use Rattle.std.specs.Prelude.{◌≡◌, IfOk, Some, None};
+ghost use Rattle.tower_util.specs.declared.util.either.Either.TheVariants.{Left, Right};
+
+use crate::layer::util::{Identity, Stack};
+use crate::layer::{Layer, LayerFn, layer_fn};
+use crate::timeout::TimeoutLayer;
+use crate::util::{
+    AndThenLayer, Either, MapErrLayer, MapFutureLayer, MapRequestLayer, MapResponseLayer,
+    MapResultLayer, ServiceFn, ThenLayer, option_layer, service_fn,
+};
+use std::alloc::AllocError;
+use std::marker::Model;
+use tower_base::service::{Clock, Service};
+
+/// Layers, the first of which is outermost: the Rust's `tower::ServiceBuilder`.
+///
+/// Contracts see it as the one layer that it is. A layer that is added goes inside those that
+/// are there, so it is applied before them.
+#[derive(Clone, Drop)]
+pub struct ServiceBuilder<L> {
+    layer: L,
+}
+
+impl<L> Model for ServiceBuilder<L> {
+    ghost Value = { L };
+
+    ghost view = { λ b. b.layer };
+}
+
+impl ServiceBuilder<Identity> {
+    /// No layers.
+    pub fn new() -> ServiceBuilder<Identity> {
+        ServiceBuilder {
+            layer: Identity::new(),
+        }
+    }
+}
+
+impl Default for ServiceBuilder<Identity> {
+    fn default() -> ServiceBuilder<Identity> {
+        ServiceBuilder::new()
+    }
+}
+
+impl<L> ServiceBuilder<L> {
+    /// Adds a layer, inside those that are there.
+    pub fn layer<T>(self, layer: T) -> ServiceBuilder<Stack<T, L>>
+        ensures { result ≡ record { inner = layer; outer = self } }
+    {
+        ServiceBuilder {
+            layer: Stack::new(layer, self.layer),
+        }
+    }
+
+    /// Adds the layer, if there is one.
+    pub fn option_layer<T>(self, layer: Option<T>) -> ServiceBuilder<Stack<Either<T, Identity>, L>>
+        ensures { result ≡ record { inner = elim layer [ Some l ↦ Left l | None ↦ Right (record {}) ]; outer = self } }
+    {
+        self.layer(option_layer(layer))
+    }
+
+    /// Adds a layer by a closure.
+    pub fn layer_fn<F>(self, f: F) -> ServiceBuilder<Stack<LayerFn<F>, L>>
+        ensures { result ≡ record { inner = record { f = f }; outer = self } }
+    {
+        self.layer(layer_fn(f))
+    }
+
+    /// Adds a limit on the time of a response, in nanoseconds of the clock.
+    pub fn timeout<C: Clock>(
+        self,
+        duration: u64,
+        clock: C,
+    ) -> ServiceBuilder<Stack<TimeoutLayer<C>, L>>
+        ensures { result ≡ record { inner = record { duration = duration; clock = clock }; outer = self } }
+    {
+        self.layer(TimeoutLayer::new(duration, clock))
+    }
+
+    /// Adds a closure over the requests.
+    pub fn map_request<F, R1, R2>(self, f: F) -> ServiceBuilder<Stack<MapRequestLayer<F>, L>>
+    where
+        F: FnMut(R1) -> R2 + Clone,
+        ensures { result ≡ record { inner = record { f = f }; outer = self } }
+    {
+        self.layer(MapRequestLayer::new(f))
+    }
+
+    /// Adds a closure over the responses.
+    pub fn map_response<F>(self, f: F) -> ServiceBuilder<Stack<MapResponseLayer<F>, L>>
+        ensures { result ≡ record { inner = record { f = f }; outer = self } }
+    {
+        self.layer(MapResponseLayer::new(f))
+    }
+
+    /// Adds a closure over the errors.
+    pub fn map_err<F>(self, f: F) -> ServiceBuilder<Stack<MapErrLayer<F>, L>>
+        ensures { result ≡ record { inner = record { f = f }; outer = self } }
+    {
+        self.layer(MapErrLayer::new(f))
+    }
+
+    /// Adds a closure over the futures.
+    pub fn map_future<F>(self, f: F) -> ServiceBuilder<Stack<MapFutureLayer<F>, L>>
+        ensures { result ≡ record { inner = record { f = f }; outer = self } }
+    {
+        self.layer(MapFutureLayer::new(f))
+    }
+
+    /// Adds a closure over the results.
+    pub fn map_result<F>(self, f: F) -> ServiceBuilder<Stack<MapResultLayer<F>, L>>
+        ensures { result ≡ record { inner = record { f = f }; outer = self } }
+    {
+        self.layer(MapResultLayer::new(f))
+    }
+
+    /// Adds a second future for each result.
+    pub fn then<F>(self, f: F) -> ServiceBuilder<Stack<ThenLayer<F>, L>>
+        ensures { result ≡ record { inner = record { f = f }; outer = self } }
+    {
+        self.layer(ThenLayer::new(f))
+    }
+
+    /// Adds a second future for each response.
+    pub fn and_then<F>(self, f: F) -> ServiceBuilder<Stack<AndThenLayer<F>, L>>
+        ensures { result ≡ record { inner = record { f = f }; outer = self } }
+    {
+        self.layer(AndThenLayer::new(f))
+    }
+
+    /// The layer.
+    pub fn into_inner(self) -> L
+        ensures { result ≡ self }
+    {
+        self.layer
+    }
+
+    /// Wraps the service. Where a layer was refused memory, the service is dropped.
+    pub fn service<S>(&self, service: S) -> Result<L::Service, AllocError>
+    where
+        L: Layer<S>,
+        requires { L.can_layer self.now service }
+        ensures { IfOk result (λ made. L.made self.now service made) }
+    {
+        self.layer.layer(service)
+    }
+
+    /// Wraps a service by a closure.
+    pub fn service_fn<F>(self, f: F) -> Result<L::Service, AllocError>
+    where
+        L: Layer<ServiceFn<F>> + Drop,
+        requires { L.can_layer self (record { f = f }) }
+        ensures { IfOk result (λ made. L.made self (record { f = f }) made) }
+    {
+        self.service(service_fn(f))
+    }
+
+    /// The builder itself, which has a clone.
+    pub fn check_clone(self) -> ServiceBuilder<L>
+    where
+        L: Clone,
+        ensures { result ≡ self }
+    {
+        self
+    }
+
+    /// The builder itself, of whose service there is a clone.
+    pub fn check_service_clone<S>(self) -> ServiceBuilder<L>
+    where
+        L: Layer<S>,
+        L::Service: Clone,
+        ensures { result ≡ self }
+    {
+        self
+    }
+
+    /// The builder itself, whose service takes these requests and gives these answers.
+    pub fn check_service<S, T, U, E>(self) -> ServiceBuilder<L>
+    where
+        L: Layer<S>,
+        L::Service: Service<T, Response = U, Error = E>,
+        ensures { result ≡ self }
+    {
+        self
+    }
+}
+
+impl<S, L: Layer<S>> Layer<S> for ServiceBuilder<L> {
+    type Service = L::Service;
+
+    ghost can_layer = { L.can_layer };
+
+    ghost made = { L.made };
+
+    fn layer(&self, service: S) -> Result<L::Service, AllocError> {
+        self.layer.layer(service)
+    }
+}

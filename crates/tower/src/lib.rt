@@ -1,0 +1,14 @@
+//! Middleware for services, each proved against its machine: the Rust's `tower`.
+#![tactic(auto)]
+
+pub mod builder;
+pub mod layer;
+pub mod util;
+
+pub use builder::ServiceBuilder;
+pub use layer::Layer;
+pub use tower_base::service::Service;
+pub use tower_util::make;
+pub use tower_util::make::MakeService;
+pub use tower_ware::timeout;
+pub use util::{ServiceExt, service_fn};

@@ -1,0 +1,11 @@
+//! Small services and what combines them: the Rust's `tower::util`.
+
+mod ext;
+
+pub use ext::ServiceExt;
+pub use tower_util::util::{
+    AndThen, AndThenLayer, Either, FutureService, MapErr, MapErrLayer, MapFuture, MapFutureLayer,
+    MapRequest, MapRequestLayer, MapResponse, MapResponseLayer, MapResult, MapResultLayer, Oneshot,
+    Optional, Ready, ReadyOneshot, ServiceFn, Then, ThenLayer, error, future, future_service,
+    option_layer, service_fn,
+};

@@ -1,0 +1,120 @@
+//! Methods of each service.
+ghost use Rattle.std.specs.Prelude.{◌≡◌, Some};
+ghost use Rattle.tower_util.specs.declared.util.oneshot.State.TheVariants.{NotReady};
+
+use crate::util::{
+    AndThen, MapErr, MapFuture, MapRequest, MapResponse, MapResult, Oneshot, Ready, ReadyOneshot,
+    Then,
+};
+use futures::future::Future;
+use tower_base::service::Service;
+
+/// Methods that each service has: the Rust's `tower::ServiceExt`.
+pub trait ServiceExt<Request>: Service<Request> {
+    /// Waits until the service is ready.
+    final fn ready(&mut self) -> Ready<'_, Self, Request>
+    where
+        Self: Sized,
+        ensures { result.service.now ≡ self.old }
+    {
+        Ready::new(self)
+    }
+
+    /// Waits until the service is ready, and gives it back.
+    final fn ready_oneshot(self) -> ReadyOneshot<Self, Request>
+    where
+        Self: Sized,
+        ensures { result ≡ Some self }
+    {
+        ReadyOneshot::new(self)
+    }
+
+    /// Waits until the service is ready, and calls it once.
+    final fn oneshot(self, request: Request) -> Oneshot<Self, Request>
+    where
+        Self: Sized,
+        ensures { result.state ≡ NotReady self request }
+    {
+        Oneshot::new(self, request)
+    }
+
+    /// Goes on from each response with a future that the closure makes of it.
+    final fn and_then<F>(self, f: F) -> AndThen<Self, F>
+    where
+        Self: Sized,
+        F: Copy,
+        ensures { result ≡ record { inner = self; f = f } }
+    {
+        AndThen::new(self, f)
+    }
+
+    /// Changes each response by the closure.
+    final fn map_response<F, Response>(self, f: F) -> MapResponse<Self, F>
+    where
+        Self: Sized,
+        F: Fn(Self::Response) -> Response + Copy,
+        ensures { result ≡ record { inner = self; f = f } }
+    {
+        MapResponse::new(self, f)
+    }
+
+    /// Changes each error by the closure.
+    final fn map_err<F, Error>(self, f: F) -> MapErr<Self, F>
+    where
+        Self: Sized,
+        F: Fn(Self::Error) -> Error + Copy,
+        ensures { result ≡ record { inner = self; f = f } }
+    {
+        MapErr::new(self, f)
+    }
+
+    /// Changes each result by the closure.
+    final fn map_result<F, Response, Error>(self, f: F) -> MapResult<Self, F>
+    where
+        Self: Sized,
+        Error: From<Self::Error>,
+        F: Fn(Result<Self::Response, Self::Error>) -> Result<Response, Error> + Copy,
+        ensures { result ≡ record { inner = self; f = f } }
+    {
+        MapResult::new(self, f)
+    }
+
+    /// Changes each request by the closure.
+    final fn map_request<F, NewRequest>(self, f: F) -> MapRequest<Self, F>
+    where
+        Self: Sized,
+        F: FnMut(NewRequest) -> Request,
+        ensures { result ≡ record { inner = self; f = f } }
+    {
+        MapRequest::new(self, f)
+    }
+
+    /// Goes on from each result with a future that the closure makes of it.
+    final fn then<F, Response, Error, Fut>(self, f: F) -> Then<Self, F>
+    where
+        Self: Sized,
+        Error: From<Self::Error>,
+        F: Fn(Result<Self::Response, Self::Error>) -> Fut + Copy,
+        Fut: Future<Output = Result<Response, Error>>,
+        ensures { result ≡ record { inner = self; f = f } }
+    {
+        Then::new(self, f)
+    }
+
+    /// Changes each future by the closure.
+    final fn map_future<F, Fut, Response, Error>(self, f: F) -> MapFuture<Self, F>
+    where
+        Self: Sized,
+        F: FnMut(Self::Future) -> Fut,
+        Error: From<Self::Error>,
+        Fut: Future<Output = Result<Response, Error>>,
+        ensures { result ≡ record { inner = self; f = f } }
+    {
+        MapFuture::new(self, f)
+    }
+}
+
+impl<T, Request> ServiceExt<Request> for T
+where
+    T: Service<Request>,
+{}
