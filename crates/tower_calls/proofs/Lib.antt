@@ -1,1 +1,3 @@
+pub mod Backwards
 pub mod Bags
+pub mod Orders
