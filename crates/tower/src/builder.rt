@@ -1,16 +1,21 @@
 //! Layers on layers: the Rust's `tower::builder`.
-ghost use Rattle.std.specs.Prelude.{◌≡◌, IfOk, Some, None};
+ghost use Rattle.std.specs.Prelude.{◌≡◌, ◌≢◌, IfOk, Some, None};
 ghost use Rattle.tower_util.specs.declared.util.either.Either.TheVariants.{Left, Right};
 
+use crate::filter::{AsyncFilterLayer, FilterLayer};
 use crate::layer::util::{Identity, Stack};
 use crate::layer::{Layer, LayerFn, layer_fn};
+use crate::limit::{ConcurrencyLimitLayer, RateLimitLayer};
+use crate::load_shed::LoadShedLayer;
+use crate::retry::RetryLayer;
 use crate::timeout::TimeoutLayer;
 use crate::util::{
     AndThenLayer, Either, MapErrLayer, MapFutureLayer, MapRequestLayer, MapResponseLayer,
     MapResultLayer, ServiceFn, ThenLayer, option_layer, service_fn,
 };
-use std::alloc::AllocError;
+use std::alloc::{AllocError, Global};
 use std::marker::Model;
+use std::sync::Wait;
 use tower_base::service::{Clock, Service};
 
 /// Layers, the first of which is outermost: the Rust's `tower::ServiceBuilder`.
@@ -76,6 +81,61 @@ impl<L> ServiceBuilder<L> {
         ensures { result ≡ record { inner = record { duration = duration; clock = clock }; outer = self } }
     {
         self.layer(TimeoutLayer::new(duration, clock))
+    }
+
+    /// Adds a limit on the calls in flight, one for each service that is made.
+    pub fn concurrency_limit<R: Wait + Copy>(
+        self,
+        rt: R,
+        alloc: Global,
+        max: usize,
+    ) -> ServiceBuilder<Stack<ConcurrencyLimitLayer<R>, L>>
+        ensures { result ≡ record { inner = max; outer = self } }
+    {
+        self.layer(ConcurrencyLimitLayer::new(rt, alloc, max))
+    }
+
+    /// Adds a limit of so many calls in so many nanoseconds of the clock. It asks for what
+    /// `Rate::fits` tests.
+    pub fn rate_limit<C: Clock>(
+        self,
+        num: u64,
+        per: u64,
+        clock: C,
+    ) -> ServiceBuilder<Stack<RateLimitLayer<C>, L>>
+        requires num { num ≢ 0 }
+        requires per { per ≢ 0 }
+        ensures { result ≡ record { inner = record { num = num; per = per; clock = clock }; outer = self } }
+    {
+        self.layer(RateLimitLayer::new(num, per, clock))
+    }
+
+    /// Answers `Overloaded` where what is inside isn't ready.
+    pub fn load_shed(self) -> ServiceBuilder<Stack<LoadShedLayer, L>>
+        ensures { result ≡ record { inner = record {}; outer = self } }
+    {
+        self.layer(LoadShedLayer::new())
+    }
+
+    /// Adds retries by clones of the policy.
+    pub fn retry<P>(self, policy: P) -> ServiceBuilder<Stack<RetryLayer<P>, L>>
+        ensures { result ≡ record { inner = policy; outer = self } }
+    {
+        self.layer(RetryLayer::new(policy))
+    }
+
+    /// Lets through the requests that the predicate lets through.
+    pub fn filter<P>(self, predicate: P) -> ServiceBuilder<Stack<FilterLayer<P>, L>>
+        ensures { result ≡ record { inner = predicate; outer = self } }
+    {
+        self.layer(FilterLayer::new(predicate))
+    }
+
+    /// As `filter`, by a predicate that answers later.
+    pub fn filter_async<P>(self, predicate: P) -> ServiceBuilder<Stack<AsyncFilterLayer<P>, L>>
+        ensures { result ≡ record { inner = predicate; outer = self } }
+    {
+        self.layer(AsyncFilterLayer::new(predicate))
     }
 
     /// Adds a closure over the requests.

@@ -3,6 +3,9 @@
 mod ext;
 
 pub use ext::ServiceExt;
+pub use tower_base::util::rng;
+pub use tower_calls::util::call_all;
+pub use tower_calls::util::call_all::{CallAll, CallAllUnordered};
 pub use tower_util::util::{
     AndThen, AndThenLayer, Either, FutureService, MapErr, MapErrLayer, MapFuture, MapFutureLayer,
     MapRequest, MapRequestLayer, MapResponse, MapResponseLayer, MapResult, MapResultLayer, Oneshot,

@@ -1,13 +1,16 @@
 //! Methods of each service.
-ghost use Rattle.std.specs.Prelude.{◌≡◌, Some};
+ghost use Rattle.std.specs.Prelude.{◌≡◌, Some, None};
+ghost use Rattle.tower_calls.specs.Calling.{Opens};
 ghost use Rattle.tower_util.specs.declared.util.oneshot.State.TheVariants.{NotReady};
 
+use crate::filter::{AsyncFilter, AsyncPredicate, Filter, Predicate};
 use crate::util::{
-    AndThen, MapErr, MapFuture, MapRequest, MapResponse, MapResult, Oneshot, Ready, ReadyOneshot,
-    Then,
+    AndThen, CallAll, MapErr, MapFuture, MapRequest, MapResponse, MapResult, Oneshot, Ready,
+    ReadyOneshot, Then,
 };
 use futures::future::Future;
-use tower_base::service::Service;
+use std::alloc::Global;
+use tower_base::service::{Flow, Service};
 
 /// Methods that each service has: the Rust's `tower::ServiceExt`.
 pub trait ServiceExt<Request>: Service<Request> {
@@ -36,6 +39,40 @@ pub trait ServiceExt<Request>: Service<Request> {
         ensures { result.state ≡ NotReady self request }
     {
         Oneshot::new(self, request)
+    }
+
+    /// Calls the service with each request of the stream, and yields the answers in their order.
+    final fn call_all<Q>(
+        self,
+        alloc: Global,
+        requests: Q,
+    ) -> CallAll<Self, Q, Self::Future, Result<Self::Response, Self::Error>, Request>
+    where
+        Self: Sized,
+        Q: Flow<Item = Request>,
+        ensures { Opens (Some self) requests None result }
+    {
+        CallAll::new(alloc, self, requests)
+    }
+
+    /// Lets through the requests that the predicate lets through.
+    final fn filter<F, NewRequest>(self, predicate: F) -> Filter<Self, F>
+    where
+        Self: Sized,
+        F: Predicate<NewRequest, Request = Request>,
+        ensures { result ≡ record { inner = self; predicate = predicate } }
+    {
+        Filter::new(self, predicate)
+    }
+
+    /// As `filter`, by a predicate that answers later.
+    final fn filter_async<F, NewRequest>(self, predicate: F) -> AsyncFilter<Self, F>
+    where
+        Self: Sized,
+        F: AsyncPredicate<NewRequest, Request = Request>,
+        ensures { result ≡ record { inner = self; predicate = predicate } }
+    {
+        AsyncFilter::new(self, predicate)
     }
 
     /// Goes on from each response with a future that the closure makes of it.
