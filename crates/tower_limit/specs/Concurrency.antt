@@ -32,10 +32,10 @@ pub record Limited (S L : Type 0) : Type 0 where
   pub asking : Asking L
   pub permit : Option (Held L)
 
--- its response future
+-- its response future, which holds the permit of its call
 pub record InFlight (F L : Type 0) : Type 0 where
   pub response : F
-  pub permit : Held L
+  pub permit : Option (Held L)
 
 -- the step that asks for a permit, where this key waits
 abbrev pub step_of : Option ℕ → LineStep
@@ -140,7 +140,8 @@ module _ {L S Q A E F : Type 0} (s : ServiceOf S Q A E F) where
   pub record Called (old : Limited S L) (request : Q) (future : InFlight F L) (new : Limited S L) : Type 0 where
     pub ready : s.ready old.inner
     pub came : s.called old.inner request future.response new.inner
-    pub moved : old.permit ≡ Some future.permit
+    pub held : IsSome old.permit
+    pub moved : future.permit ≡ old.permit
     pub left : new.permit ≡ None
     pub same : new.asking ≡ old.asking
 

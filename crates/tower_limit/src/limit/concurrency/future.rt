@@ -16,7 +16,7 @@ use tower_base::service::Steps;
 #[derive(Drop)]
 pub struct ResponseFuture<F, L: Latch<LineCore>> {
     response: F,
-    permit: Permit<L>,
+    permit: Option<Permit<L>>,
 }
 
 impl<F, L: Latch<LineCore>> Model for ResponseFuture<F, L> {
@@ -26,7 +26,7 @@ impl<F, L: Latch<LineCore>> Model for ResponseFuture<F, L> {
 }
 
 impl<F, L: Latch<LineCore>> ResponseFuture<F, L> {
-    pub(crate) fn new(response: F, permit: Permit<L>) -> ResponseFuture<F, L>
+    pub(crate) fn new(response: F, permit: Option<Permit<L>>) -> ResponseFuture<F, L>
         ensures { result ≡ record { response = response; permit = permit } }
     {
         ResponseFuture { response, permit }

@@ -86,8 +86,7 @@ impl<Request, S: Service<Request>, L: Latch<LineCore>> Service<Request> for Conc
     }
 
     fn call(&mut self, request: Request) -> Self::Future {
-        let permit = self.permit.take().unwrap();
-        ResponseFuture::new(self.inner.call(request), permit)
+        ResponseFuture::new(self.inner.call(request), self.permit.take())
     }
 }
 

@@ -1,0 +1,11 @@
+//! Tests of `tower_limit::limit::concurrency`.
+#![tactic(auto)]
+
+#[cfg(test)]
+mod fixtures;
+#[cfg(test)]
+mod permits;
+#[cfg(test)]
+mod refused;
+#[cfg(test)]
+mod threads;
