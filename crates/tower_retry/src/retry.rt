@@ -3,6 +3,7 @@ ghost use Rattle.std.specs.Prelude.{◌≡◌};
 ghost use Rattle.tower_retry.specs.Retry.{Calls, Polled, Retries, poll_of-ok};
 
 pub mod backoff;
+pub mod budget;
 mod error;
 pub mod future;
 mod layer;

@@ -1,0 +1,29 @@
+//! How many requests may be made again: the Rust's `tower::retry::budget`.
+ghost use Rattle.std.specs.Prelude.{Bool};
+
+mod laws;
+mod ledger;
+mod steps;
+pub mod tps_budget;
+
+pub use laws::law;
+pub use ledger::BudgetCore;
+pub use steps::{Amount, BudgetReply, BudgetStep, Terms};
+pub use tps_budget::TpsBudget;
+
+/// What retries are paid from. (The Rust takes `&self`; here a clock is read.)
+pub trait Budget: Drop {
+    // A deposit may leave the second value.
+    ghost deposited: { Self → Self → Type 0 };
+
+    // A withdrawal may have this answer and leave the second value.
+    ghost withdrew: { Self → Bool → Self → Type 0 };
+
+    /// After a request that needs no retry.
+    fn deposit(&mut self)
+        ensures { deposited self.old self.new };
+
+    /// Before a retry, which may be made where the answer is true.
+    fn withdraw(&mut self) -> bool
+        ensures { withdrew self.old result self.new };
+}

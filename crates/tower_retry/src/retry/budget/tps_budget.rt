@@ -1,0 +1,107 @@
+//! A budget over a clock.
+ghost use Rattle.std.specs.Prelude.{◌≡◌, IfOk, IsTrue, ◌↔◌};
+ghost use Rattle.tower_retry.specs.Budget.{Fits};
+ghost use Rattle.tower_retry.specs.TpsBudget.{Budgets, Deposited, Withdrew, Copies};
+
+use crate::retry::budget::{Budget, BudgetCore, BudgetReply, BudgetStep};
+use std::alloc::{AllocError, Global};
+use std::marker::Model;
+use std::sync::Wait;
+use tower_base::latch::{Guarded, Latch};
+use tower_base::service::{Clock, Fraction};
+
+/// Some retries a second, and some part of the requests beside: the Rust's
+/// `tower::retry::budget::TpsBudget`. Its clones share one core.
+#[derive(Drop)]
+pub struct TpsBudget<L: Latch<BudgetCore>, C> {
+    latch: L,
+    clock: C,
+}
+
+impl<L: Latch<BudgetCore>, C> Model for TpsBudget<L, C> {
+    ghost Value = { Budgets L C };
+
+    ghost view = { λ b. record { latch = b.latch; clock = b.clock } };
+}
+
+impl<R: Wait + Copy + Send + Sync, C: Clock> TpsBudget<Guarded<BudgetCore, R>, C> {
+    /// A deposit counts for `ttl` nanoseconds. There are always `min_per_sec` retries a second, and
+    /// beside them the fraction of the requests. The clock is read once.
+    pub fn new(
+        rt: R,
+        alloc: Global,
+        ttl: u64,
+        min_per_sec: u32,
+        retries: Fraction,
+        mut clock: C,
+    ) -> Result<Self, AllocError>
+        requires { Fits ttl min_per_sec retries }
+        ensures { IfOk result (λ budget. C.read clock budget.clock) }
+    {
+        let core = BudgetCore::new(alloc, ttl, min_per_sec, retries, clock.now())?;
+        let latch = Guarded::new(rt, alloc, core)?;
+        Ok(TpsBudget { latch, clock })
+    }
+
+    /// Ten seconds, ten a second and one in five: the Rust's `default`.
+    pub fn with_clock(rt: R, alloc: Global, clock: C) -> Result<Self, AllocError>
+        ensures { IfOk result (λ budget. C.read clock budget.clock) }
+    {
+        TpsBudget::new(rt, alloc, 10_000_000_000, 10, Fraction::new(1, 5), clock)
+    }
+
+    /// The ranges that `new` asks for: 1 to 60 seconds, below 2147483647 a second, and a fraction of
+    /// 1000 at most.
+    pub fn fits(ttl: u64, min_per_sec: u32, retries: Fraction) -> bool
+        ensures { IsTrue result ↔ Fits ttl min_per_sec retries }
+    {
+        ttl >= 1_000_000_000
+            && ttl <= 60_000_000_000
+            && min_per_sec < 2147483647
+            && retries.numerator as u64 <= 1000 * retries.divisor as u64
+    }
+}
+
+impl<L: Latch<BudgetCore>, C: Clock> TpsBudget<L, C> {
+    /// A budget over a latch of the caller's. It makes no reading.
+    pub fn with_latch(latch: L, clock: C) -> TpsBudget<L, C>
+        ensures { result ≡ record { latch = latch; clock = clock } }
+    {
+        TpsBudget { latch, clock }
+    }
+}
+
+impl<L: Latch<BudgetCore>, C: Clock> Budget for TpsBudget<L, C> {
+    ghost deposited = { Deposited L.gave C.Clock };
+
+    ghost withdrew = { Withdrew L.gave C.Clock };
+
+    fn deposit(&mut self) {
+        let moment = self.clock.now();
+        match self.latch.step(BudgetStep::Deposit(moment)) {
+            BudgetReply::Done => {}
+            BudgetReply::Allowed(_) => unreachable!(),
+        }
+    }
+
+    fn withdraw(&mut self) -> bool {
+        let moment = self.clock.now();
+        match self.latch.step(BudgetStep::Withdraw(moment)) {
+            BudgetReply::Allowed(allowed) => allowed,
+            BudgetReply::Done => unreachable!(),
+        }
+    }
+}
+
+/// A clone shares the core and the clock.
+impl<L: Latch<BudgetCore>, C: Clock> Clone for TpsBudget<L, C> {
+    ghost is_clone = { Copies L.gave C.Clock };
+
+    fn clone(&self) -> Result<TpsBudget<L, C>, AllocError> {
+        let latch = self.latch.share()?;
+        Ok(TpsBudget {
+            latch,
+            clock: self.clock.share(),
+        })
+    }
+}
