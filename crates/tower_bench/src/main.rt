@@ -2,6 +2,9 @@
 #![tactic(auto)]
 
 mod inner;
+mod lines;
+mod maps;
+mod retries;
 mod rounds;
 mod stacks;
 

@@ -1,0 +1,57 @@
+//! A middleware of one's own: it counts the calls.
+ghost use Rattle.std.specs.Prelude.{◌≡◌};
+ghost use Rattle.example_own_layer.specs.Counting.{Counting, Polled, Called};
+
+use futures::task::{Context, Poll};
+use std::marker::Model;
+use tower::Service;
+
+/// Counts the calls of its service.
+#[derive(Drop)]
+pub struct Counted<S> {
+    inner: S,
+    calls: u64,
+}
+
+// What contracts see of it.
+impl<S> Model for Counted<S> {
+    ghost Value = { Counting S };
+
+    ghost view = { λ c. record { inner = c.inner; calls = c.calls } };
+}
+
+impl<S> Counted<S> {
+    pub fn new(inner: S) -> Counted<S>
+        ensures { result ≡ record { inner = inner; calls = 0 } }
+    {
+        Counted { inner, calls: 0 }
+    }
+}
+
+// What it means: each line is a word of specs/, and the check proves that the code does so.
+impl<Request, S: Service<Request>> Service<Request> for Counted<S> {
+    type Response = S::Response;
+
+    type Error = S::Error;
+
+    type Future = S::Future;
+
+    ghost sound = { λ c. S.sound c.inner };
+
+    ghost ready = { λ c. S.ready c.inner };
+
+    ghost polled = { Polled S.Service };
+
+    ghost called = { Called S.Service };
+
+    ghost readies = { λ old new p. S.readies old.inner new.inner p.came };
+
+    fn poll_ready(&mut self, cx: &mut Context<'_>) -> Poll<Result<(), S::Error>> {
+        self.inner.poll_ready(cx)
+    }
+
+    fn call(&mut self, request: Request) -> S::Future {
+        self.calls = self.calls.saturating_add(1);
+        self.inner.call(request)
+    }
+}
