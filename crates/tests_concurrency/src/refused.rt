@@ -1,14 +1,18 @@
-use crate::fixtures::{Echo, ask};
-use futures::task::Poll;
+use crate::fixtures::{Broken, Echo, ask, is_ok, is_pending};
+use futures::task::{Context, Poll};
 use futures::test::MockTask;
 use std::alloc::{AllocError, AllocGlobal, Global};
 use std::io;
 use std::random::RandomSource;
-use std::sync::Wait;
+use std::sync::atomic::{AtomicU64, Ordering};
+use std::sync::{Arc, Wait};
 use std::test::Fail;
 use tower_base::latch::{Guarded, Latch};
+use tower_base::layer::Layer;
 use tower_base::service::Service;
-use tower_limit::limit::concurrency::{ConcurrencyLimit, Error, LineCore, Semaphore};
+use tower_limit::limit::concurrency::{
+    ConcurrencyLimit, Error, GlobalConcurrencyLimitLayer, LineCore, LineReply, LineStep, Semaphore,
+};
 
 // These tests pass whichever one allocation is refused (`refused_memory.sh` refuses each in turn): a
 // refused call says so, leaves the line as it was, and is made again.
@@ -116,5 +120,71 @@ fn refused_growths_leave_the_response(rt: HostRuntime) -> Result<(), Fail> {
     assert!(rt; waits(&task, &semaphore, &mut other)?);
     drop(response);
     assert!(rt; !waits(&task, &semaphore, &mut other)?);
+    Ok(())
+}
+
+// A latch that has no memory for a share while its flag is up.
+#[derive(Drop)]
+struct Refusing<L: Latch<LineCore>> {
+    inner: L,
+    flag: Arc<AtomicU64, Global>,
+}
+
+impl<L: Latch<LineCore>> Latch<LineCore> for Refusing<L> {
+    ghost gave = { λ latch step reply. L.gave latch.inner step reply };
+
+    ghost honest = { λ latch step reply given. L.honest latch.inner step reply given };
+
+    fn step(&self, step: LineStep) -> LineReply {
+        self.inner.step(step)
+    }
+
+    fn wait(&self, step: LineStep, cx: &mut Context<'_>) -> LineReply {
+        self.inner.wait(step, cx)
+    }
+
+    fn share(&self) -> Result<Refusing<L>, AllocError> {
+        if self.flag.load(Ordering::SeqCst) == 1 {
+            return Err(AllocError);
+        }
+        let inner = self.inner.share()?;
+        let flag = Arc::try_clone(&self.flag)?;
+        Ok(Refusing { inner, flag })
+    }
+}
+
+fn is_refused<T: Drop>(answer: &Poll<Result<T, Error<Broken>>>) -> bool {
+    matches!(answer, Poll::Ready(Err(Error::Memory)))
+}
+
+#[test]
+fn refused_shares_leave_the_line(rt: HostRuntime) -> Result<(), Fail> {
+    let alloc = rt.alloc();
+    let flag = Arc::new(alloc, AtomicU64::new(0))?;
+    let latch = Refusing {
+        inner: Guarded::new(rt, alloc, LineCore::new(alloc, 1))?,
+        flag: Arc::try_clone(&flag)?,
+    };
+    let semaphore = Semaphore::with_latch(latch, 1);
+    let layer = GlobalConcurrencyLimitLayer::with_semaphore(semaphore.share()?);
+    let mut first = layer.layer(Echo(0))?;
+    let mut second = first.clone()?;
+    let task = MockTask::new(&rt)?;
+    flag.store(1, Ordering::SeqCst);
+    assert!(rt; is_refused(&task.enter(|cx| first.poll_ready(cx))));
+    assert!(rt; first.clone().is_err() && layer.clone().is_err());
+    assert!(rt; layer.layer(Echo(0)).is_err() && semaphore.share().is_err());
+    assert_eq!(rt; semaphore.available_permits(), 1);
+    flag.store(0, Ordering::SeqCst);
+    assert!(rt; is_ok(&task.enter(|cx| first.poll_ready(cx))));
+    assert!(rt; is_pending(&task.enter(|cx| second.poll_ready(cx))));
+    flag.store(1, Ordering::SeqCst);
+    // one that holds its permit asks for none, and one that waits keeps its place
+    assert!(rt; is_ok(&task.enter(|cx| first.poll_ready(cx))));
+    assert!(rt; is_refused(&task.enter(|cx| second.poll_ready(cx))));
+    drop(first);
+    assert_eq!(rt; semaphore.available_permits(), 0);
+    flag.store(0, Ordering::SeqCst);
+    assert!(rt; is_ok(&task.enter(|cx| second.poll_ready(cx))));
     Ok(())
 }
