@@ -1,10 +1,11 @@
 //! An `AsyncFilter` over a `ConcurrencyLimit`.
-ghost use Rattle.std.specs.Prelude.{⊤, IfSome};
+ghost use Rattle.std.specs.Prelude.{⊤};
 
 use futures::future::{Future, Ready, ok};
-use futures::task::{Context, Doorbell, Poll, Solo};
+use futures::task::{Context, Poll};
 use futures::test::MockTask;
-use std::alloc::AllocError;
+use std::alloc::{AllocError, Global};
+use std::sync::Wait;
 use std::test::Fail;
 use tower_base::service::{Service, Steps};
 use tower_limit::limit::ConcurrencyLimit;
@@ -71,32 +72,48 @@ impl Steps for Second {
     }
 }
 
-// Whether a poll answers `Ok`, of any service.
-fn is_ready<S: Service<u8>>(solo: &Solo, service: &mut S) -> bool
-    requires { S.sound service.old }
-    ensures { S.sound service.new }
-{
-    let mut cx = solo.begin();
-    let answer = service.poll_ready(&mut cx);
-    cx.end(&answer);
-    match answer {
-        Poll::Ready(Ok(())) => true,
-        _ => false,
-    }
+// What came of the response's two polls, and whether the filter was ready beside them.
+#[derive(Drop)]
+struct Told {
+    ready_beside: bool,
+    answer: Option<(u8, u8)>,
+    ready_after: bool,
+    ready_at_last: bool,
 }
 
-// A poll of readiness, and a call where it answers `Ok`, of any service.
-fn called<S: Service<u8>>(solo: &Solo, service: &mut S, request: u8) -> Option<S::Future>
-    requires { S.sound service.old }
-    ensures future { IfSome result S.Future.can_poll }
-    ensures sound { S.sound service.new }
-{
-    let mut cx = solo.begin();
-    let answer = service.poll_ready(&mut cx);
-    cx.end(&answer);
-    match answer {
-        Poll::Ready(Ok(())) => Some(service.call(request)),
-        _ => None,
+// A poll, a call, a poll of the response; a poll, and a poll of the response; a poll before and one after the response's drop.
+fn story<R: Wait + Copy>(
+    rt: R,
+    alloc: Global,
+    cx: &mut Context<'_>,
+) -> Result<Option<Told>, AllocError> {
+    let limit = ConcurrencyLimit::new(rt, alloc, Numbered(1), 1)?;
+    let predicate = AsyncPredicateFn::new(|request: u8| Second { request, polls: 0 });
+    let mut filter = AsyncFilter::new(limit, predicate);
+    match filter.poll_ready(cx) {
+        Poll::Ready(Ok(())) => {
+            let mut response = filter.call(7);
+            match response.poll(cx) {
+                Poll::Ready(_) => Ok(None),
+                Poll::Pending => {
+                    let ready_beside = filter.poll_ready(cx).is_ready();
+                    let answer = match response.poll(cx) {
+                        Poll::Ready(Ok(pair)) => Some(pair),
+                        _ => None,
+                    };
+                    let ready_after = filter.poll_ready(cx).is_ready();
+                    drop(response);
+                    let ready_at_last = filter.poll_ready(cx).is_ready();
+                    Ok(Some(Told {
+                        ready_beside,
+                        answer,
+                        ready_after,
+                        ready_at_last,
+                    }))
+                }
+            }
+        }
+        _ => Ok(None),
     }
 }
 
@@ -104,16 +121,12 @@ fn called<S: Service<u8>>(solo: &Solo, service: &mut S, request: u8) -> Option<S
 fn polled_service_keeps_its_permit_while_the_check_waits(rt: HostRuntime) -> Result<(), Fail> {
     let alloc = rt.alloc();
     let task = MockTask::new(&rt)?;
-    let solo = Solo::new(&rt, Doorbell::spinning())?;
-    let limit = ConcurrencyLimit::new(&rt, alloc, Numbered(1), 1)?;
-    let predicate = AsyncPredicateFn::new(|request: u8| Second { request, polls: 0 });
-    let mut filter = AsyncFilter::new(limit, predicate);
-    let mut response = called(&solo, &mut filter, 7).ok_or("not ready")?;
-    assert!(rt; task.poll(&mut response).is_pending());
-    assert!(rt; !is_ready(&solo, &mut filter));
-    assert_eq!(rt; task.poll(&mut response), Poll::Ready(Ok((1, 7))));
-    assert!(rt; !is_ready(&solo, &mut filter));
-    drop(response);
-    assert!(rt; is_ready(&solo, &mut filter));
+    let told = task
+        .enter(|cx: &mut Context<'_>| story(&rt, alloc, cx))?
+        .ok_or("not ready")?;
+    assert!(rt; !told.ready_beside);
+    assert_eq!(rt; told.answer, Some((1, 7)));
+    assert!(rt; !told.ready_after);
+    assert!(rt; told.ready_at_last);
     Ok(())
 }
