@@ -5,7 +5,7 @@ use futures::future::{Future, Ready, ok};
 use futures::task::{Context, Poll};
 use std::cell::Cell;
 use std::convert::Infallible;
-use tower_base::service::{Clock, Service, Steps};
+use tower::service::{Clock, Service, Steps};
 
 /// Answers each request by itself.
 #[derive(Clone, Debug, Drop)]

@@ -2,7 +2,7 @@
 
 use futures::task::{Context, Poll};
 use std::cell::Cell;
-use tower_base::service::{Service, Steps};
+use tower::service::{Service, Steps};
 
 /// So many rounds of a poll of readiness, a call, and one poll of the response. The clock goes on by
 /// `tick` each round. It answers the sum of the responses, on which each request depends, so that no round
