@@ -8,8 +8,6 @@ pub mod future;
 mod oneshot;
 mod optional;
 mod ready;
-#[cfg(test)]
-mod tests;
 
 pub use awaited::{FutureService, future_service};
 pub use closure_service::{ServiceFn, service_fn};

@@ -1,16 +1,17 @@
 //! What the tests stand on.
-ghost use Rattle.std.specs.Prelude.{◌≡◌, IsSome, Some, IfSome, Ok};
+ghost use Rattle.std.specs.Prelude.{◌≡◌, IsSome, Some};
 ghost use Rattle.futures.specs.Poll.{IfReady, OnPending};
 
-use crate::util::Oneshot;
 use futures::executor::block_on;
 use futures::future::Future;
 use futures::task::{Context, Poll};
-use std::alloc::AllocGlobal;
+use std::alloc::{AllocError, AllocGlobal};
 use std::io;
 use std::random::RandomSource;
 use std::sync::Wait;
-use tower_base::service::{Service, Steps};
+use tower::Service;
+use tower::util::Oneshot;
+use tower_base::service::{Clock, Steps};
 
 /// An answer that is there after so many pending polls.
 #[derive(Drop)]
@@ -142,4 +143,57 @@ where
     requires { S.sound service }
 {
     block_on(rt, Oneshot::new(service, request))
+}
+
+/// The answers of two polls, where the first is pending.
+pub fn second_poll<F>(mut future: F, cx: &mut Context<'_>) -> Option<Poll<Result<u8, u8>>>
+where
+    F: Future<Output = Result<u8, u8>>,
+    requires { F.can_poll future }
+{
+    match future.poll(cx) {
+        Poll::Pending => Some(future.poll(cx)),
+        Poll::Ready(_) => None,
+    }
+}
+
+/// The answers of two polls of readiness.
+pub fn asked_twice<Request, S: Service<Request>>(
+    mut service: S,
+    cx: &mut Context<'_>,
+) -> (Poll<Result<(), S::Error>>, Poll<Result<(), S::Error>>)
+    requires { S.sound service }
+{
+    let first = service.poll_ready(cx);
+    (first, service.poll_ready(cx))
+}
+
+/// What can't be cloned for want of memory.
+#[derive(Drop)]
+pub struct Refuses;
+
+impl Clone for Refuses {
+    fn clone(&self) -> Result<Refuses, AllocError> {
+        Err(AllocError)
+    }
+}
+
+/// A clock that stands still.
+#[derive(Drop)]
+pub struct Still(pub u64);
+
+impl Clock for Still {
+    ghost reading = { λ c. c.0 };
+
+    ghost read = { λ old new. new ≡ old };
+
+    ghost shared = { λ clock other. other ≡ clock };
+
+    fn now(&mut self) -> u64 {
+        self.0
+    }
+
+    fn share(&self) -> Still {
+        Still(self.0)
+    }
 }
