@@ -1,4 +1,5 @@
 //! The stacks that are measured.
+ghost use Rattle.std.specs.Prelude.{◌≢◌};
 
 use crate::inner::{Answer, Echo, EchoMaker, Hand};
 use crate::lines::LineBench;
