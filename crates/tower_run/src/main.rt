@@ -3,6 +3,7 @@
 
 mod fault;
 mod program;
+mod refusal;
 mod script;
 mod scripted;
 mod stacks;

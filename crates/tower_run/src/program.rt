@@ -8,18 +8,19 @@ use std::alloc::{AllocGlobal, Global};
 use std::env;
 use std::io::{ErrorKind, Read, Write};
 use std::rt::Env;
+use std::sync::Wait;
 
 /// The program: `words` are the arguments after its name. It answers the status.
 ///
 /// The whole script is read before anything runs, and the whole output is built before the first write.
 pub fn run<H, R, O, E>(rt: &H, words: &[String], reader: R, out: O, err: E) -> u8
 where
-    H: AllocGlobal,
+    H: Wait + AllocGlobal,
     R: Read + Drop,
     O: Write + Drop,
     E: Write + Drop,
 {
-    match play(rt.alloc(), words, reader).and_then(|text| write(out, text.as_str())) {
+    match play(rt, words, reader).and_then(|text| write(out, text.as_str())) {
         Ok(()) => 0,
         Err(fault) => report(fault, err),
     }
@@ -31,14 +32,18 @@ pub fn report<E: Write + Drop>(fault: Fault, mut err: E) -> u8 {
     fault.status()
 }
 
-fn play<R: Read + Drop>(alloc: Global, words: &[String], reader: R) -> Result<String, Fault> {
+fn play<H, R>(rt: &H, words: &[String], reader: R) -> Result<String, Fault>
+where
+    H: Wait + AllocGlobal,
+    R: Read + Drop,
+{
     let [name] = words else {
         return Err(Fault::Usage);
     };
     let stack = Stack::named(name.as_str()).ok_or(Fault::Usage)?;
-    let script = read(alloc, reader)?;
-    let commands = script::parse(alloc, &script)?;
-    stack.play(alloc, commands).map_err(|_| Fault::Memory)
+    let script = read(rt.alloc(), reader)?;
+    let commands = script::parse(rt.alloc(), &script)?;
+    stack.play(rt, commands).map_err(|_| Fault::Memory)
 }
 
 // The whole script. It reads no byte after the first one that is too many.

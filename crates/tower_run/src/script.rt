@@ -55,20 +55,12 @@ pub fn parse(alloc: Global, script: &[u8]) -> Result<Vec<Command<'_>>, Fault> {
         if number > MAX_LINES {
             return Err(Fault::BadLine(number));
         }
-        let Some(command) = read_command(line).filter(is_known) else {
+        let Some(command) = read_command(line) else {
             return Err(Fault::BadLine(number));
         };
         commands.push(command).map_err(|_| Fault::Memory)?;
     }
     Ok(commands)
-}
-
-// The lines that the stacks know so far.
-fn is_known(command: &Command<'_>) -> bool {
-    !matches!(
-        command,
-        Event::Turn(Turn::Allow(_) | Turn::Answer(_, Err(_))) | Event::Drop(_)
-    )
 }
 
 // The command that this line is.

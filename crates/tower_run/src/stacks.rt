@@ -1,21 +1,36 @@
 //! The stacks that a script can drive.
+ghost use Rattle.std.specs.Prelude.{◌≡◌, false};
 
+use crate::refusal::Refusal;
 use crate::script::{Command, Word};
 use crate::scripted::{Scripted, Stage};
 use crate::transcript;
 use futures::task::{Doorbell, Solo};
-use std::alloc::{AllocError, Global};
-use std::fmt::Display;
+use std::alloc::{AllocError, AllocGlobal, Global};
 use std::io;
 use std::random::RandomSource;
+use std::sync::Wait;
+use tower::ServiceBuilder;
 use tower_base::drive::{Event, drive};
-use tower_base::service::Service;
+use tower_base::service::{Clock, Service};
+use tower_limit::limit::rate::Rate;
+use tower_limit::limit::{ConcurrencyLimit, ConcurrencyLimitLayer, RateLimit, RateLimitLayer};
+use tower_ware::load_shed::{LoadShed, LoadShedLayer};
 use tower_ware::timeout::Timeout;
 
 /// A stack of services over the scripted one.
 #[derive(Clone, Copy)]
 pub enum Stack {
+    /// A response may take 10 nanoseconds.
     Timeout,
+    /// Two calls in each 10 nanoseconds.
+    Rate,
+    /// One call in flight.
+    Limit,
+    /// A call that isn't ready is refused.
+    Shed,
+    /// All of them: the time outermost, then the refusal, the calls in flight, and the rate.
+    All,
 }
 
 impl Stack {
@@ -23,26 +38,118 @@ impl Stack {
     pub fn named(name: &str) -> Option<Stack> {
         match name.as_bytes() {
             b"timeout" => Some(Stack::Timeout),
+            b"rate" => Some(Stack::Rate),
+            b"limit" => Some(Stack::Limit),
+            b"shed" => Some(Stack::Shed),
+            b"all" => Some(Stack::All),
             _ => None,
         }
     }
 
     /// Runs the commands, and gives the whole transcript.
-    pub fn play(self, alloc: Global, commands: Vec<Command<'_>>) -> Result<String, AllocError> {
+    pub fn play<R: Wait + AllocGlobal + Copy>(
+        self,
+        rt: R,
+        commands: Vec<Command<'_>>,
+    ) -> Result<String, AllocError> {
+        let alloc = rt.alloc();
         let calls = commands
             .iter()
             .filter(|command| matches!(command, Event::Call(_)));
         let stage = Stage::new(alloc, calls.count())?;
-        let inner = Scripted::new(&stage);
         match self {
-            Stack::Timeout => perform(
+            Stack::Timeout => timed(alloc, &stage, commands),
+            Stack::Rate => rated(alloc, &stage, commands),
+            Stack::Limit => limited(rt, alloc, &stage, commands),
+            Stack::Shed => perform(
                 alloc,
                 &stage,
-                Timeout::new(inner, 10, stage.clock()),
+                LoadShed::new(Scripted::new(&stage)),
+                commands,
+            ),
+            Stack::All => layered(
+                rt,
+                alloc,
+                &stage,
+                Scripted::new(&stage),
+                stage.clock(),
                 commands,
             ),
         }
     }
+}
+
+// Under `Timeout` 10.
+fn timed<'a>(
+    alloc: Global,
+    stage: &Stage<'a>,
+    commands: Vec<Command<'a>>,
+) -> Result<String, AllocError> {
+    let service = Timeout::new(Scripted::new(stage), 10, stage.clock());
+    perform(alloc, stage, service, commands)
+}
+
+// Under `RateLimit` 2 per 10.
+fn rated<'a>(
+    alloc: Global,
+    stage: &Stage<'a>,
+    commands: Vec<Command<'a>>,
+) -> Result<String, AllocError> {
+    let service = RateLimit::new(Scripted::new(stage), Rate::new(2, 10), stage.clock());
+    perform(alloc, stage, service, commands)
+}
+
+// Under `ConcurrencyLimit` 1.
+fn limited<'a, R: Wait + Copy>(
+    rt: R,
+    alloc: Global,
+    stage: &Stage<'a>,
+    commands: Vec<Command<'a>>,
+) -> Result<String, AllocError> {
+    let service = ConcurrencyLimit::new(rt, alloc, Scripted::new(stage), 1)?;
+    perform(alloc, stage, service, commands)
+}
+
+// Under all four, the time outermost and the rate innermost.
+fn layered<'a, R, S, C>(
+    rt: R,
+    alloc: Global,
+    stage: &Stage<'a>,
+    inner: S,
+    clock: C,
+    commands: Vec<Command<'a>>,
+) -> Result<String, AllocError>
+where
+    R: Wait + Copy,
+    S: Service<Word<'a>, Response = Word<'a>>,
+    S::Error: Refusal,
+    C: Clock,
+    requires { S.sound inner }
+{
+    let layers = ServiceBuilder::new()
+        .timeout(10, clock.share())
+        .layer(LoadShedLayer::new())
+        .layer(ConcurrencyLimitLayer::new(rt, alloc, 1))
+        .layer(RateLimitLayer::new(2, 10, clock));
+    let service = layers.service(inner)?;
+    shed_in_time(alloc, stage, service, commands)
+}
+
+// As `perform`, for a service under the refusal and the time. (At all four at once the check gives up.)
+fn shed_in_time<'a, S, C>(
+    alloc: Global,
+    stage: &Stage<'a>,
+    service: Timeout<LoadShed<S>, C>,
+    commands: Vec<Command<'a>>,
+) -> Result<String, AllocError>
+where
+    S: Service<Word<'a>, Response = Word<'a>>,
+    S::Error: Refusal,
+    C: Clock,
+    requires sound { S.sound service.inner.inner }
+    requires idle { service.inner.is_ready ≡ false }
+{
+    perform(alloc, stage, service, commands)
 }
 
 // Drives the service by the commands, and prints what came of it.
@@ -54,7 +161,7 @@ fn perform<'a, S>(
 ) -> Result<String, AllocError>
 where
     S: Service<Word<'a>, Response = Word<'a>>,
-    S::Error: Display,
+    S::Error: Refusal,
     requires { S.sound service }
 {
     let solo = Solo::new(&(Unnamed, alloc), Doorbell::spinning()).map_err(|_| AllocError)?;

@@ -4,9 +4,8 @@ use std::alloc::AllocGlobal;
 use std::io;
 use std::io::{ErrorKind, Read, Write};
 use std::process::Abort;
+use std::sync::Wait;
 use std::test::Fail;
-
-const TIMEOUT: &[u8] = b"poll\ncall a\nat 9\nfut 0\nat 10\nfut 0\n";
 
 // A reader that gives at most so many bytes a call, and fails at a call.
 #[derive(Drop)]
@@ -103,7 +102,7 @@ fn words(rt: &impl AllocGlobal, words: &[&str]) -> Result<Vec<String>, Fail> {
 
 // A run with these words and this script has this status, output and fault.
 fn check(
-    rt: &(impl Abort + AllocGlobal),
+    rt: &(impl Abort + Wait + AllocGlobal),
     named: &[&str],
     reader: Feed<'_>,
     status: u8,
@@ -118,37 +117,196 @@ fn check(
     Ok(())
 }
 
-fn check_printed(rt: &(impl Abort + AllocGlobal), script: &[u8], out: &[u8]) -> Result<(), Fail> {
+fn check_printed(
+    rt: &(impl Abort + Wait + AllocGlobal),
+    script: &[u8],
+    out: &[u8],
+) -> Result<(), Fail> {
     check(rt, &["timeout"], Feed::new(script), 0, out, b"")
 }
 
+// Each line of the script prints the one beside it.
+fn check_lines(
+    rt: &(impl Abort + Wait + AllocGlobal),
+    stack: &str,
+    lines: &[(&str, &str)],
+    last: &str,
+) -> Result<(), Fail> {
+    let (mut script, mut out) = (String::new(rt.alloc()), String::new(rt.alloc()));
+    for (line, printed) in lines {
+        writeln!(script, "{line}")?;
+        writeln!(out, "{printed}")?;
+    }
+    out.push_str(last)?;
+    check(
+        rt,
+        &[stack],
+        Feed::new(script.as_bytes()),
+        0,
+        out.as_bytes(),
+        b"",
+    )
+}
+
 // The script's first bad line is this one.
-fn check_bad(rt: &(impl Abort + AllocGlobal), script: &[u8], line: usize) -> Result<(), Fail> {
+fn check_bad(
+    rt: &(impl Abort + Wait + AllocGlobal),
+    script: &[u8],
+    line: usize,
+) -> Result<(), Fail> {
     let text = format!(in rt.alloc(); "line {line}: bad line\n")?;
     check(rt, &["timeout"], Feed::new(script), 2, b"", text.as_bytes())
 }
 
 #[test]
 fn response_past_its_time_times_out(rt: HostRuntime) -> Result<(), Fail> {
-    check_printed(
+    check_lines(
         &rt,
-        TIMEOUT,
-        b"poll ready\ncall 0\nat 9\nfut 0 pending\nat 10\nfut 0 error request timed out\ninner polls 1 calls 1\n",
+        "timeout",
+        &[
+            ("poll", "poll ready"),
+            ("call a", "call 0"),
+            ("at 9", "at 9"),
+            ("fut 0", "fut 0 pending"),
+            ("at 10", "at 10"),
+            ("fut 0", "fut 0 error request timed out"),
+        ],
+        "inner polls 1 calls 1\n",
     )
 }
 
 #[test]
 fn response_at_the_deadline_wins(rt: HostRuntime) -> Result<(), Fail> {
-    check_printed(
+    check_lines(
         &rt,
-        b"poll\ncall a\nat 9\nfut 0\nat 10\nanswer 0 ok b\nfut 0",
-        b"poll ready\ncall 0\nat 9\nfut 0 pending\nat 10\nanswer 0\nfut 0 ok b\ninner polls 1 calls 1\n",
+        "timeout",
+        &[
+            ("poll", "poll ready"),
+            ("call a", "call 0"),
+            ("at 9", "at 9"),
+            ("fut 0", "fut 0 pending"),
+            ("at 10", "at 10"),
+            ("answer 0 ok b", "answer 0"),
+            ("fut 0", "fut 0 ok b"),
+        ],
+        "inner polls 1 calls 1\n",
+    )
+}
+
+#[test]
+fn a_third_call_waits_for_the_next_window(rt: HostRuntime) -> Result<(), Fail> {
+    check_lines(
+        &rt,
+        "rate",
+        &[
+            ("poll", "poll ready"),
+            ("call a", "call 0"),
+            ("poll", "poll ready"),
+            ("call b", "call 1"),
+            ("at 9", "at 9"),
+            ("poll", "poll pending"),
+            ("at 10", "at 10"),
+            ("poll", "poll ready"),
+        ],
+        "inner polls 3 calls 2\n",
+    )
+}
+
+#[test]
+fn a_permit_is_held_until_the_response_is_dropped(rt: HostRuntime) -> Result<(), Fail> {
+    check_lines(
+        &rt,
+        "limit",
+        &[
+            ("poll", "poll ready"),
+            ("call a", "call 0"),
+            ("poll", "poll pending"),
+            ("answer 0 ok x", "answer 0"),
+            ("fut 0", "fut 0 ok x"),
+            ("poll", "poll pending"),
+            ("drop 0", "drop 0"),
+            ("poll", "poll ready"),
+        ],
+        "inner polls 2 calls 1\n",
+    )
+}
+
+#[test]
+fn a_call_without_a_grant_is_overloaded(rt: HostRuntime) -> Result<(), Fail> {
+    check_lines(
+        &rt,
+        "shed",
+        &[
+            ("allow 0", "allow 0"),
+            ("poll", "poll ready"),
+            ("call a", "call 0"),
+            ("fut 0", "fut 0 error service overloaded"),
+            ("allow 1", "allow 1"),
+            ("poll", "poll ready"),
+            ("call b", "call 1"),
+            ("answer 0 err no", "answer 0"),
+            ("fut 1", "fut 1 error no"),
+            ("call c", "skipped"),
+        ],
+        "inner polls 2 calls 1\n",
+    )
+}
+
+#[test]
+fn four_layers_act_together(rt: HostRuntime) -> Result<(), Fail> {
+    check_lines(
+        &rt,
+        "all",
+        &[
+            ("poll", "poll ready"),
+            ("call a", "call 0"),
+            ("poll", "poll ready"),
+            ("call b", "call 1"),
+            ("fut 1", "fut 1 error service overloaded"),
+            ("at 10", "at 10"),
+            ("fut 0", "fut 0 error request timed out"),
+            ("drop 0", "drop 0"),
+            ("poll", "poll ready"),
+            ("call c", "call 2"),
+            ("answer 1 ok z", "answer 1"),
+            ("fut 2", "fut 2 ok z"),
+            ("fut 9", "skipped"),
+        ],
+        "inner polls 2 calls 2\n",
+    )
+}
+
+#[test]
+fn a_grant_is_kept_until_a_call_uses_it(rt: HostRuntime) -> Result<(), Fail> {
+    check_lines(
+        &rt,
+        "timeout",
+        &[
+            ("allow 1", "allow 1"),
+            ("poll", "poll ready"),
+            ("allow 0", "allow 0"),
+            ("poll", "poll ready"),
+            ("call a", "call 0"),
+            ("poll", "poll pending"),
+            ("allow 18446744073709551615", "allow 18446744073709551615"),
+            ("call a", "skipped"),
+            ("poll", "poll ready"),
+            ("drop 1", "skipped"),
+            ("drop 0", "drop 0"),
+            ("drop 0", "skipped"),
+            ("fut 0", "skipped"),
+            ("answer 0 err e", "answer 0"),
+        ],
+        "inner polls 4 calls 1\n",
     )
 }
 
 #[test]
 fn empty_script_prints_the_counts(rt: HostRuntime) -> Result<(), Fail> {
-    check_printed(&rt, b"", b"inner polls 0 calls 0\n")
+    for stack in ["timeout", "rate", "limit", "shed", "all"] {
+        check_lines(&rt, stack, &[], "inner polls 0 calls 0\n")?;
+    }
+    Ok(())
 }
 
 #[test]
@@ -176,19 +334,7 @@ fn numbers_end_at_the_last_of_64_bits(rt: HostRuntime) -> Result<(), Fail> {
         b"at 0\nat 18446744073709551615\nfut 18446744073709551615\nanswer 18446744073709551615 ok !~",
         b"at 0\nat 18446744073709551615\nskipped\nskipped\ninner polls 0 calls 0\n",
     )?;
-    for number in [
-        "18446744073709551616",
-        "00",
-        "01",
-        "+1",
-        "-1",
-        "1a",
-        "a",
-        "",
-        "1 ",
-        " 1",
-        "1 1",
-    ] {
+    for number in "18446744073709551616|00|01|+1|-1|1a|a||1 | 1|1 1".split('|') {
         let script = format!(in rt.alloc(); "at 1\nat {number}\npoll\n")?;
         check_bad(&rt, script.as_bytes(), 2)?;
         let script = format!(in rt.alloc(); "fut {number}\n")?;
@@ -225,46 +371,18 @@ fn words_have_1_to_64_visible_bytes(rt: HostRuntime) -> Result<(), Fail> {
 fn bad_lines(rt: HostRuntime) -> Result<(), Fail> {
     check_bad(&rt, b"poll\n\npoll\n", 2)?;
     check_bad(&rt, b"poll\nanswer 0 maybe x\n", 2)?;
-    for line in [
-        "",
-        " ",
-        " poll",
-        "poll ",
-        "poll x",
-        "Poll",
-        "pol",
-        "polls",
-        "poll\r",
-        "at",
-        "at ",
-        "at  1",
-        "at\t1",
-        "call",
-        "call ",
-        "call  a",
-        "call a ",
-        "call a b",
-        "fut",
-        "fut 0 ",
-        "fut  0",
-        "answer",
-        "answer 0",
-        "answer 0 ok",
-        "answer 0 ok ",
-        "answer 0 ok a b",
-        "answer 0  ok a",
-        "answer 0 ok  a",
-        "answer  0 ok a",
-        "answer ok a",
-        "answer 0 Ok a",
-        "answer 0 ok a ",
-        "allow 1",
-        "answer 0 err a",
-        "drop 0",
-        "storm",
-    ] {
-        let script = format!(in rt.alloc(); "at 1\n{line}\n\n")?;
-        check_bad(&rt, script.as_bytes(), 2)?;
+    let empty_or_poll = "| | poll|poll |poll x|Poll|pol|polls|poll\r|storm";
+    let numbered =
+        "at|at |at  1|at\t1|fut|fut 0 |fut  0|allow|allow 01|allow 1 1|drop|drop x|drop 0 0";
+    let worded =
+        "call|call |call  a|call a |call a b|answer|answer 0|answer 0 ok|answer 0 ok |answer 0 err";
+    let answers =
+        "answer 0 ok a b|answer 0  ok a|answer 0 ok  a|answer  0 ok a|answer ok a|answer 0 Ok a";
+    for lines in [empty_or_poll, numbered, worded, answers] {
+        for line in lines.split('|') {
+            let script = format!(in rt.alloc(); "at 1\n{line}\n\n")?;
+            check_bad(&rt, script.as_bytes(), 2)?;
+        }
     }
     Ok(())
 }
@@ -311,16 +429,14 @@ fn a_script_has_1048576_bytes(rt: HostRuntime) -> Result<(), Fail> {
 #[test]
 fn wrong_arguments_are_found_before_any_read(rt: HostRuntime) -> Result<(), Fail> {
     let usage = b"usage: tower-run STACK | tower-run storm T N M\n";
-    let wrong: [&[&str]; 9] = [
+    let wrong: [&[&str]; 7] = [
         &[],
         &[""],
         &["Timeout"],
         &["timeout", "timeout"],
         &["storm"],
         &["storm", "4", "1000", "2"],
-        &["rate"],
-        &["limit"],
-        &["all"],
+        &["buffer"],
     ];
     for named in wrong {
         check(&rt, named, Feed::failing(b"", 1, 0), 2, b"", usage)?;

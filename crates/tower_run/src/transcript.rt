@@ -1,14 +1,14 @@
 //! What a run prints.
 
+use crate::refusal::Refusal;
 use crate::script::Word;
 use crate::scripted::Turned;
 use futures::task::Poll;
 use std::alloc::{AllocError, Global};
-use std::fmt::Display;
 use tower_base::drive::{Entry, Transcript};
 
-/// A line for each entry, in order.
-pub fn print<E: Display>(
+/// A line for each entry, in order. It answers an error for want of memory, also where an entry tells of that.
+pub fn print<E: Refusal>(
     alloc: Global,
     transcript: &Transcript<Word<'_>, E, Turned>,
 ) -> Result<String, AllocError> {
@@ -19,12 +19,14 @@ pub fn print<E: Display>(
     Ok(text)
 }
 
-fn print_entry<E: Display>(
+fn print_entry<E: Refusal>(
     text: &mut String,
     entry: &Entry<Word<'_>, E, Turned>,
 ) -> Result<(), AllocError> {
     match entry {
         Entry::Polled(Poll::Ready(Ok(()))) => writeln!(text, "poll ready"),
+        Entry::Polled(Poll::Ready(Err(error))) | Entry::Answered(_, Poll::Ready(Err(error)))
+            if error.is_memory() => { Err(AllocError) }
         Entry::Polled(Poll::Ready(Err(error))) => writeln!(text, "poll error {error}"),
         Entry::Polled(Poll::Pending) => writeln!(text, "poll pending"),
         Entry::Called(index) => writeln!(text, "call {index}"),
