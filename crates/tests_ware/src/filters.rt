@@ -71,6 +71,20 @@ fn methods_of_a_filter(rt: HostRuntime) -> Result<(), Fail> {
     Ok(())
 }
 
+#[test]
+fn methods_of_an_async_filter(rt: HostRuntime) -> Result<(), Fail> {
+    let task = MockTask::new(&rt)?;
+    let predicate = AsyncPredicateFn::new(|request: u8| ok::<u8, u8>(request));
+    let layer = AsyncFilter::<Scripted, _>::layer(predicate).clone()?;
+    let mut filter = layer.layer(Scripted::new(Mood::Busy))?.clone()?;
+    let mut check = filter.check(3);
+    assert_eq!(rt; task.poll(&mut check), Poll::Ready(Ok(3)));
+    filter.get_mut().number = 5;
+    assert_eq!(rt; filter.get_ref().number, 5);
+    assert_eq!(rt; filter.into_inner().number, 5);
+    Ok(())
+}
+
 // Answers at the second poll.
 #[derive(Drop)]
 struct Second {
