@@ -23,7 +23,7 @@ pub struct BudgetCore {
 }
 
 impl BudgetCore {
-    ghost use Rattle.std.specs.Prelude.{int_le, pos};
+    ghost use Rattle.std.specs.Prelude.{int_le, pos, ◌↔◌};
     ghost use Rattle.tower_retry.specs.Budget.{Fits, Ledger, Withdraws, added, advanced, blank, terms_of};
     ghost use Rattle.tower_retry.specs.BudgetCore.{Changes, StandsFor, kept_balance};
 
@@ -46,6 +46,17 @@ impl BudgetCore {
             moment,
             kept,
         })
+    }
+
+    /// The ranges that `new` asks for: 1 to 60 seconds, below 2147483647 a second, and a fraction of
+    /// 1000 at most.
+    pub fn fits(ttl: u64, min_per_sec: u32, fraction: Fraction) -> bool
+        ensures { IsTrue result ↔ Fits ttl min_per_sec fraction }
+    {
+        ttl >= 1_000_000_000
+            && ttl <= 60_000_000_000
+            && min_per_sec < 2147483647
+            && fraction.numerator as u64 <= 1000 * fraction.divisor as u64
     }
 
     fn advance(&mut self, moment: u64)

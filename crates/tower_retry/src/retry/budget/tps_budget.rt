@@ -24,7 +24,7 @@ impl<L: Latch<BudgetCore>, C> Model for TpsBudget<L, C> {
     ghost view = { λ b. record { latch = b.latch; clock = b.clock } };
 }
 
-impl<R: Wait + Copy + Send + Sync, C: Clock> TpsBudget<Guarded<BudgetCore, R>, C> {
+impl<R: Wait + Copy, C: Clock> TpsBudget<Guarded<BudgetCore, R>, C> {
     /// A deposit counts for `ttl` nanoseconds. There are always `min_per_sec` retries a second, and
     /// beside them the fraction of the requests. The clock is read once.
     pub fn new(
@@ -55,10 +55,7 @@ impl<R: Wait + Copy + Send + Sync, C: Clock> TpsBudget<Guarded<BudgetCore, R>, C
     pub fn fits(ttl: u64, min_per_sec: u32, retries: Fraction) -> bool
         ensures { IsTrue result ↔ Fits ttl min_per_sec retries }
     {
-        ttl >= 1_000_000_000
-            && ttl <= 60_000_000_000
-            && min_per_sec < 2147483647
-            && retries.numerator as u64 <= 1000 * retries.divisor as u64
+        BudgetCore::fits(ttl, min_per_sec, retries)
     }
 }
 
