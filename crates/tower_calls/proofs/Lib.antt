@@ -1,3 +1,4 @@
 pub mod Backwards
 pub mod Bags
+pub mod Calms
 pub mod Orders

@@ -52,3 +52,8 @@ module _ {V Q N A E R : Type 0} (polled : V → Poll (Result (Unit {0}) E) → V
   InAnyOrder service stream = (s : State V Q (Queue N) R) (items : List (Result A (Error E))) → Opens service stream None s
       → MayYield (Unordered (Unfailing polled) called flowed stepped) s items None
       → (answers : List (Result A E)) × CameOf stream answers × IsPermutation answers (answers_of items)
+
+  -- Where readiness never fails, the items of a stream come without a readiness error.
+  abbrev pub Calms : {D : Type 0} → ((V → Poll (Result (Unit {0}) E) → V → Type 0) → State V Q D R → Poll (Option (Result A (Error E))) → State V Q D R → Type 0) → Type 0
+  Calms {D} Flows = ((v w : V) (e : E) → ¬ polled v (Ready (Err e)) w) → (s : State V Q D R) (items : List (Result A (Error E))) (last : Option (Result A (Error E)))
+      → MayYield (Flows polled) s items last → MayYield (Flows (Unfailing polled)) s items last

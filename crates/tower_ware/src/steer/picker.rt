@@ -18,10 +18,18 @@ pub trait Picker<S, Req>: Drop {
         ensures picked { picked self.old request.now services.now result self.new };
 }
 
-/// A closure as a `Picker`. It may be called with any list that isn't empty, and its answers are inside.
+/// A picker by a closure. In the Rust the closure itself is one. It may be called with any list that isn't empty, and its answers are inside.
 #[derive(Clone, Copy, Drop)]
 pub struct PickerFn<F> {
-    pub f: F,
+    f: F,
+}
+
+impl<F> PickerFn<F> {
+    pub fn new(f: F) -> PickerFn<F>
+        ensures { result.f ≡ f }
+    {
+        PickerFn { f }
+    }
 }
 
 impl<S, Req, F: Fn(&Req, &[S]) -> usize + Copy + Drop> Picker<S, Req> for PickerFn<F> {
