@@ -11,13 +11,13 @@ use std::alloc::{AllocError, AllocGlobal, Global};
 use std::cell::Cell;
 use std::random::RandomSource;
 use std::sync::Wait;
-use tower::ServiceBuilder;
 use tower::filter::{Filter, PredicateFn};
 use tower::limit::concurrency::{PollSemaphore, Semaphore};
 use tower::limit::rate::Rate;
 use tower::limit::{ConcurrencyLimit, RateLimit};
 use tower::load_shed::LoadShed;
 use tower::reconnect::Reconnect;
+use tower::service::{Clock, Service};
 use tower::steer::{PickerFn, Steer};
 use tower::timeout::Timeout;
 
@@ -127,6 +127,7 @@ fn limited<R: Wait + Copy + Send + Sync>(
     Ok(rounds(cx, service, count, moment, 0))
 }
 
+// As `tower-run all`, in two steps: at all four services at once the check gives up.
 fn stacked<R: Wait + Copy + Send + Sync>(
     rt: R,
     alloc: Global,
@@ -134,13 +135,25 @@ fn stacked<R: Wait + Copy + Send + Sync>(
     count: u64,
     moment: &Cell<u64>,
 ) -> Result<u64, AllocError> {
-    let service = ServiceBuilder::new()
-        .timeout(10, Hand::new(moment))
-        .load_shed()
-        .concurrency_limit(rt, alloc, 1)
-        .rate_limit(2, 10, Hand::new(moment))
-        .service(Echo)?;
-    Ok(rounds(cx, service, count, moment, 5))
+    let rate = RateLimit::new(Echo, Rate::new(2, 10), Hand::new(moment));
+    let limit = ConcurrencyLimit::new(rt, alloc, rate, 1)?;
+    Ok(shed_in_time(cx, limit, Hand::new(moment), count, moment))
+}
+
+fn shed_in_time<S, C>(
+    cx: &mut Context<'_>,
+    inner: S,
+    clock: C,
+    count: u64,
+    moment: &Cell<u64>,
+) -> u64
+where
+    S: Service<u64, Response = u64>,
+    C: Clock,
+    requires { S.sound inner }
+{
+    let service = Timeout::new(LoadShed::new(inner), 10, clock);
+    rounds(cx, service, count, moment, 5)
 }
 
 fn filtered(cx: &mut Context<'_>, count: u64, moment: &Cell<u64>) -> u64 {
