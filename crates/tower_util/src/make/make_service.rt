@@ -74,15 +74,15 @@ where
     M: Service<Target, Response = S>,
     S: Service<Request>,
 {
-    type Response = S::Response;
-
-    type Error = S::Error;
-
     type Service = S;
+
+    type Future = M::Future;
 
     type MakeError = M::Error;
 
-    type Future = M::Future;
+    type Error = S::Error;
+
+    type Response = S::Response;
 
     ghost sound = { M.sound };
 
