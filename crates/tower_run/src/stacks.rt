@@ -14,8 +14,8 @@ use tower::ServiceBuilder;
 use tower_base::drive::{Event, drive};
 use tower_base::service::{Clock, Service};
 use tower_limit::limit::rate::Rate;
-use tower_limit::limit::{ConcurrencyLimit, ConcurrencyLimitLayer, RateLimit, RateLimitLayer};
-use tower_ware::load_shed::{LoadShed, LoadShedLayer};
+use tower_limit::limit::{ConcurrencyLimit, RateLimit};
+use tower_ware::load_shed::LoadShed;
 use tower_ware::timeout::Timeout;
 
 /// A stack of services over the scripted one.
@@ -128,9 +128,9 @@ where
 {
     let layers = ServiceBuilder::new()
         .timeout(10, clock.share())
-        .layer(LoadShedLayer::new())
-        .layer(ConcurrencyLimitLayer::new(rt, alloc, 1))
-        .layer(RateLimitLayer::new(2, 10, clock));
+        .load_shed()
+        .concurrency_limit(rt, alloc, 1)
+        .rate_limit(2, 10, clock);
     let service = layers.service(inner)?;
     shed_in_time(alloc, stage, service, commands)
 }
