@@ -21,7 +21,7 @@ pub trait Picker<S, Req>: Drop {
 /// A picker by a closure. In the Rust the closure itself is one. It may be called with any list that isn't empty, and its answers are inside.
 #[derive(Clone, Copy, Drop)]
 pub struct PickerFn<F> {
-    f: F,
+    pub f: F,
 }
 
 impl<F> PickerFn<F> {
