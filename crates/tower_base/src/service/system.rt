@@ -3,10 +3,9 @@ ghost use Rattle.std.specs.Prelude.{◌≡◌, IfOk};
 ghost use Rattle.tower_base.specs.SystemClock.{Running, Reads};
 
 use crate::service::Clock;
-use std::io;
 use std::marker::Model;
-use std::rt;
 use std::time::Instant;
+use std::{io, rt};
 
 /// The machine's monotonic clock: a reading is the nanoseconds since it was made. It stands for
 /// tokio's timer.
