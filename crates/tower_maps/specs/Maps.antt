@@ -1,4 +1,14 @@
--- What the response of each map is, by the inner one. `given x y` says that the closure, given x, may answer y.
+-- The table of the maps: what each answers, by the inner answer r. Pending stays pending, and f is the closure.
+--
+--   `MapRequest`    ready: r                        inside: f(request)   response: r
+--   `MapResponse`   ready: r                        inside: request      response: Ok(v) to Ok(f(v)), an error as it was
+--   `MapErr`        ready: Err(e) to Err(f(e))      inside: request      response: Err(e) to Err(f(e)), Ok as it was
+--   `MapResult`     ready: Err(e) to Err(From(e))   inside: request      response: f(r)
+--   `Then`          ready: Err(e) to Err(From(e))   inside: request      response: the output of the future f(r)
+--   `AndThen`       ready: Err(e) to Err(From(e))   inside: request      response: Ok(v) to the output of the future f(v), Err(e) to Err(From(e))
+--   `MapFuture`     ready: Err(e) to Err(From(e))   inside: request      response: the output of the future f(inner future)
+--
+-- Readiness is `Readies` of Answers. The responses are below, where `given x y` says that the closure, given x, may answer y.
 use Rattle.std.specs.Prelude.{◌≡◌, Result, Ok, Err}
 use Rattle.futures.specs.declared.task.Poll.{Poll}
 use Rattle.futures.specs.declared.task.Poll.TheVariants.{Ready, Pending}
