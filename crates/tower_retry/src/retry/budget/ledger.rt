@@ -25,7 +25,7 @@ pub struct BudgetCore {
 impl BudgetCore {
     ghost use Rattle.std.specs.Prelude.{int_le, pos, ◌↔◌};
     ghost use Rattle.tower_retry.specs.Budget.{Fits, Ledger, Withdraws, added, advanced, blank, terms_of};
-    ghost use Rattle.tower_retry.specs.BudgetCore.{Changes, StandsFor, kept_balance};
+    ghost use Rattle.tower_retry.specs.BudgetCore.{Changes, Opens, StandsFor, kept_balance};
 
     /// A budget at the moment of its making, with room for all that it will keep. The time is in
     /// nanoseconds.
@@ -37,7 +37,8 @@ impl BudgetCore {
         moment: u64,
     ) -> Result<BudgetCore, AllocError>
         requires { Fits ttl min_per_sec fraction }
-        ensures { IfOk result (λ core. StandsFor core (blank (terms_of ttl min_per_sec fraction) moment)) }
+        ensures made { IfOk result (λ core. StandsFor core (blank (terms_of ttl min_per_sec fraction) moment)) }
+        ensures opens { IfOk result Opens }
     {
         let kept = Vec::with_capacity(alloc, 11)?;
         Ok(BudgetCore {
