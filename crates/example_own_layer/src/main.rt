@@ -25,7 +25,7 @@ fn main(rt: HostRuntime) -> io::Result<()> {
     let clock = SystemClock::new(rt)?;
     let solo = Solo::new(&rt, Doorbell::spinning())?;
     let mut cx = solo.begin();
-    let transcript = driven(alloc, &mut cx, inner, clock, events);
+    let transcript = driven(alloc, &mut cx, inner, clock, events, |turn: u64| turn);
     cx.cancel();
     for entry in &transcript?.entries {
         match entry {

