@@ -1,0 +1,15 @@
+//! Tests of `tower_retry::retry`.
+#![tactic(auto)]
+
+#[cfg(test)]
+mod backoffs;
+#[cfg(test)]
+mod budgets;
+#[cfg(test)]
+mod fixtures;
+#[cfg(test)]
+mod mocks;
+#[cfg(test)]
+mod refused;
+#[cfg(test)]
+mod retries;
