@@ -2,6 +2,8 @@
 #![tactic(auto)]
 
 #[cfg(test)]
+mod awaited;
+#[cfg(test)]
 mod drives;
 #[cfg(test)]
 mod layers;

@@ -27,6 +27,20 @@ module _ {F A : Type 0} (stepped : F → Poll A → F → Type 0) where
   gives_same f (Ready x) g s = tt
   gives_same f Pending g s = λ x h. (suc h.0, (g, s, h.1))
 
+module _ {F A : Type 0} (gives : F → A → Type 0) where
+  -- A poll of a future of which only its outputs are known: an answer is one of them, and after a pending poll it gives no more.
+  abbrev pub GivesOnly : F → Poll A → F → Type 0
+  GivesOnly f answer g = IfReady answer (gives f) × OnPending answer ((x : A) → gives g x → gives f x)
+
+  given_after : (n : ℕ) (f : F) (x : A) → GivesAfter GivesOnly n f x → gives f x
+  given_after zero f x h = h.1.0
+  given_after (suc n) f x h = h.1.1 x (given_after n h.0 x h.2)
+
+  -- such a future may give only those outputs
+  pub gives_only : (f : F) (x : A) → MayGive GivesOnly f x → gives f x
+  unfolding MayGive
+  gives_only f x h = given_after h.0 f x h.1
+
 module _ {F A : Type 0} (flowed : F → Poll (Option A) → F → Type 0) where
   -- One answer after some number of pending polls. The value after it has P.
   abbrev pub NextAfter : ℕ → F → Option A → (F → Type 0) → Type 0

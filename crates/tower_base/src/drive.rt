@@ -48,11 +48,14 @@ pub struct Transcript<A, E, U> {
     pub entries: Vec<Entry<A, E, U>>,
 }
 
-/// The place of a call's future.
+/// The place of a call's future, of which the contract of `drive` speaks.
 #[derive(Drop)]
 pub enum Slot<F> {
+    /// It may be polled.
     Live(F),
+    /// It gave its output, and is kept until it is dropped.
     Finished(F),
+    /// It is no longer there.
     Dropped,
 }
 

@@ -19,11 +19,12 @@ pub trait Layer<S> {
         ensures { IfOk result (λ t. made self.now service t) };
 }
 
-/// Gives the service itself.
+/// Gives the service itself: the Rust's `tower::layer::util::Identity`.
 #[derive(Clone, Copy, Debug, PartialEq, Eq)]
 pub struct Identity;
 
 impl Identity {
+    /// It takes no memory, and neither does its `layer`.
     pub fn new() -> Identity {
         Identity
     }
@@ -45,7 +46,8 @@ impl<S> Layer<S> for Identity {
     }
 }
 
-/// Two layers: the inner one is applied first, and the outer one to what it makes.
+/// Two layers: the inner one is applied first, and the outer one to what it makes. The Rust's
+/// `tower::layer::util::Stack`.
 #[derive(Clone, Drop)]
 pub struct Stack<Inner, Outer> {
     inner: Inner,
@@ -53,6 +55,7 @@ pub struct Stack<Inner, Outer> {
 }
 
 impl<Inner, Outer> Stack<Inner, Outer> {
+    /// `inner` is the one that is applied first.
     pub fn new(inner: Inner, outer: Outer) -> Stack<Inner, Outer>
         ensures { result ≡ record { inner = inner; outer = outer } }
     {
@@ -74,12 +77,14 @@ impl<S, Inner: Layer<S>, Outer: Layer<Inner::Service>> Layer<S> for Stack<Inner,
     }
 }
 
-/// A layer by a closure, which answers an error only for want of memory.
+/// A layer by a closure, which answers an error only for want of memory: the Rust's
+/// `tower::layer::LayerFn`.
 #[derive(Clone, Copy, Drop)]
 pub struct LayerFn<F> {
     f: F,
 }
 
+/// A layer that calls the closure with the service: the Rust's `tower::layer::layer_fn`.
 pub fn layer_fn<F>(f: F) -> LayerFn<F>
     ensures { result.f ≡ f }
 {

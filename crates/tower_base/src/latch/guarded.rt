@@ -7,21 +7,25 @@ use crate::latch::{Core, Latch};
 use futures::task::{Context, Poll, Source, Waker};
 use std::alloc::{AllocError, Global};
 use std::mem;
+use std::sync::atomic::{AtomicU64, Ordering};
 use std::sync::{Arc, Mutex, Wait};
 
 /// A `Latch` of one lock round the one core that it was handed.
 ///
-/// Wakers are kept beside the core. A step whose reply doesn't wait wakes all of them, once the
-/// lock is free. Where there is no room to keep a waker, its task is woken at once.
+/// Wakers are kept beside the core, one for each task that waits through a share. A step whose reply
+/// doesn't wait wakes all of them, once the lock is free. Where there is no room to keep a waker, its
+/// task is woken at once.
 #[derive(Drop)]
 pub struct Guarded<C: Core, R> {
     rt: R,
+    share: u64,
     shared: Arc<Shared<C>, Global>,
 }
 
 #[derive(Drop)]
 struct Shared<C: Core> {
     source: Source,
+    shares: AtomicU64,
     kept: Mutex<Kept<C>>,
 }
 
@@ -34,18 +38,22 @@ struct Kept<C: Core> {
     ghost reached: { ∥ Reached C.opens C.steps core ∥₁ },
 }
 
+// A task's number is its own only among the tasks of its executor, so the share tells threads apart.
 #[derive(Drop)]
 struct Waiter {
+    share: u64,
     task: usize,
     waker: Option<Waker>,
 }
 
 impl<C: Core, R: Wait + Copy> Guarded<C, R> {
+    /// A lock round the core. For want of memory it answers an error, and the core is dropped.
     pub fn new(rt: R, alloc: Global, core: C) -> Result<Guarded<C, R>, AllocError>
         requires { C.opens core }
     {
         let shared = Shared {
             source: Source::new(),
+            shares: AtomicU64::new(1),
             kept: Mutex::new(Kept {
                 core,
                 alloc,
@@ -54,6 +62,7 @@ impl<C: Core, R: Wait + Copy> Guarded<C, R> {
         };
         Ok(Guarded {
             rt,
+            share: 0,
             shared: Arc::new(alloc, shared)?,
         })
     }
@@ -73,16 +82,21 @@ impl<C: Core> Kept<C> {
     }
 }
 
-// Keeps one waker of the task, where there is room.
-fn keep(waiters: &mut Vec<Waiter>, source: &Source, cx: &mut Context<'_>) -> bool
+// Keeps one waker of the task at this share, where there is room.
+fn keep(waiters: &mut Vec<Waiter>, share: u64, source: &Source, cx: &mut Context<'_>) -> bool
     ensures armed { result ≡ true → IsArmed cx.new }
     ensures kept { Keeps cx.old cx.new }
 {
     let task = cx.task();
-    let place = match waiters.iter().position(|waiter| waiter.task == task) {
+    let is_its_own = |waiter: &Waiter| waiter.share == share && waiter.task == task;
+    let place = match waiters.iter().position(is_its_own) {
         Some(place) => place,
         None => {
-            let Ok(()) = waiters.push(Waiter { task, waker: None }) else {
+            let Ok(()) = waiters.push(Waiter {
+                share,
+                task,
+                waker: None,
+            }) else {
                 return false;
             };
             waiters.len() - 1
@@ -113,7 +127,7 @@ impl<C: Core, R: Wait + Copy> Latch<C> for Guarded<C, R> {
         let mut kept = self.shared.kept.lock(&self.rt);
         let reply = kept.turn(step);
         if C::waits(&reply) {
-            let room = keep(&mut kept.waiters, &self.shared.source, cx);
+            let room = keep(&mut kept.waiters, self.share, &self.shared.source, cx);
             drop(kept);
             if !room {
                 let _pending: Poll<()> = cx.yield_now();
@@ -129,6 +143,7 @@ impl<C: Core, R: Wait + Copy> Latch<C> for Guarded<C, R> {
     fn share(&self) -> Result<Guarded<C, R>, AllocError> {
         Ok(Guarded {
             rt: self.rt,
+            share: self.shared.shares.fetch_add(1, Ordering::Relaxed),
             shared: Arc::try_clone(&self.shared)?,
         })
     }

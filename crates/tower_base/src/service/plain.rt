@@ -1,15 +1,17 @@
 //! The kit's plain futures as `Steps`.
 ghost use Rattle.std.specs.Prelude.{◌≡◌};
 ghost use Rattle.futures.specs.Poll.{IfReady};
+ghost use Rattle.tower_base.specs.Gives.{GivesOnly};
 ghost use Rattle.futures.specs.declared.task.Poll.TheVariants.{Pending};
 
 use crate::service::Steps;
 use futures::future::{Future, Pending, Ready};
 use futures::task::{Context, Poll};
 
-// An answer is the value that was put in. (The kit's contract leaves room for a pending poll.)
+// An answer is the value that was put in. (The kit's contract leaves room for a pending poll,
+// after which the future gives no more than before.)
 impl<T: Drop> Steps for Ready<T> {
-    ghost stepped = { λ f answer g. IfReady answer (⟦<Ready<T> as Future>⟧.gives f) };
+    ghost stepped = { GivesOnly ⟦<Ready<T> as Future>⟧.gives };
 
     fn step(&mut self, cx: &mut Context<'_>) -> Poll<T> {
         self.poll(cx)

@@ -12,6 +12,7 @@ pub trait Rng: Drop {
     // A draw may give this word and leave the second value.
     ghost drew: { Self → ℕ → Self → Type 0 };
 
+    /// The next word: all its bits are random.
     fn next_u64(&mut self) -> u64
         ensures { drew self.old result self.new };
 
@@ -25,7 +26,8 @@ pub trait Rng: Drop {
     }
 }
 
-/// Hashes a counter, which begins at 0 and goes up by one with each word.
+/// Hashes a counter, which begins at 0 and goes up by one with each word: the Rust's
+/// `tower::util::rng::HasherRng`. A clone goes on from the same counter.
 #[derive(Drop)]
 pub struct HasherRng<H = BuildHasherDefault<FoldHasher>> {
     hasher: H,
@@ -56,6 +58,7 @@ impl Default for HasherRng {
 }
 
 impl<H> HasherRng<H> {
+    /// Each word is the hash of the counter by a hasher that this builds.
     pub fn with_hasher(hasher: H) -> HasherRng<H>
         ensures { result ≡ record { hasher = hasher; counter = 0 } }
     {
