@@ -30,6 +30,7 @@ impl<S, F> Model for AndThen<S, F> {
 }
 
 impl<S, F> AndThen<S, F> {
+    /// The closure isn't called here.
     pub fn new(inner: S, f: F) -> AndThen<S, F>
         ensures { result ≡ record { inner = inner; f = f } }
     {
@@ -155,6 +156,7 @@ impl<F> Model for AndThenLayer<F> {
 }
 
 impl<F> AndThenLayer<F> {
+    /// Each service that it wraps gets a copy of the closure.
     pub fn new(f: F) -> AndThenLayer<F>
         ensures { result ≡ record { f = f } }
     {

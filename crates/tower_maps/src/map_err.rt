@@ -27,6 +27,7 @@ impl<S, F> Model for MapErr<S, F> {
 }
 
 impl<S, F> MapErr<S, F> {
+    /// The closure isn't called here.
     pub fn new(inner: S, f: F) -> MapErr<S, F>
         ensures { result ≡ record { inner = inner; f = f } }
     {
@@ -125,6 +126,7 @@ impl<F> Model for MapErrLayer<F> {
 }
 
 impl<F> MapErrLayer<F> {
+    /// Each service that it wraps gets a copy of the closure.
     pub fn new(f: F) -> MapErrLayer<F>
         ensures { result ≡ record { f = f } }
     {

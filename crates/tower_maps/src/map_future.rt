@@ -24,6 +24,7 @@ impl<S, F> Model for MapFuture<S, F> {
 }
 
 impl<S, F> MapFuture<S, F> {
+    /// The closure isn't called here.
     pub fn new(inner: S, f: F) -> MapFuture<S, F>
         ensures { result ≡ record { inner = inner; f = f } }
     {
@@ -82,12 +83,14 @@ impl<S, F> MapFuture<S, F> {
     ghost use Rattle.std.specs.Borrow.{sem};
     ghost use Rattle.tower_maps.specs.MapFutureLends.{LendsInner};
 
+    /// The inner service.
     pub fn get_ref(&self) -> &S
         ensures { result.now ≡ self.now.inner }
     {
         &self.inner
     }
 
+    /// The inner service, to be changed.
     pub fn get_mut(&mut self) -> &mut S
         ensures* writes_back { sem 𝓛 (LendsInner S.row F.row self.entry result) }
         ensures value { result.now ≡ self.old.inner }
@@ -95,6 +98,7 @@ impl<S, F> MapFuture<S, F> {
         &mut self.inner
     }
 
+    /// The inner service. The closure is dropped.
     pub fn into_inner(self) -> S
     where
         F: Drop,
@@ -117,6 +121,7 @@ impl<F> Model for MapFutureLayer<F> {
 }
 
 impl<F> MapFutureLayer<F> {
+    /// Each service that it wraps gets a clone of the closure. Where that is refused, the service is dropped.
     pub fn new(f: F) -> MapFutureLayer<F>
         ensures { result ≡ record { f = f } }
     {

@@ -22,6 +22,7 @@ impl<S, F> Model for MapRequest<S, F> {
 }
 
 impl<S, F> MapRequest<S, F> {
+    /// The closure isn't called here.
     pub fn new(inner: S, f: F) -> MapRequest<S, F>
         ensures { result ≡ record { inner = inner; f = f } }
     {
@@ -77,6 +78,7 @@ impl<F> Model for MapRequestLayer<F> {
 }
 
 impl<F> MapRequestLayer<F> {
+    /// Each service that it wraps gets a clone of the closure. Where that is refused, the service is dropped.
     pub fn new(f: F) -> MapRequestLayer<F>
         ensures { result ≡ record { f = f } }
     {

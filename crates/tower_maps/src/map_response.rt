@@ -26,6 +26,7 @@ impl<S, F> Model for MapResponse<S, F> {
 }
 
 impl<S, F> MapResponse<S, F> {
+    /// The closure isn't called here.
     pub fn new(inner: S, f: F) -> MapResponse<S, F>
         ensures { result ≡ record { inner = inner; f = f } }
     {
@@ -123,6 +124,7 @@ impl<F> Model for MapResponseLayer<F> {
 }
 
 impl<F> MapResponseLayer<F> {
+    /// Each service that it wraps gets a copy of the closure.
     pub fn new(f: F) -> MapResponseLayer<F>
         ensures { result ≡ record { f = f } }
     {

@@ -27,6 +27,7 @@ impl<S, F> Model for MapResult<S, F> {
 }
 
 impl<S, F> MapResult<S, F> {
+    /// The closure isn't called here.
     pub fn new(inner: S, f: F) -> MapResult<S, F>
         ensures { result ≡ record { inner = inner; f = f } }
     {
@@ -129,6 +130,7 @@ impl<F> Model for MapResultLayer<F> {
 }
 
 impl<F> MapResultLayer<F> {
+    /// Each service that it wraps gets a copy of the closure.
     pub fn new(f: F) -> MapResultLayer<F>
         ensures { result ≡ record { f = f } }
     {

@@ -30,6 +30,7 @@ impl<S, F> Model for Then<S, F> {
 }
 
 impl<S, F> Then<S, F> {
+    /// The closure isn't called here.
     pub fn new(inner: S, f: F) -> Then<S, F>
         ensures { result ≡ record { inner = inner; f = f } }
     {
@@ -151,6 +152,7 @@ impl<F> Model for ThenLayer<F> {
 }
 
 impl<F> ThenLayer<F> {
+    /// Each service that it wraps gets a copy of the closure.
     pub fn new(f: F) -> ThenLayer<F>
         ensures { result ≡ record { f = f } }
     {

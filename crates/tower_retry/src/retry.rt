@@ -18,7 +18,9 @@ use std::alloc::AllocError;
 use std::marker::Model;
 use tower_base::service::Service;
 
-/// Makes a request again as its policy says.
+/// Makes a request again as its policy says: the Rust's `tower::retry::Retry`.
+///
+/// An error of the inner service's readiness is `Inner`, and the policy isn't asked about it.
 #[derive(Drop)]
 pub struct Retry<P, S> {
     policy: P,
@@ -32,6 +34,7 @@ impl<P, S> Model for Retry<P, S> {
 }
 
 impl<P, S> Retry<P, S> {
+    /// A service whose policy is asked about each result. Nothing is read or cloned here.
     pub fn new(policy: P, service: S) -> Retry<P, S>
         ensures { result ≡ record { policy = policy; service = service } }
     {

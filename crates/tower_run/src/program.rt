@@ -10,7 +10,8 @@ use std::io::{ErrorKind, Read, Write};
 use std::rt::Env;
 use std::sync::Wait;
 
-/// The program: `words` are the arguments after its name. It answers the status.
+/// The program: `words` are the arguments after its name. It answers the status: 0; 1 for want of memory; 2 for
+/// wrong arguments, a bad line or a script that is too long; 3 where reading or writing failed.
 ///
 /// The whole script is read before anything runs, and the whole output is built before the first write.
 pub fn run<H, R, O, E>(rt: &H, words: &[String], reader: R, out: O, err: E) -> u8

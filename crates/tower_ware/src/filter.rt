@@ -19,7 +19,10 @@ use std::marker::Model;
 use std::mem;
 use tower_base::service::{Service, Steps};
 
-/// Calls the inner service with the checked request, or answers `Rejected`.
+/// Calls the inner service with the checked request, or answers `Rejected`: the Rust's
+/// `tower::filter::Filter`.
+///
+/// Errors of the inner service's readiness and responses are `Inner`.
 #[derive(Drop)]
 pub struct Filter<S, U> {
     inner: S,
@@ -36,6 +39,7 @@ impl<S, U> Filter<S, U> {
     ghost use Rattle.tower_ware.specs.FilterLends.{LendsInner};
     ghost use Rattle.std.specs.Borrow.{sem};
 
+    /// Nothing is asked here.
     pub fn new(inner: S, predicate: U) -> Filter<S, U>
         ensures { result ≡ record { inner = inner; predicate = predicate } }
     {
@@ -134,7 +138,8 @@ where
     }
 }
 
-/// Calls the inner service with the request that the predicate's future gives, or answers `Rejected`.
+/// Calls the inner service with the request that the predicate's future gives, or answers `Rejected`:
+/// the Rust's `tower::filter::AsyncFilter`.
 ///
 /// The service that was polled goes into the future, and a clone stays behind. Where no clone is had
 /// for want of memory the service stays, the predicate isn't asked, and the answer is `Memory`.
@@ -154,6 +159,7 @@ impl<S, U> AsyncFilter<S, U> {
     ghost use Rattle.tower_ware.specs.FilterLends.{AsyncLendsInner};
     ghost use Rattle.std.specs.Borrow.{sem};
 
+    /// Nothing is asked here.
     pub fn new(inner: S, predicate: U) -> AsyncFilter<S, U>
         ensures { result ≡ record { inner = inner; predicate = predicate } }
     {

@@ -14,7 +14,8 @@ use std::alloc::AllocError;
 use std::marker::Model;
 use tower_base::service::Service;
 
-/// Is always ready, and answers `Overloaded` where the inner service wasn't.
+/// Is always ready, and answers `Overloaded` where the inner service wasn't: the Rust's
+/// `tower::load_shed::LoadShed`.
 ///
 /// An inner error of readiness is passed on; it says that nothing is ready.
 #[derive(Drop)]
@@ -30,6 +31,7 @@ impl<S> Model for LoadShed<S> {
 }
 
 impl<S> LoadShed<S> {
+    /// The inner service counts as not ready until a poll of it answers `Ok`.
     pub fn new(inner: S) -> LoadShed<S>
         ensures { result ≡ record { inner = inner; is_ready = false } }
     {

@@ -16,7 +16,13 @@ use state::{Reply, State};
 use std::marker::Model;
 use tower_base::service::{Service, Steps};
 
-/// Connects to its target by its maker, and connects again where the connection's readiness fails.
+/// Connects to its target by its maker, and connects again where the connection's readiness fails: the
+/// Rust's `tower::reconnect::Reconnect`.
+///
+/// A failed connect answers the poll with `Ok` and the next call with its error; a later failure takes
+/// its place. An error of the maker's readiness answers the poll as `Make`, and no connection is begun.
+/// Where the clone of the target is refused the poll answers `Memory`, and the next one tries again. A
+/// poll makes 64 passes at most, and is then pending with its own task woken.
 ///
 /// `F`, `S` and `E` are the maker's future, response and error.
 #[derive(Drop)]

@@ -12,7 +12,11 @@ use std::collections::VecDeque;
 use std::marker::{Model, PhantomData};
 use tower_base::service::Service;
 
-/// Calls the service that its picker chooses. It is ready where all its services are.
+/// Calls the service that its picker chooses: the Rust's `tower::steer::Steer`.
+///
+/// It is ready where all its services are. A poll asks those that aren't known to be ready, front first,
+/// and stops at the first that is pending or fails, which is asked again by the next poll. A clone asks
+/// all of them anew.
 #[derive(Drop)]
 pub struct Steer<S, F, Req> {
     picker: F,
@@ -33,7 +37,7 @@ impl<S, F, Req> Model for Steer<S, F, Req> {
 }
 
 impl<S: Service<Req>, F: Picker<S, Req>, Req> Steer<S, F, Req> {
-    /// Makes room for the list of the services that are to be asked, which are all at first. Where that is
+    /// Asks for one service at least. Makes room for the list of those to be asked, all at first. Where that is
     /// refused, what was handed in is dropped.
     pub fn new(alloc: Global, services: Vec<S>, picker: F) -> Result<Steer<S, F, Req>, AllocError>
         requires { 0 < length services.items }

@@ -13,7 +13,7 @@ use std::marker::Model;
 use tower_base::layer::Layer;
 use tower_base::service::{Clock, Service};
 
-/// Answers `Elapsed` in place of a response that takes too long.
+/// Answers `Elapsed` in place of a response that takes too long: the Rust's `tower::timeout::Timeout`.
 ///
 /// The time of a response begins at its call. The clock is handed in.
 #[derive(Drop)]
@@ -114,7 +114,7 @@ impl<S, C> Timeout<S, C> {
     }
 }
 
-/// Makes a `Timeout` of a service.
+/// Makes a `Timeout` of a service, with a share of its clock: the Rust's `tower::timeout::TimeoutLayer`.
 #[derive(Drop)]
 pub struct TimeoutLayer<C> {
     duration: u64,

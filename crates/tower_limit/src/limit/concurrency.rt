@@ -1,4 +1,5 @@
-//! A limit on the calls in flight, and the line for their permits.
+//! A limit on the calls in flight, and the line for their permits: the Rust's
+//! `tower::limit::concurrency`.
 
 mod error;
 pub mod future;

@@ -15,6 +15,7 @@ pub use invalid::InvalidBackoff;
 
 /// Makes backoffs, one for each request that may be retried.
 pub trait MakeBackoff: Drop {
+    /// What it makes.
     type Backoff: Backoff;
 
     // What constructors make has it, and every call keeps it.
@@ -23,7 +24,8 @@ pub trait MakeBackoff: Drop {
     // A call may give this answer and leave the second value.
     ghost makes: { Self → Result Self.Backoff AllocError → Self → Type 0 };
 
-    /// A backoff whose waits begin from the first.
+    /// A backoff whose waits begin from the first. It is refused for want of memory alone, and the maker
+    /// stays as it was then.
     fn make_backoff(&mut self) -> Result<Self::Backoff, AllocError>
         requires { sound self.old }
         ensures makes { makes self.old result self.new }
@@ -33,6 +35,7 @@ pub trait MakeBackoff: Drop {
 
 /// Gives waits, one after another.
 pub trait Backoff: Drop {
+    /// A wait.
     type Future: Steps<Output = ()>;
 
     // What makers make has it, and every call keeps it.
@@ -49,7 +52,11 @@ pub trait Backoff: Drop {
         ensures sound { sound self.new };
 }
 
-/// Makes backoffs that double their wait each time.
+/// Makes backoffs that double their wait each time: the Rust's
+/// `tower::retry::backoff::ExponentialBackoffMaker`.
+///
+/// A backoff has a clone of the generator, which draws the same words as the maker's, and a share of
+/// the clock.
 #[derive(Drop)]
 pub struct ExponentialBackoffMaker<R, C> {
     min: u64,
@@ -59,7 +66,8 @@ pub struct ExponentialBackoffMaker<R, C> {
     clock: C,
 }
 
-/// Doubles its wait each time, up to a greatest one, and makes each longer by some jitter.
+/// Doubles its wait each time, up to a greatest one, and makes each longer by some jitter: the Rust's
+/// `tower::retry::backoff::ExponentialBackoff`.
 #[derive(Drop)]
 pub struct ExponentialBackoff<R, C> {
     maker: ExponentialBackoffMaker<R, C>,
@@ -80,6 +88,9 @@ impl<R, C> Model for ExponentialBackoff<R, C> {
 
 impl<R: Rng, C: Clock> ExponentialBackoffMaker<R, C> {
     /// `min` and `max` are in nanoseconds, and `jitter` is the greatest part of a wait that is added to it.
+    ///
+    /// It is refused where `max` is below `min`, else where `max` is 0, else where the jitter is above
+    /// 100, and the generator and the clock are dropped then.
     pub fn new(
         min: u64,
         max: u64,

@@ -1,3 +1,4 @@
+//! Why there is no response.
 use std::fmt::Display;
 
 /// The error of a `Retry`, in place of the Rust's boxed one.

@@ -1,3 +1,4 @@
+//! The layer of retries: the Rust's `tower::retry::RetryLayer`.
 ghost use Rattle.std.specs.Prelude.{◌≡◌};
 
 use crate::retry::Retry;
@@ -18,6 +19,7 @@ impl<P> Model for RetryLayer<P> {
 }
 
 impl<P> RetryLayer<P> {
+    /// `layer` answers an error where the clone of the policy is refused, and drops the service then.
     pub fn new(policy: P) -> RetryLayer<P>
         ensures { result ≡ policy }
     {

@@ -1,9 +1,11 @@
+//! What decides on retries.
 ghost use Rattle.std.specs.Prelude.{⊤, IfSome, Option, Result};
 
 use tower_base::service::Steps;
 
 /// Says which requests are made again, and when: the Rust's `tower::retry::Policy`.
 pub trait Policy<Request, Response, Error>: Drop {
+    /// The wait before a retry.
     type Future: Steps<Output = ()>;
 
     // What constructors make has it, and every call keeps it.

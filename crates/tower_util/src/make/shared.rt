@@ -27,11 +27,13 @@ impl<S> Model for Shared<S> {
 /// Why there is no clone, where the Rust's clones can't fail.
 #[derive(Clone, Copy, Debug, PartialEq, Eq, thiserror::Error)]
 pub enum Error {
+    /// The clone was refused at the call.
     #[error("out of memory")]
     Memory,
 }
 
 impl<S> Shared<S> {
+    /// The service stays inside, and is cloned at each call.
     pub fn new(service: S) -> Shared<S>
         ensures { result ≡ service }
     {

@@ -38,6 +38,7 @@ impl<F, S> Model for FutureService<F, S> {
 }
 
 impl<F, S> FutureService<F, S> {
+    /// The future isn't polled here.
     pub fn new(future: F) -> FutureService<F, S>
         ensures { result ≡ Coming future }
     {

@@ -25,6 +25,7 @@ pub enum State<S, Request, F> {
 }
 
 impl<S: Service<Request>, Request> Oneshot<S, Request> {
+    /// Nothing is polled here. The request is called once the service is ready.
     pub fn new(service: S, request: Request) -> Oneshot<S, Request>
         ensures { result.state ≡ NotReady service request }
     {

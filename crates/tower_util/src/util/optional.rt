@@ -23,6 +23,7 @@ impl<T> Model for Optional<T> {
 }
 
 impl<T> Optional<T> {
+    /// With `None` it is always ready, and each call answers `None`.
     pub fn new(inner: Option<T>) -> Optional<T>
         ensures { result ≡ inner }
     {

@@ -22,6 +22,7 @@ impl<T, Request> Model for ReadyOneshot<T, Request> {
 }
 
 impl<T: Service<Request>, Request> ReadyOneshot<T, Request> {
+    /// Nothing is polled here.
     pub fn new(service: T) -> ReadyOneshot<T, Request>
         ensures { result ≡ Some service }
     {

@@ -20,6 +20,7 @@ impl<U> Model for FilterLayer<U> {
 }
 
 impl<U> FilterLayer<U> {
+    /// `layer` answers an error where the clone of the predicate is refused, and drops the service then.
     pub fn new(predicate: U) -> FilterLayer<U>
         ensures { result ≡ predicate }
     {
@@ -59,6 +60,7 @@ impl<U> Model for AsyncFilterLayer<U> {
 }
 
 impl<U> AsyncFilterLayer<U> {
+    /// `layer` answers an error where the clone of the predicate is refused, and drops the service then.
     pub fn new(predicate: U) -> AsyncFilterLayer<U>
         ensures { result ≡ predicate }
     {

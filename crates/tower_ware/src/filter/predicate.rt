@@ -51,6 +51,7 @@ pub struct PredicateFn<F> {
 }
 
 impl<F> PredicateFn<F> {
+    /// The closure gives the request that goes inside, or the error.
     pub fn new(f: F) -> PredicateFn<F>
         ensures { result.f ≡ f }
     {
@@ -83,6 +84,7 @@ pub struct AsyncPredicateFn<F> {
 }
 
 impl<F> AsyncPredicateFn<F> {
+    /// The closure gives a future of the request that goes inside, or of the error.
     pub fn new(f: F) -> AsyncPredicateFn<F>
         ensures { result.f ≡ f }
     {

@@ -8,6 +8,7 @@ use std::fmt::Display;
 pub struct Overloaded;
 
 impl Overloaded {
+    /// It has no parts.
     pub fn new() -> Overloaded {
         Overloaded
     }

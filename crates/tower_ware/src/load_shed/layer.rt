@@ -10,6 +10,7 @@ use tower_base::layer::Layer;
 pub struct LoadShedLayer;
 
 impl LoadShedLayer {
+    /// It has no parts.
     pub fn new() -> LoadShedLayer {
         LoadShedLayer
     }

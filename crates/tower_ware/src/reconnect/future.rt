@@ -11,7 +11,8 @@ use futures::task::{Context, Poll};
 use std::marker::Model;
 use tower_base::service::Steps;
 
-/// The connection's response, or the error of a connect.
+/// The connection's response, or the error of a connect: the Rust's
+/// `tower::reconnect::future::ResponseFuture`.
 #[derive(Drop)]
 pub struct ResponseFuture<F, E> {
     reply: Reply<F, E>,

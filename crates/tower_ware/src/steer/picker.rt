@@ -25,6 +25,7 @@ pub struct PickerFn<F> {
 }
 
 impl<F> PickerFn<F> {
+    /// The closure gives the index of a service in the list.
     pub fn new(f: F) -> PickerFn<F>
         ensures { result.f ≡ f }
     {

@@ -3,11 +3,12 @@
 use std::fmt::Display;
 use std::{error, fmt};
 
-/// The time of a response is over.
+/// The time of a response is over: the Rust's `tower::timeout::error::Elapsed`.
 #[derive(Clone, Copy, Debug, PartialEq, Eq)]
 pub struct Elapsed;
 
 impl Elapsed {
+    /// It has no parts.
     pub fn new() -> Elapsed {
         Elapsed
     }

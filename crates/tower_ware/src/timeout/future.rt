@@ -9,7 +9,7 @@ use futures::task::{Context, Poll};
 use std::marker::Model;
 use tower_base::service::{Clock, Steps};
 
-/// A response, or the end of its time.
+/// A response, or the end of its time: the Rust's `tower::timeout::future::ResponseFuture`.
 ///
 /// The response is polled first. Only where it is pending is the clock read.
 #[derive(Drop)]

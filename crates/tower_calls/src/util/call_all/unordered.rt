@@ -13,7 +13,12 @@ use std::alloc::Global;
 use std::marker::Model;
 use tower_base::service::{Flow, Service};
 
-/// Calls a service with each request of a stream and yields the answers as they come: the Rust's `CallAllUnordered`.
+/// Calls a service with each request of a stream and yields the answers as they come: the Rust's
+/// `tower::util::CallAllUnordered`.
+///
+/// An error of the service's readiness is yielded at once and ends the requests; the calls that were made still
+/// answer. After `Memory` the stream goes on. A poll makes 64 passes at most, and is then pending with its own task
+/// woken.
 ///
 /// `N` and `R` are the service's future and the request.
 #[derive(Drop)]

@@ -1,10 +1,11 @@
+//! Why there is no response.
 ghost use Rattle.std.specs.Prelude.{◌≡◌};
 ghost use Rattle.tower_limit.specs.Concurrency.{answer_of};
 
 use futures::task::Poll;
 use std::fmt::Display;
 
-/// Why there is no response.
+/// The error of a `ConcurrencyLimit`, in place of the Rust's boxed one.
 #[derive(Debug, Drop, thiserror::Error)]
 #[error_bound(E: Display)]
 pub enum Error<E> {

@@ -12,7 +12,8 @@ use std::marker::Model;
 use tower_base::latch::Latch;
 use tower_base::service::Steps;
 
-/// The inner response. It holds the permit of its call until it is dropped.
+/// The inner response. It holds the permit of its call until it is dropped: the Rust's
+/// `tower::limit::concurrency::future::ResponseFuture`.
 #[derive(Drop)]
 pub struct ResponseFuture<F, L: Latch<LineCore>> {
     response: F,

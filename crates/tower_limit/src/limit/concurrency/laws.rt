@@ -1,3 +1,4 @@
+//! What holds of every line of permits.
 ghost use Rattle.tower_base.specs.Latch.{IsRun};
 ghost use Rattle.tower_limit.specs.Line.{LineTurns};
 ghost use Rattle.tower_limit.specs.LineCore.{StandsFor};

@@ -11,7 +11,7 @@ use std::sync::Wait;
 use tower_base::latch::{Guarded, Latch};
 use tower_base::layer::Layer;
 
-/// Gives each service a limit of its own.
+/// Gives each service a limit of its own: the Rust's `tower::limit::ConcurrencyLimitLayer`.
 #[derive(Drop)]
 pub struct ConcurrencyLimitLayer<R> {
     rt: R,
@@ -52,7 +52,7 @@ impl<R: Copy> Clone for ConcurrencyLimitLayer<R> {
     }
 }
 
-/// Gives all services one limit.
+/// Gives all services one limit: the Rust's `tower::limit::GlobalConcurrencyLimitLayer`.
 #[derive(Drop)]
 pub struct GlobalConcurrencyLimitLayer<L: Latch<LineCore>> {
     semaphore: Semaphore<L>,
@@ -65,7 +65,7 @@ impl<L: Latch<LineCore>> Model for GlobalConcurrencyLimitLayer<L> {
 }
 
 impl<R: Wait + Copy> GlobalConcurrencyLimitLayer<Guarded<LineCore, R>> {
-    /// At most `max` calls of all services in flight.
+    /// At most `max` calls of all services in flight. It is refused where there is no memory for the line.
     pub fn new(rt: R, alloc: Global, max: usize) -> Result<Self, AllocError>
         ensures { IfOk result (λ made. made.max ≡ max) }
     {

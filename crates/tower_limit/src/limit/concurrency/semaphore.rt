@@ -25,7 +25,8 @@ impl<L: Latch<LineCore>> Model for Semaphore<L> {
 }
 
 impl<R: Wait + Copy> Semaphore<Guarded<LineCore, R>> {
-    /// So many permits, all free, behind a lock. Any number will do, 0 too.
+    /// So many permits, all free, behind a lock. Any number will do, 0 too. It is refused where there is
+    /// no memory for the line.
     pub fn new(rt: R, alloc: Global, max: usize) -> Result<Self, AllocError>
         ensures { IfOk result (λ made. made.max ≡ max) }
     {
@@ -60,7 +61,7 @@ impl<L: Latch<LineCore>> Semaphore<L> {
         }
     }
 
-    /// Another share of the same permits.
+    /// Another share of the same permits. It is refused where the latch refuses its share.
     pub fn share(&self) -> Result<Semaphore<L>, AllocError>
         ensures { IfOk result (λ other. SharesPermits L.gave self.now other) }
     {
@@ -106,6 +107,7 @@ impl<L: Latch<LineCore>> Model for PollSemaphore<L> {
 }
 
 impl<L: Latch<LineCore>> PollSemaphore<L> {
+    /// It has no place in the line yet.
     pub fn new(semaphore: Semaphore<L>) -> PollSemaphore<L>
         ensures { result ≡ record { semaphore = semaphore; key = None } }
     {
@@ -115,7 +117,7 @@ impl<L: Latch<LineCore>> PollSemaphore<L> {
         }
     }
 
-    /// Another share of the permits that it asks for.
+    /// Another share of the permits that it asks for. It is refused where the latch refuses its share.
     pub fn share(&self) -> Result<Semaphore<L>, AllocError>
         ensures { IfOk result (λ other. SharesPermits L.gave self.now.semaphore other) }
     {

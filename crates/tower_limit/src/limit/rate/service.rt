@@ -8,7 +8,8 @@ use futures::task::{Context, Poll};
 use std::marker::Model;
 use tower_base::service::{Clock, Service};
 
-/// Makes its callers wait for the next window where the last one is full.
+/// Makes its callers wait for the next window where the last one is full: the Rust's
+/// `tower::limit::RateLimit`. A pending poll of its own wakes its own task.
 ///
 /// The clock is handed in. It is read once by `new`, once by a poll where the last window is full, and
 /// once by a call, before the inner one.

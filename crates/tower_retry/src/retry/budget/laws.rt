@@ -1,3 +1,4 @@
+//! What holds of every budget.
 ghost use Rattle.tower_base.specs.Latch.{IsRun};
 ghost use Rattle.tower_retry.specs.Budget.{Turns};
 ghost use Rattle.tower_retry.specs.BudgetCore.{StandsFor, SumsKept};

@@ -27,8 +27,8 @@ impl BudgetCore {
     ghost use Rattle.tower_retry.specs.Budget.{Fits, Ledger, Withdraws, added, advanced, blank, terms_of};
     ghost use Rattle.tower_retry.specs.BudgetCore.{Changes, Opens, StandsFor, kept_balance};
 
-    /// A budget at the moment of its making, with room for all that it will keep. The time is in
-    /// nanoseconds.
+    /// A budget at the moment of its making, with room for all that it will keep, or an error where there
+    /// is none. Times are in nanoseconds. It asks for what `fits` tests.
     pub fn new(
         alloc: Global,
         ttl: u64,

@@ -1,3 +1,4 @@
+//! What may be asked of a budget, and what it answers.
 /// What may be asked of a budget, each with its moment.
 #[derive(Clone, Copy, Debug, PartialEq, Eq)]
 pub enum BudgetStep {

@@ -26,7 +26,8 @@ impl<L: Latch<BudgetCore>, C> Model for TpsBudget<L, C> {
 
 impl<R: Wait + Copy, C: Clock> TpsBudget<Guarded<BudgetCore, R>, C> {
     /// A deposit counts for `ttl` nanoseconds. There are always `min_per_sec` retries a second, and
-    /// beside them the fraction of the requests. The clock is read once.
+    /// beside them the fraction of the requests. It asks for what `fits` tests. The clock is read once,
+    /// and is dropped where there is no memory for the core.
     pub fn new(
         rt: R,
         alloc: Global,
@@ -43,7 +44,7 @@ impl<R: Wait + Copy, C: Clock> TpsBudget<Guarded<BudgetCore, R>, C> {
         Ok(TpsBudget { latch, clock })
     }
 
-    /// Ten seconds, ten a second and one in five: the Rust's `default`.
+    /// Ten seconds, ten a second and one in five: the Rust's `default`. It is refused as `new` is.
     pub fn with_clock(rt: R, alloc: Global, clock: C) -> Result<Self, AllocError>
         ensures { IfOk result (λ budget. C.read clock budget.clock) }
     {
