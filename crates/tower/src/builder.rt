@@ -254,6 +254,6 @@ impl<S, L: Layer<S>> Layer<S> for ServiceBuilder<L> {
     ghost made = { L.made };
 
     fn layer(&self, service: S) -> Result<L::Service, AllocError> {
-        self.layer.layer(service)
+        self.service(service)
     }
 }
