@@ -4,6 +4,8 @@
 #[cfg(test)]
 mod builders;
 #[cfg(test)]
+mod clones;
+#[cfg(test)]
 mod makers;
 #[cfg(test)]
 mod maps;
@@ -11,3 +13,5 @@ mod maps;
 mod scripted;
 #[cfg(test)]
 mod sides;
+#[cfg(test)]
+mod wares;

@@ -4,17 +4,19 @@ ghost use Rattle.futures.specs.Poll.{IfReady, OnPending};
 
 use futures::executor::block_on;
 use futures::future::Future;
+use futures::stream::Stream;
 use futures::task::{Context, Poll};
 use std::alloc::{AllocError, AllocGlobal};
 use std::io;
 use std::random::RandomSource;
 use std::sync::Wait;
 use tower::Service;
+use tower::retry::Policy;
 use tower::util::Oneshot;
-use tower_base::service::{Clock, Steps};
+use tower_base::service::{Clock, Flow, Steps};
 
 /// An answer that is there after so many pending polls.
-#[derive(Drop)]
+#[derive(Clone, Drop)]
 pub struct Delayed<T> {
     waits: u8,
     answer: Option<T>,
@@ -52,12 +54,29 @@ impl<T: Drop> Steps for Delayed<T> {
 }
 
 /// A service that is ready, or fails, after so many pending polls, and answers each request with itself.
-#[derive(Clone, Drop)]
+#[derive(Drop)]
 pub struct Echo {
     pub waits: u8,
     pub breaks: bool,
     pub fails: bool,
     pub delay: u8,
+    /// It can't be cloned for want of memory.
+    pub refuses: bool,
+}
+
+impl Clone for Echo {
+    fn clone(&self) -> Result<Echo, AllocError> {
+        if self.refuses {
+            return Err(AllocError);
+        }
+        Ok(Echo {
+            waits: self.waits,
+            breaks: self.breaks,
+            fails: self.fails,
+            delay: self.delay,
+            refuses: false,
+        })
+    }
 }
 
 impl Echo {
@@ -68,6 +87,7 @@ impl Echo {
             breaks: false,
             fails: false,
             delay: 0,
+            refuses: false,
         }
     }
 
@@ -89,6 +109,13 @@ impl Echo {
         Echo {
             waits: 1,
             delay: 1,
+            ..Echo::new()
+        }
+    }
+
+    pub fn refusing() -> Echo {
+        Echo {
+            refuses: true,
             ..Echo::new()
         }
     }
@@ -195,5 +222,57 @@ impl Clock for Still {
 
     fn share(&self) -> Still {
         Still(self.0)
+    }
+}
+
+/// The numbers from so many down to 1, as requests.
+#[derive(Drop)]
+pub struct Down(pub u8);
+
+impl Stream for Down {
+    type Item = u8;
+
+    fn poll_next(&mut self, cx: &mut Context<'_>) -> Poll<Option<u8>> {
+        self.flow(cx)
+    }
+}
+
+impl Flow for Down {
+    ghost flowed = { λ _ _ _. Unit {0} };
+
+    fn flow(&mut self, _cx: &mut Context<'_>) -> Poll<Option<u8>> {
+        if self.0 == 0 {
+            return Poll::Ready(None);
+        }
+        let number = self.0;
+        self.0 = number - 1;
+        Poll::Ready(Some(number))
+    }
+}
+
+/// Makes each request once more where it fails, with one more.
+#[derive(Clone, Drop)]
+pub struct OnceMore {
+    pub was_asked: bool,
+}
+
+impl Policy<u8, u8, u8> for OnceMore {
+    type Future = Delayed<()>;
+
+    ghost asked = { λ _ _ _ _ _ _ _. Unit {0} };
+
+    ghost cloned = { λ _ _ _ _. Unit {0} };
+
+    fn retry(&mut self, request: &mut u8, outcome: &mut Result<u8, u8>) -> Option<Delayed<()>> {
+        if self.was_asked || outcome.is_ok() {
+            return None;
+        }
+        self.was_asked = true;
+        *request = request.wrapping_add(1);
+        Some(after(1, ()))
+    }
+
+    fn clone_request(&mut self, request: &u8) -> Option<u8> {
+        Some(*request)
     }
 }
