@@ -202,6 +202,35 @@ fn refused_clone_is_answered_and_changes_nothing(rt: HostRuntime) -> Result<(), 
     Ok(())
 }
 
+// A predicate that can't be cloned for want of memory.
+#[derive(Drop)]
+struct Refuses;
+
+impl Clone for Refuses {
+    fn clone(&self) -> Result<Refuses, AllocError> {
+        Err(AllocError)
+    }
+}
+
+#[test]
+fn refused_clones_of_parts_are_handed_on(rt: HostRuntime) -> Result<(), Fail> {
+    let layer = FilterLayer::new(Refuses);
+    assert!(rt; layer.layer(Scripted::new(Mood::Willing)).is_err());
+    assert!(rt; layer.clone().is_err());
+    let layer = AsyncFilterLayer::new(Refuses);
+    assert!(rt; layer.layer(Scripted::new(Mood::Willing)).is_err());
+    assert!(rt; layer.clone().is_err());
+    let filter = Filter::new(Scripted::new(Mood::Willing), Refuses);
+    assert!(rt; filter.clone().is_err());
+    assert_eq!(rt; filter.into_inner(), Scripted::new(Mood::Willing));
+    assert!(rt; Filter::new(Refuses, 1u8).clone().is_err());
+    let filter = AsyncFilter::new(Scripted::new(Mood::Willing), Refuses);
+    assert!(rt; filter.clone().is_err());
+    assert_eq!(rt; filter.into_inner(), Scripted::new(Mood::Willing));
+    assert!(rt; AsyncFilter::new(Refuses, 1u8).clone().is_err());
+    Ok(())
+}
+
 #[test]
 fn texts(rt: HostRuntime) -> Result<(), Fail> {
     let alloc = rt.alloc();

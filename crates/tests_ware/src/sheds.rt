@@ -83,6 +83,14 @@ fn flag_counts_once_and_only_where_it_was_set(rt: HostRuntime) -> Result<(), Fai
 }
 
 #[test]
+fn refused_clone_of_the_service_is_handed_on(rt: HostRuntime) -> Result<(), Fail> {
+    let mut inner = Scripted::new(Mood::Willing);
+    inner.has_clones = false;
+    assert!(rt; LoadShed::new(inner).clone().is_err());
+    Ok(())
+}
+
+#[test]
 fn only_an_inner_error_is_not_ok(rt: HostRuntime) -> Result<(), Fail> {
     let task = MockTask::new(&rt)?;
     for (mood, expected) in [
