@@ -4,6 +4,8 @@
 #[cfg(test)]
 mod awaited;
 #[cfg(test)]
+mod clocks;
+#[cfg(test)]
 mod drives;
 #[cfg(test)]
 mod layers;

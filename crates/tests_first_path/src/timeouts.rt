@@ -3,6 +3,7 @@
 use crate::scripted::{After, Hand, called, text_of};
 use futures::task::{Context, Doorbell, Solo};
 use futures::test::MockTask;
+use std::alloc::AllocError;
 use std::cell::Cell;
 use std::test::Fail;
 use tower_base::drive::{Event, drive};
@@ -136,6 +137,26 @@ fn sleep_reads_as_it_is_made_and_at_each_poll(rt: HostRuntime) -> Result<(), Fai
     moment.set(15);
     assert!(rt; task.poll(&mut sleep).is_ready());
     assert_eq!(rt; readings.get(), 3);
+    Ok(())
+}
+
+// What can't be cloned for want of memory.
+#[derive(Drop)]
+struct Refuses;
+
+impl Clone for Refuses {
+    fn clone(&self) -> Result<Refuses, AllocError> {
+        Err(AllocError)
+    }
+}
+
+#[test]
+fn refused_clone_of_the_service_is_handed_on(rt: HostRuntime) -> Result<(), Fail> {
+    let moment = Cell::new(0);
+    let readings = Cell::new(0);
+    let service = Timeout::new(Refuses, 10, Hand::new(&moment, &readings));
+    assert!(rt; service.clone().is_err());
+    assert_eq!(rt; readings.get(), 0);
     Ok(())
 }
 
