@@ -5,6 +5,8 @@ mod fault;
 mod lines;
 mod pace;
 mod paced;
+#[cfg(test)]
+mod tests;
 mod writing;
 
 use fault::Fault;
