@@ -6,16 +6,9 @@ use std::test::Fail;
 use tower_calls::util::call_all::{Error, law};
 use tower_calls::util::{CallAll, CallAllUnordered};
 
-fn clerk(desk: &Desk) -> Clerk<'_> {
-    Clerk {
-        desk,
-        was_asked: false,
-    }
-}
-
 fn ordered(rt: HostRuntime, desk: &Desk, acts: Vec<Act>) -> Result<Vec<Came>, Fail> {
     let alloc = rt.alloc();
-    let calls = CallAll::new(alloc, clerk(desk), Requests { desk, next: 0 });
+    let calls = CallAll::new(alloc, Clerk::new(desk), Requests { desk, next: 0 });
     Ok(run(
         alloc,
         &Solo::new(&rt, Doorbell::spinning())?,
@@ -27,7 +20,7 @@ fn ordered(rt: HostRuntime, desk: &Desk, acts: Vec<Act>) -> Result<Vec<Came>, Fa
 
 fn unordered(rt: HostRuntime, desk: &Desk, acts: Vec<Act>) -> Result<Vec<Came>, Fail> {
     let alloc = rt.alloc();
-    let calls = CallAllUnordered::new(alloc, clerk(desk), Requests { desk, next: 0 });
+    let calls = CallAllUnordered::new(alloc, Clerk::new(desk), Requests { desk, next: 0 });
     Ok(run(
         alloc,
         &Solo::new(&rt, Doorbell::spinning())?,
@@ -149,7 +142,7 @@ fn requests_that_come_later_are_called_once_the_service_is_ready(
 // Whether two polls wait, of which the first wakes its own task, and how many calls each made.
 fn many(rt: HostRuntime, desk: &Desk) -> Result<(bool, usize, Came, usize), Fail> {
     let solo = Solo::new(&rt, Doorbell::spinning())?;
-    let mut calls = Some(CallAll::new(rt.alloc(), clerk(desk), Requests { desk, next: 0 }));
+    let mut calls = Some(CallAll::new(rt.alloc(), Clerk::new(desk), Requests { desk, next: 0 }));
     let first = polled(&solo, &mut calls);
     let made = desk.called.get();
     let second = polled(&solo, &mut calls);
@@ -166,7 +159,7 @@ fn one_poll_makes_so_many_calls(rt: HostRuntime) -> Result<(), Fail> {
         desk: &other,
         next: 0,
     };
-    let mut calls = CallAllUnordered::new(rt.alloc(), clerk(&other), requests);
+    let mut calls = CallAllUnordered::new(rt.alloc(), Clerk::new(&other), requests);
     assert!(rt; wakes_itself(&solo, &mut calls));
     assert_eq!(rt; other.called.get(), 64);
     Ok(())
@@ -176,7 +169,7 @@ fn one_poll_makes_so_many_calls(rt: HostRuntime) -> Result<(), Fail> {
 fn handed_over(rt: HostRuntime, desk: &Desk) -> Result<Option<(Came, Came)>, Fail> {
     let solo = Solo::new(&rt, Doorbell::spinning())?;
     desk.act(Act::Busy(true));
-    let mut calls = Some(CallAll::new(rt.alloc(), clerk(desk), Requests { desk, next: 0 }));
+    let mut calls = Some(CallAll::new(rt.alloc(), Clerk::new(desk), Requests { desk, next: 0 }));
     let first = polled(&solo, &mut calls);
     let Some(calls) = calls else {
         return Ok(None);
@@ -203,7 +196,7 @@ fn service_comes_out_again(rt: HostRuntime) -> Result<(), Fail> {
     let desk = Desk::new(1, true, 9);
     let mut calls = CallAll::new(
         rt.alloc(),
-        clerk(&desk),
+        Clerk::new(&desk),
         Requests {
             desk: &desk,
             next: 0,
@@ -216,7 +209,7 @@ fn service_comes_out_again(rt: HostRuntime) -> Result<(), Fail> {
     assert!(rt; !calls.unordered().has_service());
     let others = CallAllUnordered::new(
         rt.alloc(),
-        clerk(&desk),
+        Clerk::new(&desk),
         Requests {
             desk: &desk,
             next: 0,

@@ -113,6 +113,15 @@ pub struct Clerk<'a> {
     pub was_asked: bool,
 }
 
+impl<'a> Clerk<'a> {
+    pub fn new(desk: &'a Desk) -> Clerk<'a> {
+        Clerk {
+            desk,
+            was_asked: false,
+        }
+    }
+}
+
 impl<'a> Service<u8> for Clerk<'a> {
     type Response = u8;
 

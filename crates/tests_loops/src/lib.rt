@@ -8,6 +8,8 @@ mod desks;
 #[cfg(test)]
 mod reconnects;
 #[cfg(test)]
+mod refused;
+#[cfg(test)]
 mod scripted;
 #[cfg(test)]
 mod steers;
