@@ -10,6 +10,8 @@ mod drives;
 #[cfg(test)]
 mod layers;
 #[cfg(test)]
+mod order;
+#[cfg(test)]
 mod scripted;
 #[cfg(test)]
 mod timeouts;
