@@ -5,6 +5,7 @@
 mod builders;
 #[cfg(test)]
 mod clones;
+mod chains;
 #[cfg(test)]
 mod makers;
 #[cfg(test)]
@@ -15,3 +16,4 @@ mod scripted;
 mod sides;
 #[cfg(test)]
 mod wares;
+mod stacks;

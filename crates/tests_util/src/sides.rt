@@ -104,6 +104,13 @@ fn ready_waits_for_readiness(rt: HostRuntime) -> Result<(), Fail> {
     Ok(())
 }
 
+#[test]
+fn oneshot_drives_the_service_to_readiness(rt: HostRuntime) -> Result<(), Fail> {
+    assert_eq!(rt; block_on(&rt, Echo::slow().oneshot(6))?, Ok(6));
+    assert_eq!(rt; block_on(&rt, Echo::broken().oneshot(6))?, Err(90));
+    Ok(())
+}
+
 fn asked_after_failure(cx: &mut Context<'_>) -> [Poll<Result<(), future_service::Error<u8>>>; 2] {
     let failing = after(0, Err::<Echo, u8>(7));
     let service = FutureService::<_, Echo>::new(failing);
