@@ -3,6 +3,7 @@
 use crate::desks::{Act, Came, Clerk, Desk, Requests, polled, run, wakes_itself};
 use futures::task::{Doorbell, Solo};
 use std::test::Fail;
+use tower_base::service::Flow;
 use tower_calls::util::call_all::{Error, law};
 use tower_calls::util::{CallAll, CallAllUnordered};
 
@@ -106,6 +107,24 @@ fn readiness_error_comes_first_and_ends_the_requests(rt: HostRuntime) -> Result<
 }
 
 #[test]
+fn readiness_error_comes_before_answers_that_are_there_too(rt: HostRuntime) -> Result<(), Fail> {
+    let acts = || vec![in rt.alloc();
+        Act::Nothing,
+        Act::Answers(Ok(4), Ok(5)),
+        Act::Nothing,
+        Act::Nothing,
+    ];
+    let want = [Came::Fails(7), Came::Item(4), Came::Item(5), Came::Ended];
+    let desk = Desk::new(4, true, 2);
+    assert_eq!(rt; ordered(rt, &desk, acts()?)?.as_slice(), want.as_slice());
+    assert_eq!(rt; desk.called.get(), 2);
+    let desk = Desk::new(4, true, 2);
+    assert_eq!(rt; unordered(rt, &desk, acts()?)?.as_slice(), want.as_slice());
+    assert_eq!(rt; desk.called.get(), 2);
+    Ok(())
+}
+
+#[test]
 fn requests_that_come_later_are_called_once_the_service_is_ready(
     rt: HostRuntime,
 ) -> Result<(), Fail> {
@@ -139,29 +158,31 @@ fn requests_that_come_later_are_called_once_the_service_is_ready(
     Ok(())
 }
 
-// Whether two polls wait, of which the first wakes its own task, and how many calls each made.
-fn many(rt: HostRuntime, desk: &Desk) -> Result<(bool, usize, Came, usize), Fail> {
+// Whether the first of two polls waits and wakes its own task, what the second came to, and how many calls
+// were made by each.
+fn many<F: Flow<Item = Result<u8, Error<u8>>>>(
+    rt: HostRuntime,
+    desk: &Desk,
+    flow: F,
+) -> Result<(bool, usize, Came, usize), Fail>
+    requires { F.can_poll flow }
+{
     let solo = Solo::new(&rt, Doorbell::spinning())?;
-    let mut calls = Some(CallAll::new(rt.alloc(), Clerk::new(desk), Requests { desk, next: 0 }));
-    let first = polled(&solo, &mut calls);
+    let mut calls = Some(flow);
+    let first = wakes_itself(&solo, &mut calls);
     let made = desk.called.get();
     let second = polled(&solo, &mut calls);
-    Ok((first == Came::Waits, made, second, desk.called.get()))
+    Ok((first, made, second, desk.called.get()))
 }
 
 #[test]
 fn one_poll_makes_so_many_calls(rt: HostRuntime) -> Result<(), Fail> {
-    let desk = Desk::new(65, false, 99);
-    assert_eq!(rt; many(rt, &desk)?, (true, 64, Came::Waits, 65));
-    let solo = Solo::new(&rt, Doorbell::spinning())?;
-    let other = Desk::new(65, false, 99);
-    let requests = Requests {
-        desk: &other,
-        next: 0,
-    };
-    let mut calls = CallAllUnordered::new(rt.alloc(), Clerk::new(&other), requests);
-    assert!(rt; wakes_itself(&solo, &mut calls));
-    assert_eq!(rt; other.called.get(), 64);
+    let desk = &Desk::new(65, false, 99);
+    let calls = CallAll::new(rt.alloc(), Clerk::new(desk), Requests { desk, next: 0 });
+    assert_eq!(rt; many(rt, desk, calls)?, (true, 64, Came::Waits, 65));
+    let desk = &Desk::new(65, false, 99);
+    let calls = CallAllUnordered::new(rt.alloc(), Clerk::new(desk), Requests { desk, next: 0 });
+    assert_eq!(rt; many(rt, desk, calls)?, (true, 64, Came::Waits, 65));
     Ok(())
 }
 

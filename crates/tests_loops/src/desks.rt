@@ -2,7 +2,7 @@
 ghost use Rattle.std.specs.Prelude.{◌≡◌, IfSome, Ok, true, refl, ⊤};
 ghost use Rattle.futures.specs.declared.task.Poll.TheVariants.{Ready};
 
-use futures::future::Future;
+use futures::future::{Future, Pending, pending};
 use futures::stream::Stream;
 use futures::task::{Context, Poll, Solo};
 use std::alloc::{AllocError, Global};
@@ -16,6 +16,8 @@ pub enum Act {
     Nothing,
     /// One response or error is there, of the first four.
     Answer(usize, Result<u8, u8>),
+    /// The first two are there.
+    Answers(Result<u8, u8>, Result<u8, u8>),
     /// So many requests were sent in all.
     Send(u8),
     Close,
@@ -60,17 +62,23 @@ impl Desk {
     pub fn act(&self, act: Act) {
         match act {
             Act::Nothing => {}
-            Act::Answer(index, answer) => {
-                let mut answers = self.answers.get();
-                if index < 4 {
-                    answers[index] = Some(answer);
-                }
-                self.answers.set(answers);
+            Act::Answer(index, answer) => self.put(index, answer),
+            Act::Answers(first, second) => {
+                self.put(0, first);
+                self.put(1, second);
             }
             Act::Send(sent) => self.sent.set(sent),
             Act::Close => self.is_closed.set(true),
             Act::Busy(is_busy) => self.is_busy.set(is_busy),
         }
+    }
+
+    fn put(&self, index: usize, answer: Result<u8, u8>) {
+        let mut answers = self.answers.get();
+        if index < 4 {
+            answers[index] = Some(answer);
+        }
+        self.answers.set(answers);
     }
 
     fn answer(&self, number: u8) -> Option<Result<u8, u8>> {
@@ -80,11 +88,12 @@ impl Desk {
     }
 }
 
-/// A response to a request by its number.
+/// A response to a request by its number. While it isn't there nothing wakes its task.
 #[derive(Drop)]
 pub struct Response<'a> {
     desk: &'a Desk,
     number: u8,
+    never: Pending<Result<u8, u8>>,
 }
 
 impl<'a> Future for Response<'a> {
@@ -101,7 +110,7 @@ impl<'a> Steps for Response<'a> {
     fn step(&mut self, cx: &mut Context<'_>) -> Poll<Result<u8, u8>> {
         match self.desk.answer(self.number) {
             Some(answer) => Poll::Ready(answer),
-            None => cx.yield_now(),
+            None => self.never.poll(cx),
         }
     }
 }
@@ -156,6 +165,7 @@ impl<'a> Service<u8> for Clerk<'a> {
         Response {
             desk: self.desk,
             number,
+            never: pending(),
         }
     }
 }
@@ -232,15 +242,26 @@ pub fn run<F: Flow<Item = Result<u8, Error<u8>>>>(
     Ok(all)
 }
 
-/// Whether a poll of the stream waits and has woken its own task.
-pub fn wakes_itself<F: Flow<Item = Result<u8, Error<u8>>>>(solo: &Solo, flow: &mut F) -> bool
-    requires { F.can_poll flow.old }
+/// Whether a poll of the stream waits and has woken its own task. One that doesn't wait is dropped.
+pub fn wakes_itself<F: Flow<Item = Result<u8, Error<u8>>>>(
+    solo: &Solo,
+    flow: &mut Option<F>,
+) -> bool
+    requires { IfSome flow.old F.can_poll }
+    ensures { IfSome flow.new F.can_poll }
 {
+    let Some(mut live) = flow.take() else {
+        return false;
+    };
     let mut cx = solo.begin();
-    let answer = flow.flow(&mut cx);
+    let answer = live.flow(&mut cx);
     cx.end(&answer);
+    if !answer.is_pending() {
+        return false;
+    }
+    *flow = Some(live);
     match solo.sleep() {
-        None => answer.is_pending(),
+        None => true,
         Some(asleep) => {
             asleep.end();
             false
