@@ -1,0 +1,200 @@
+//! The stacks by their names.
+ghost use Rattle.std.specs.Prelude.{◌<◌, length};
+
+use crate::inner::{Echo, Maker, Pace};
+use crate::lines::Line;
+use crate::rounds::rounds;
+use crate::{lines, maps, retries};
+use futures::future::{ok, ready};
+use futures::task::Context;
+use std::alloc::{AllocError, AllocGlobal};
+use std::sync::Wait;
+use tower::Service;
+use tower::filter::{Filter, PredicateFn};
+use tower::limit::rate::Rate;
+use tower::limit::{ConcurrencyLimit, RateLimit};
+use tower::load_shed::LoadShed;
+use tower::reconnect::Reconnect;
+use tower::service::Clock;
+use tower::steer::{PickerFn, Steer};
+use tower::timeout::Timeout;
+
+/// What the rounds are made of.
+#[derive(Clone, Copy)]
+pub enum Stack {
+    /// No middleware.
+    Direct,
+    /// A response may take 10.
+    Timeout,
+    /// A rate limit that is never full.
+    Rate,
+    /// A rate limit that is full after each round.
+    FullRate,
+    /// One call in flight.
+    Limit,
+    LoadShed,
+    /// As `tower-run`'s.
+    All,
+    /// A policy that pays for its retries. This inner service asks for none.
+    Budget,
+    /// Each round has one retry.
+    OneRetry,
+    /// One of eight services.
+    Steer,
+    /// Each request passes.
+    Filter,
+    /// It is connected.
+    Reconnect,
+    /// Five maps.
+    Maps,
+    /// A semaphore alone: a permit is taken and given back.
+    Semaphore,
+    /// The line of permits alone, with so many waiters.
+    Line(Line, u64),
+}
+
+impl Stack {
+    /// The stack of this name.
+    pub fn named(name: &str) -> Option<Stack> {
+        match name.as_bytes() {
+            b"direct" => Some(Stack::Direct),
+            b"timeout" => Some(Stack::Timeout),
+            b"rate_limit" => Some(Stack::Rate),
+            b"rate_limit_each_window_full" => Some(Stack::FullRate),
+            b"concurrency_limit" => Some(Stack::Limit),
+            b"load_shed" => Some(Stack::LoadShed),
+            b"all" => Some(Stack::All),
+            b"retry_budget" => Some(Stack::Budget),
+            b"retry_budget_one_retry" => Some(Stack::OneRetry),
+            b"steer_8" => Some(Stack::Steer),
+            b"filter" => Some(Stack::Filter),
+            b"reconnect" => Some(Stack::Reconnect),
+            b"maps_5" => Some(Stack::Maps),
+            b"semaphore_take_give" => Some(Stack::Semaphore),
+            _ => {
+                let (line, waiters) = Line::named(name)?;
+                Some(Stack::Line(line, waiters))
+            }
+        }
+    }
+
+    /// Makes so many rounds, and answers the sum of their responses.
+    pub fn sum<R: Wait + AllocGlobal + Copy>(
+        self,
+        rt: R,
+        cx: &mut Context<'_>,
+        count: u64,
+    ) -> Result<u64, AllocError> {
+        let pace = Pace::new(self.step());
+        match self {
+            Stack::Direct => Ok(rounds(cx, Echo, &pace, count)),
+            Stack::Timeout => {
+                let service = Timeout::new(Echo, 10, pace.clock());
+                Ok(rounds(cx, service, &pace, count))
+            }
+            Stack::Rate => Ok(rated(cx, Rate::new(u64::MAX, 1 << 60), &pace, count)),
+            Stack::FullRate => Ok(rated(cx, Rate::new(1, 1), &pace, count)),
+            Stack::Limit => {
+                let service = ConcurrencyLimit::new(rt, rt.alloc(), Echo, 1)?;
+                Ok(rounds(cx, service, &pace, count))
+            }
+            Stack::LoadShed => Ok(rounds(cx, LoadShed::new(Echo), &pace, count)),
+            Stack::All => layered(rt, cx, Echo, pace.clock(), &pace, count),
+            Stack::Budget => retries::paid(rt, cx, &pace, count),
+            Stack::OneRetry => retries::retried(rt, cx, &pace, count),
+            Stack::Steer => steered(rt, cx, &pace, count),
+            Stack::Filter => Ok(filtered(cx, &pace, count)),
+            Stack::Reconnect => Ok(connected(cx, &pace, count)),
+            Stack::Maps => Ok(mapped(cx, &pace, count)),
+            Stack::Semaphore => lines::take_give(rt, cx, count),
+            Stack::Line(line, waiters) => line.sum(rt.alloc(), waiters, count),
+        }
+    }
+
+    // How far the clock goes on in a round.
+    fn step(self) -> u64 {
+        match self {
+            Stack::FullRate => 1,
+            Stack::All => 5,
+            _ => 0,
+        }
+    }
+}
+
+// Under a rate limit.
+fn rated(cx: &mut Context<'_>, rate: Rate, pace: &Pace, count: u64) -> u64 {
+    let service = RateLimit::new(Echo, rate, pace.clock());
+    rounds(cx, service, pace, count)
+}
+
+// Under the four of `tower-run`'s, the time outermost and the rate innermost.
+fn layered<R, S, C>(
+    rt: R,
+    cx: &mut Context<'_>,
+    inner: S,
+    clock: C,
+    pace: &Pace,
+    count: u64,
+) -> Result<u64, AllocError>
+where
+    R: Wait + AllocGlobal + Copy,
+    S: Service<u64, Response = u64>,
+    C: Clock,
+    requires { S.sound inner }
+{
+    let rated = RateLimit::new(inner, Rate::new(2, 10), clock.share());
+    let limited = ConcurrencyLimit::new(rt, rt.alloc(), rated, 1)?;
+    Ok(shed_in_time(cx, limited, clock, pace, count))
+}
+
+// Under the refusal and the time. (At all four at once the check gives up.)
+fn shed_in_time<S, C>(cx: &mut Context<'_>, inner: S, clock: C, pace: &Pace, count: u64) -> u64
+where
+    S: Service<u64, Response = u64>,
+    C: Clock,
+    requires { S.sound inner }
+{
+    let service = Timeout::new(LoadShed::new(inner), 10, clock);
+    rounds(cx, service, pace, count)
+}
+
+// Under a steer over eight.
+fn steered<R: Wait + AllocGlobal + Copy>(
+    rt: R,
+    cx: &mut Context<'_>,
+    pace: &Pace,
+    count: u64,
+) -> Result<u64, AllocError> {
+    let services = vec![in rt.alloc(); Echo, Echo, Echo, Echo, Echo, Echo, Echo, Echo]?;
+    let f = |request: &u64, services: &[Echo]| -> usize
+        ensures { 0 < length services.now → result < length services.now }
+    { ((*request % 8) as usize).min(services.len().saturating_sub(1)) };
+    let service = Steer::new(rt.alloc(), services, PickerFn::new(f))?;
+    Ok(rounds(cx, service, pace, count))
+}
+
+// Under a filter.
+fn filtered(cx: &mut Context<'_>, pace: &Pace, count: u64) -> u64 {
+    let predicate = PredicateFn::new(|request: u64| Ok::<u64, u64>(request));
+    rounds(cx, Filter::new(Echo, predicate), pace, count)
+}
+
+// Under a connection that is there.
+fn connected(cx: &mut Context<'_>, pace: &Pace, count: u64) -> u64 {
+    let service = Reconnect::with_connection(Echo, Maker, 0);
+    rounds(cx, service, pace, count)
+}
+
+// Under five maps.
+fn mapped(cx: &mut Context<'_>, pace: &Pace, count: u64) -> u64 {
+    maps::five(
+        cx,
+        pace,
+        count,
+        |request: u64| request.wrapping_add(1),
+        |response: u64| response.wrapping_add(2),
+        |error: u64| error.wrapping_add(3),
+        |answer: Result<u64, u64>| ready(answer),
+        |response: u64| ok::<u64, u64>(response.wrapping_add(4)),
+    )
+}
