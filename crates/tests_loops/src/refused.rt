@@ -173,21 +173,22 @@ fn cloned_while_ready<S: Service<u8> + Clone>(
 
 #[test]
 fn refused_steers_and_clones_are_dropped(rt: HostRuntime) -> Result<(), Fail> {
-    let (alloc, live) = (rt.alloc(), Cell::new(0));
+    let (alloc, count) = (rt.alloc(), Cell::new(0));
+    let live = &count;
     let last = |_request: &u8, services: &[Counted<'_>]| -> usize
         ensures { 0 < length services.now → result < length services.now }
     { services.len().saturating_sub(1) };
     let picker = PickerFn::new(last);
-    let steer = match Steer::new(alloc, pair(alloc, &live)?, picker) {
+    let steer = match Steer::new(alloc, pair(alloc, live)?, picker) {
         Ok(steer) => steer,
         Err(AllocError) => {
             assert_eq!(rt; live.get(), 0);
-            Steer::new(alloc, pair(alloc, &live)?, picker)?
+            Steer::new(alloc, pair(alloc, live)?, picker)?
         }
     };
     let solo = solo(rt)?;
     let mut cx = solo.begin();
-    let told = cloned_while_ready(&mut cx, &live, steer);
+    let told = cloned_while_ready(&mut cx, live, steer);
     cx.cancel();
     assert_eq!(rt;
         told,

@@ -1,5 +1,5 @@
 //! The middleware of the builder, and the methods of each service that make middleware.
-ghost use Rattle.std.specs.Prelude.{◌≡◌};
+ghost use Rattle.std.specs.Prelude.{◌≡◌, IfSome};
 
 use crate::scripted::{Delayed, Down, Echo, OnceMore, Refuses, Still, after, fire};
 use futures::executor::block_on;
@@ -78,8 +78,18 @@ fn builder_filters_and_retries(rt: HostRuntime) -> Result<(), Fail> {
         fire(&rt, builder.service(Echo::failing())?, 6)?,
         Err(retry::Error::Inner(7))
     );
-    let plain = ServiceBuilder::new().layer(Identity::new());
-    assert_eq!(rt; fire(&rt, plain.service(Echo::new())?, 6)?, Ok(6));
+    Ok(())
+}
+
+#[test]
+fn builder_adds_layers_of_all_kinds(rt: HostRuntime) -> Result<(), Fail> {
+    let builder = ServiceBuilder::new()
+        .layer(Identity::new())
+        .layer_fn(|service: Echo| Ok(Echo {
+            fails: true,
+            ..service
+        }));
+    assert_eq!(rt; fire(&rt, builder.service(Echo::new())?, 6)?, Err(6));
     Ok(())
 }
 
@@ -99,10 +109,30 @@ fn builder_hands_refused_clones_on(rt: HostRuntime) -> Result<(), Fail> {
     Ok(())
 }
 
-// What three polls of the answers to two requests come to.
-fn called_down(alloc: Global, cx: &mut Context<'_>) -> [Poll<Option<Result<u8, Error<u8>>>>; 3] {
-    let mut calls = Echo::new().call_all(alloc, Down(2));
-    [calls.flow(cx), calls.flow(cx), calls.flow(cx)]
+// The next answer of a stream, which is dropped at its end.
+fn next_of<F: Flow>(flow: &mut Option<F>, cx: &mut Context<'_>) -> Option<F::Item>
+    requires { IfSome flow.old F.can_poll }
+    ensures { IfSome flow.new F.can_poll }
+{
+    let Some(mut live) = flow.take() else {
+        return None;
+    };
+    let item = match live.flow(cx) {
+        Poll::Ready(None) => return None,
+        Poll::Ready(Some(item)) => Some(item),
+        Poll::Pending => None,
+    };
+    *flow = Some(live);
+    item
+}
+
+// The answers to two requests, and what comes after them.
+fn called_down(alloc: Global, cx: &mut Context<'_>) -> [Option<Result<u8, Error<u8>>>; 3] {
+    let mut calls = Some(Echo::new().call_all(alloc, Down(2)));
+    let first = next_of(&mut calls, cx);
+    let second = next_of(&mut calls, cx);
+    let third = next_of(&mut calls, cx);
+    [first, second, third]
 }
 
 #[test]
@@ -110,14 +140,12 @@ fn methods_of_each_service_call_it(rt: HostRuntime) -> Result<(), Fail> {
     assert_eq!(rt; block_on(&rt, Echo::slow().oneshot(6))?, Ok(6));
     let (alloc, task) = (rt.alloc(), MockTask::new(&rt)?);
     let answers = task.enter(|cx: &mut Context<'_>| called_down(alloc, cx));
-    assert_eq!(rt;
-        answers,
-        [
-            Poll::Ready(Some(Ok(2))),
-            Poll::Ready(Some(Ok(1))),
-            Poll::Ready(None)
-        ]
-    );
+    assert_eq!(rt; answers, [Some(Ok(2)), Some(Ok(1)), None]);
+    Ok(())
+}
+
+#[test]
+fn methods_of_each_service_filter_requests(rt: HostRuntime) -> Result<(), Fail> {
     let half = |x: u8| if x < 100 { Ok(x / 2) } else { Err(x) };
     let service = Echo::new().filter(PredicateFn::new(half));
     assert_eq!(rt; fire(&rt, service, 6u8)?, Ok(3));
@@ -127,6 +155,11 @@ fn methods_of_each_service_call_it(rt: HostRuntime) -> Result<(), Fail> {
         fire(&rt, service, 100u8)?,
         Err(filter::Error::Rejected(100))
     );
+    Ok(())
+}
+
+#[test]
+fn method_of_each_service_changes_futures(rt: HostRuntime) -> Result<(), Fail> {
     let other = |_future: Delayed<Result<u8, u8>>| after(1, Ok::<u8, u8>(9));
     assert_eq!(rt; fire(&rt, Echo::failing().map_future(other), 6)?, Ok(9));
     Ok(())
