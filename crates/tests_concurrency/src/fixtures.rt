@@ -130,17 +130,28 @@ impl<L: Latch<LineCore>, R: Wait + Copy> Latch<LineCore> for Counting<L, R> {
 
 pub type Noted = Arc<Mutex<Vec<LineStep>>>;
 
+// The latch with its steps written down, and where.
+pub fn noted<L: Latch<LineCore>, R: Drop>(
+    rt: R,
+    alloc: Global,
+    inner: L,
+) -> Result<(Counting<L, R>, Noted), AllocError> {
+    let steps = Arc::new(alloc, Mutex::new(Vec::new(alloc)))?;
+    let latch = Counting {
+        rt,
+        inner,
+        steps: Arc::try_clone(&steps)?,
+    };
+    Ok((latch, steps))
+}
+
 // A semaphore whose steps are written down, and where.
 pub fn noted_semaphore<R: Wait + Copy>(
     rt: R,
     alloc: Global,
     max: usize,
 ) -> Result<(Semaphore<Counting<Guarded<LineCore, R>, R>>, Noted), AllocError> {
-    let steps = Arc::new(alloc, Mutex::new(Vec::new(alloc)))?;
-    let latch = Counting {
-        rt,
-        inner: Guarded::new(rt, alloc, LineCore::new(alloc, max))?,
-        steps: Arc::try_clone(&steps)?,
-    };
+    let guarded = Guarded::new(rt, alloc, LineCore::new(alloc, max))?;
+    let (latch, steps) = noted(rt, alloc, guarded)?;
     Ok((Semaphore::with_latch(latch, max), steps))
 }

@@ -4,6 +4,8 @@
 #[cfg(test)]
 mod fixtures;
 #[cfg(test)]
+mod looks;
+#[cfg(test)]
 mod permits;
 #[cfg(test)]
 mod refused;

@@ -6,6 +6,8 @@ mod backoffs;
 #[cfg(test)]
 mod budgets;
 #[cfg(test)]
+mod clones;
+#[cfg(test)]
 mod fixtures;
 #[cfg(test)]
 mod mocks;
