@@ -282,3 +282,10 @@ fn rates_that_fit_are_positive(rt: HostRuntime) {
         assert_eq!(rt; Rate::fits(num, per), fits);
     }
 }
+
+#[test]
+fn rate_shows_its_numbers(rt: HostRuntime) -> Result<(), Fail> {
+    let text = format!(in rt.alloc(); "{:?}", Rate::new(2, 10))?;
+    assert_eq!(rt; text.as_str(), "Rate { num: 2, per: 10 }");
+    Ok(())
+}
