@@ -14,7 +14,8 @@ pub struct AsService<'a, M, Request> {
 
 impl<'a, M, Request> AsService<'a, M, Request> {
     pub(crate) fn new(make: &'a mut M) -> AsService<'a, M, Request>
-        ensures { result.make.now ≡ make.old }
+        ensures value { result.make.now ≡ make.old }
+        ensures same_reference { result.make.ghost_name ≡ make.entry.ghost_name }
     {
         AsService {
             make,
@@ -39,11 +40,11 @@ where
 
     ghost ready = { λ v. M.ready v.make.now };
 
-    ghost polled = { λ v r w. M.polled v.make.now r w.make.now };
+    ghost polled = { λ v r w. M.polled v.make.now r w.make.now × (w.make.ghost_name ≡ v.make.ghost_name) };
 
-    ghost called = { λ v q t w. M.ready v.make.now × M.called v.make.now q t w.make.now };
+    ghost called = { λ v q t w. M.ready v.make.now × M.called v.make.now q t w.make.now × (w.make.ghost_name ≡ v.make.ghost_name) };
 
-    ghost readies = { λ v w p. M.readies v.make.now w.make.now p };
+    ghost readies = { λ v w p. M.readies v.make.now w.make.now p.0 };
 
     fn poll_ready(&mut self, cx: &mut Context<'_>) -> Poll<Result<(), M::Error>> {
         self.make.poll_ready(cx)

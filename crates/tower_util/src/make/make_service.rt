@@ -60,7 +60,8 @@ pub trait MakeService<Target, Request>: Drop {
     final fn as_service(&mut self) -> AsService<'_, Self, Request>
     where
         Self: Sized,
-        ensures { result.make.now ≡ self.old }
+        ensures value { result.make.now ≡ self.old }
+        ensures same_reference { result.make.ghost_name ≡ self.entry.ghost_name }
     {
         AsService::new(self)
     }

@@ -1,7 +1,7 @@
 //! Waiting for a service to be ready.
 ghost use Rattle.std.specs.Prelude.{◌≡◌, Option, Some, IsSomeAnd, Ok, Err};
 ghost use Rattle.tower_base.specs.Gives.{MayGive};
-ghost use Rattle.tower_util.specs.Ready.{Waits};
+ghost use Rattle.tower_util.specs.Ready.{Asks, Waits};
 
 use futures::future::Future;
 use futures::task::{Context, Poll};
@@ -77,7 +77,8 @@ pub struct Ready<'a, T, Request> {
 
 impl<'a, T: Service<Request>, Request> Ready<'a, T, Request> {
     pub fn new(service: &'a mut T) -> Ready<'a, T, Request>
-        ensures { result.service.now ≡ service.old }
+        ensures value { result.service.now ≡ service.old }
+        ensures same_reference { result.service.ghost_name ≡ service.entry.ghost_name }
     {
         Ready {
             service,
@@ -91,7 +92,7 @@ impl<'a, T: Service<Request>, Request: Drop> Future for Ready<'a, T, Request> {
 
     ghost can_poll = { λ r. T.sound r.service.now };
 
-    ghost gives = { MayGive (λ old answer new. T.polled old.service.now answer new.service.now) };
+    ghost gives = { MayGive (λ old answer new. Asks T.sound T.polled old.service answer new.service) };
 
     #[tactic(auto, using(tower_base::specs::Gives::gives_value, tower_base::specs::Gives::gives_same))]
     fn poll(&mut self, cx: &mut Context<'_>) -> Poll<Result<(), T::Error>> {
@@ -100,7 +101,7 @@ impl<'a, T: Service<Request>, Request: Drop> Future for Ready<'a, T, Request> {
 }
 
 impl<'a, T: Service<Request>, Request: Drop> Steps for Ready<'a, T, Request> {
-    ghost stepped = { λ old answer new. T.polled old.service.now answer new.service.now };
+    ghost stepped = { λ old answer new. Asks T.sound T.polled old.service answer new.service };
 
     fn step(&mut self, cx: &mut Context<'_>) -> Poll<Result<(), T::Error>> {
         self.service.poll_ready(cx)
