@@ -5,6 +5,7 @@
 mod awaited;
 #[cfg(test)]
 mod clocks;
+mod awaited_makers;
 #[cfg(test)]
 mod drives;
 #[cfg(test)]
