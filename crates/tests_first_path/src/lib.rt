@@ -12,6 +12,7 @@ mod drives;
 mod layers;
 #[cfg(test)]
 mod order;
+mod loans;
 #[cfg(test)]
 mod scripted;
 #[cfg(test)]
