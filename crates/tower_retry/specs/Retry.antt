@@ -6,9 +6,9 @@ use Rattle.tower_base.specs.Passes.{Passes}
 use Rattle.tower_base.specs.declared.service.Service.{Ghosts as ServiceOf}
 use Rattle.tower_retry.specs.declared.retry.error.Error.{Error}
 use Rattle.tower_retry.specs.declared.retry.error.Error.TheVariants.{Inner, Memory}
-use Rattle.tower_retry.specs.declared.retry.future.Attempts.{Attempts}
-use Rattle.tower_retry.specs.declared.retry.future.State.{State}
-use Rattle.tower_retry.specs.declared.retry.future.State.TheVariants.{Called, Waiting, Retrying}
+use Rattle.tower_retry.specs.declared.retry.state.Attempts.{Attempts}
+use Rattle.tower_retry.specs.declared.retry.state.State.{State}
+use Rattle.tower_retry.specs.declared.retry.state.State.TheVariants.{Called, Waiting, Retrying}
 use Rattle.tower_retry.specs.declared.retry.policy.Policy.{Ghosts as PolicyOf}
 
 -- a `Retry`

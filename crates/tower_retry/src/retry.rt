@@ -8,12 +8,14 @@ mod error;
 pub mod future;
 mod layer;
 mod policy;
+mod state;
 
 pub use error::Error;
-use future::{Attempts, ResponseFuture, State};
+use future::ResponseFuture;
 use futures::task::{Context, Poll};
 pub use layer::RetryLayer;
 pub use policy::Policy;
+use state::{Attempts, State};
 use std::alloc::AllocError;
 use std::marker::Model;
 use tower_base::service::Service;

@@ -18,7 +18,8 @@ pub trait ServiceExt<Request>: Service<Request> {
     final fn ready(&mut self) -> Ready<'_, Self, Request>
     where
         Self: Sized,
-        ensures { result.service.now ≡ self.old }
+        ensures value { result.service.now ≡ self.old }
+        ensures same_reference { result.service.ghost_name ≡ self.entry.ghost_name }
     {
         Ready::new(self)
     }

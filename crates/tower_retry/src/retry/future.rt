@@ -6,8 +6,9 @@ ghost use Rattle.futures.specs.declared.task.Poll.TheVariants.{Pending};
 ghost use Rattle.tower_base.specs.Gives.{MayGive};
 ghost use Rattle.tower_base.specs.Passes.{Passes};
 ghost use Rattle.tower_retry.specs.Retry.{AfterResult, Again, Needs, NeedsAt, Pass, Sound, Stepped, Unanswered, result_of};
-ghost use Rattle.tower_retry.specs.declared.retry.future.Attempts.{Attempts};
+ghost use Rattle.tower_retry.specs.declared.retry.state.Attempts.{Attempts};
 
+use crate::retry::state::{Attempts, State};
 use crate::retry::{Error, Policy};
 use futures::future::Future;
 use futures::task::{Context, Poll};
@@ -21,27 +22,6 @@ use tower_base::service::{Service, Steps};
 pub struct ResponseFuture<P, S, Request, F, W> {
     // None where there was no memory for a clone
     attempts: Option<Attempts<P, S, Request, F, W>>,
-}
-
-/// What a response keeps: clones of the policy and of the service, the request to be made again if
-/// there is one, and what is under way.
-#[derive(Drop)]
-pub struct Attempts<P, S, Request, F, W> {
-    pub policy: P,
-    pub service: S,
-    pub request: Option<Request>,
-    pub state: State<F, W>,
-}
-
-/// What is under way.
-#[derive(Drop)]
-pub enum State<F, W> {
-    /// The inner future.
-    Called(F),
-    /// The wait that the policy asked for.
-    Waiting(W),
-    /// The readiness of the service.
-    Retrying,
 }
 
 impl<P, S, Request, F, W> Model for ResponseFuture<P, S, Request, F, W> {
