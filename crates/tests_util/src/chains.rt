@@ -41,21 +41,31 @@ impl Steps for Counted<'_> {
     }
 }
 
+// One call of an `AndThen`, which counts the polls of the first future and how often the closure is asked.
+fn joined<'a, R: Wait + RandomSource + AllocGlobal>(
+    rt: &R,
+    polls: &'a Cell<u32>,
+    asked: &'a Cell<u32>,
+    request: u8,
+) -> io::Result<Result<u8, u8>> {
+    let inner = service_fn(|x: u8| Counted {
+        polls,
+        answer: if x == 0 { Err(13) } else { Ok(x) },
+    });
+    let half = |x: u8| {
+        count(asked);
+        after(2, Ok::<u8, u8>(x / 2))
+    };
+    fire(rt, AndThen::new(inner, half), request)
+}
+
 #[test]
 fn and_then_polls_the_first_future_once_and_leaves_errors(rt: HostRuntime) -> Result<(), Fail> {
     let polls = Cell::new(0);
     let asked = Cell::new(0);
-    let inner = service_fn(|x: u8| Counted {
-        polls: &polls,
-        answer: if x == 0 { Err(13) } else { Ok(x) },
-    });
-    let half = |x: u8| {
-        count(&asked);
-        after(2, Ok::<u8, u8>(x / 2))
-    };
-    assert_eq!(rt; fire(&rt, AndThen::new(inner, half), 6)?, Ok(3));
+    assert_eq!(rt; joined(&rt, &polls, &asked, 6)?, Ok(3));
     assert_eq!(rt; (polls.get(), asked.get()), (1, 1));
-    assert_eq!(rt; fire(&rt, AndThen::new(inner, half), 0)?, Err(13));
+    assert_eq!(rt; joined(&rt, &polls, &asked, 0)?, Err(13));
     assert_eq!(rt; (polls.get(), asked.get()), (2, 1));
     Ok(())
 }
