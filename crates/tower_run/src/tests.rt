@@ -1,4 +1,6 @@
 //! Transcripts, faults and limits, each through `run`.
+use crate::fault::Fault;
+use crate::program::report;
 use crate::run;
 use std::alloc::AllocGlobal;
 use std::io;
@@ -42,6 +44,24 @@ impl Read for Feed<'_> {
         buf[..count].copy_from_slice(now);
         self.rest = rest;
         Ok(count)
+    }
+}
+
+// A reader that is interrupted before each read.
+#[derive(Drop)]
+struct Interrupted<'a> {
+    feed: Feed<'a>,
+    is_over: bool,
+}
+
+impl Read for Interrupted<'_> {
+    fn read(&mut self, buf: &mut [u8]) -> io::Result<usize> {
+        if self.is_over {
+            self.is_over = false;
+            return self.feed.read(buf);
+        }
+        self.is_over = true;
+        Err(io::Error::from(ErrorKind::Interrupted))
     }
 }
 
@@ -464,6 +484,28 @@ fn a_read_fails(rt: HostRuntime) -> Result<(), Fail> {
         b"",
         b"line 2: bad line\n",
     )
+}
+
+#[test]
+fn an_interrupted_read_is_made_again(rt: HostRuntime) -> Result<(), Fail> {
+    let (mut page, mut faults) = (Page::new(&rt), Page::new(&rt));
+    let reader = Interrupted {
+        feed: Feed::failing(b"poll\nat 1\n", 4, usize::MAX),
+        is_over: false,
+    };
+    let named = words(&rt, &["timeout"])?;
+    assert_eq!(rt; run(&rt, &named, reader, &mut page, &mut faults), 0);
+    let whole = b"poll ready\nat 1\ninner polls 1 calls 0\n";
+    assert_eq!(rt; page.text.as_slice(), whole.as_slice());
+    assert_eq!(rt; faults.text.len(), 0);
+    Ok(())
+}
+
+#[test]
+fn want_of_memory_has_a_text_and_a_status(rt: HostRuntime) {
+    let mut faults = Page::new(&rt);
+    assert_eq!(rt; report(Fault::Memory, &mut faults), 1);
+    assert_eq!(rt; faults.text.as_slice(), b"out of memory\n".as_slice());
 }
 
 #[test]
