@@ -54,11 +54,20 @@ fn two_threads_one_permit(rt: HostRuntime) -> Result<(), Fail> {
     Ok(())
 }
 
-// Its call raises its flag and looks for the other's, for a while. The response is 1 if it was seen.
+// Its call raises its flag and looks for the other's, for a while. The response is 1 if it was seen. A clone is the other.
 #[derive(Drop)]
 struct Meets {
     mine: Arc<AtomicU64, Global>,
     other: Arc<AtomicU64, Global>,
+}
+
+impl Clone for Meets {
+    fn clone(&self) -> Result<Meets, AllocError> {
+        Ok(Meets {
+            mine: Arc::try_clone(&self.other)?,
+            other: Arc::try_clone(&self.mine)?,
+        })
+    }
 }
 
 impl Service<u32> for Meets {
@@ -109,19 +118,13 @@ fn work<S: Service<u32>>(rt: &HostRuntime, mut service: S) -> io::Result<bool>
 #[test]
 fn two_workers_meet(rt: HostRuntime) -> Result<(), Fail> {
     let alloc = rt.alloc();
-    let one = Arc::new(alloc, AtomicU64::new(0))?;
-    let two = Arc::new(alloc, AtomicU64::new(0))?;
+    let inner = Meets {
+        mine: Arc::new(alloc, AtomicU64::new(0))?,
+        other: Arc::new(alloc, AtomicU64::new(0))?,
+    };
     let semaphore = Semaphore::new(rt, alloc, 2)?;
-    let inner = Meets {
-        mine: Arc::try_clone(&one)?,
-        other: Arc::try_clone(&two)?,
-    };
     let first = ConcurrencyLimit::with_semaphore(inner, semaphore.share()?);
-    let inner = Meets {
-        mine: two,
-        other: one,
-    };
-    let second = ConcurrencyLimit::with_semaphore(inner, semaphore.share()?);
+    let second = first.clone()?;
     let (first, second) = thread::join(&rt, || work(&rt, first), || work(&rt, second));
     assert!(rt; first?);
     assert!(rt; second?);
