@@ -12,14 +12,15 @@ use std::random::RandomSource;
 use std::sync::Wait;
 use std::test::Fail;
 use tower::filter::{self, AsyncPredicateFn, PredicateFn};
+use tower::limit::concurrency;
 use tower::make::Shared;
 use tower::reconnect::{self, Reconnect};
 use tower::retry::Policy;
-use tower::service::Flow;
+use tower::service::{Clock, Flow};
 use tower::steer::{PickerFn, Steer};
 use tower::util::rng::{HasherRng, Rng};
 use tower::util::{CallAll, call_all};
-use tower::{ServiceBuilder, ServiceExt};
+use tower::{Service, ServiceBuilder, ServiceExt};
 
 const SECOND: u64 = 1_000_000_000;
 
@@ -43,15 +44,33 @@ impl Policy<bool, bool, u8> for Never {
     }
 }
 
+// One call under a limit and a rate. (At all five layers at once the check gives up.)
+fn paced<S, C, R>(
+    rt: R,
+    inner: S,
+    clock: C,
+    request: bool,
+) -> Result<Result<S::Response, concurrency::Error<S::Error>>, Fail>
+where
+    S: Service<bool>,
+    C: Clock,
+    R: Wait + RandomSource + AllocGlobal + Copy,
+    requires { S.sound inner }
+{
+    let builder = ServiceBuilder::new()
+        .concurrency_limit(rt, rt.alloc(), 5)
+        .rate_limit(5, 5 * SECOND, clock);
+    Ok(fire(&rt, builder.service(inner)?, request)?)
+}
+
 #[test]
 fn five_layers_of_the_builder_let_a_request_through(rt: HostRuntime) -> Result<(), Fail> {
     let builder = ServiceBuilder::new()
-        .concurrency_limit(rt, rt.alloc(), 5)
-        .rate_limit(5, 5 * SECOND, Still(0))
         .retry(Never)
         .map_response(|answer: u8| answer == 5)
         .map_request(|is_five: bool| if is_five { 5u8 } else { 0 });
-    assert!(rt; matches!(fire(&rt, builder.service(Echo::new())?, true)?, Ok(true)));
+    let service = builder.service(Echo::new())?;
+    assert!(rt; matches!(paced(rt, service, Still(0), true)?, Ok(true)));
     Ok(())
 }
 
