@@ -67,7 +67,7 @@ impl<L> ServiceBuilder<L> {
 
     /// Adds a layer by a closure.
     pub fn layer_fn<F>(self, f: F) -> ServiceBuilder<Stack<LayerFn<F>, L>>
-        ensures { result ≡ record { inner = record { f = f }; outer = self } }
+        ensures { result ≡ record { inner = f; outer = self } }
     {
         self.layer(layer_fn(f))
     }

@@ -2,6 +2,7 @@
 ghost use Rattle.std.specs.Prelude.{◌≡◌, ⊤, IfOk, Ok};
 
 use std::alloc::AllocError;
+use std::marker::Model;
 
 /// Makes a service of another.
 pub trait Layer<S> {
@@ -84,9 +85,17 @@ pub struct LayerFn<F> {
     f: F,
 }
 
+impl<F> Model for LayerFn<F> {
+    ghost Value = { F };
+
+    ghost view = { λ p. p.f };
+
+    ghost inverse = { λ v. record { f = v } };
+}
+
 /// A layer that calls the closure with the service: the Rust's `tower::layer::layer_fn`.
 pub fn layer_fn<F>(f: F) -> LayerFn<F>
-    ensures { result.f ≡ f }
+    ensures { result ≡ f }
 {
     LayerFn { f }
 }
@@ -97,9 +106,9 @@ where
 {
     type Service = Out;
 
-    ghost can_layer = { λ l s. F.pre l.f s };
+    ghost can_layer = { F.pre };
 
-    ghost made = { λ l s t. F.post l.f s (Ok t) };
+    ghost made = { λ l s t. F.post l s (Ok t) };
 
     fn layer(&self, service: S) -> Result<Out, AllocError> {
         (self.f)(service)

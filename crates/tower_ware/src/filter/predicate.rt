@@ -1,6 +1,7 @@
 //! What checks requests.
 ghost use Rattle.std.specs.Prelude.{◌≡◌, ⊤, Result};
 
+use std::marker::Model;
 use tower_base::service::Steps;
 
 /// Checks a request, and may make another of it.
@@ -50,10 +51,18 @@ pub struct PredicateFn<F> {
     f: F,
 }
 
+impl<F> Model for PredicateFn<F> {
+    ghost Value = { F };
+
+    ghost view = { λ p. p.f };
+
+    ghost inverse = { λ v. record { f = v } };
+}
+
 impl<F> PredicateFn<F> {
     /// The closure gives the request that goes inside, or the error.
     pub fn new(f: F) -> PredicateFn<F>
-        ensures { result.f ≡ f }
+        ensures { result ≡ f }
     {
         PredicateFn { f }
     }
@@ -68,9 +77,9 @@ where
 
     type Error = E;
 
-    ghost sound = { λ p. F.IsAlwaysCallable p.f };
+    ghost sound = { F.IsAlwaysCallable };
 
-    ghost checked = { λ old request outcome new. F.step old.f request outcome new.f };
+    ghost checked = { F.step };
 
     fn check(&mut self, request: T) -> Result<R, E> {
         (self.f)(request)
@@ -83,10 +92,18 @@ pub struct AsyncPredicateFn<F> {
     f: F,
 }
 
+impl<F> Model for AsyncPredicateFn<F> {
+    ghost Value = { F };
+
+    ghost view = { λ p. p.f };
+
+    ghost inverse = { λ v. record { f = v } };
+}
+
 impl<F> AsyncPredicateFn<F> {
     /// The closure gives a future of the request that goes inside, or of the error.
     pub fn new(f: F) -> AsyncPredicateFn<F>
-        ensures { result.f ≡ f }
+        ensures { result ≡ f }
     {
         AsyncPredicateFn { f }
     }
@@ -105,10 +122,10 @@ where
     type Future = U;
 
     // The closure may be called on and on, and what it gives may be polled.
-    ghost sound = { λ p. F.IsAlwaysCallable p.f
+    ghost sound = { λ p. F.IsAlwaysCallable p
         × ((f : F) (request : T) (future : U) (g : F) → F.step f request future g → U.can_poll future) };
 
-    ghost asked = { λ old request future new. F.step old.f request future new.f };
+    ghost asked = { F.step };
 
     fn check(&mut self, request: T) -> U {
         (self.f)(request)
