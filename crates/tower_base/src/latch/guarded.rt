@@ -8,7 +8,7 @@ use futures::task::{Context, Poll, Source, Waker};
 use std::alloc::{AllocError, Global};
 use std::mem;
 use std::sync::atomic::{AtomicU64, Ordering};
-use std::sync::{Arc, Mutex, Wait};
+use std::sync::{Arc, Mutex, MutexGuard, Wait};
 
 /// A `Latch` of one lock round the one core that it was handed.
 ///
@@ -82,7 +82,23 @@ impl<C: Core> Kept<C> {
     }
 }
 
+// The lock, as `lock` gives it. Mostly nobody has it, and then this is one step.
+#[inline(always)]
+fn locked<T, R: Wait + Copy>(lock: &Mutex<T>, rt: R) -> MutexGuard<'_, T> {
+    match lock.try_lock() {
+        Some(guard) => guard,
+        None => locked_late(lock, rt),
+    }
+}
+
+#[cold]
+#[inline(never)]
+fn locked_late<T, R: Wait + Copy>(lock: &Mutex<T>, rt: R) -> MutexGuard<'_, T> {
+    lock.lock(&rt)
+}
+
 // Keeps one waker of the task at this share, where there is room.
+#[inline(never)]
 fn keep(waiters: &mut Vec<Waiter>, share: u64, source: &Source, cx: &mut Context<'_>) -> bool
     ensures armed { result ≡ true → IsArmed cx.new }
     ensures kept { Keeps cx.old cx.new }
@@ -113,7 +129,7 @@ impl<C: Core, R: Wait + Copy> Latch<C> for Guarded<C, R> {
     ghost honest = { λ _ _ _ given. given };
 
     fn step(&self, step: C::Step) -> C::Reply {
-        let mut kept = self.shared.kept.lock(&self.rt);
+        let mut kept = locked(&self.shared.kept, self.rt);
         let reply = kept.turn(step);
         if !C::waits(&reply) && !kept.waiters.is_empty() {
             let woken = kept.take_waiters();
@@ -123,8 +139,9 @@ impl<C: Core, R: Wait + Copy> Latch<C> for Guarded<C, R> {
         reply
     }
 
+    #[inline(always)]
     fn wait(&self, step: C::Step, cx: &mut Context<'_>) -> C::Reply {
-        let mut kept = self.shared.kept.lock(&self.rt);
+        let mut kept = locked(&self.shared.kept, self.rt);
         let reply = kept.turn(step);
         if C::waits(&reply) {
             let room = keep(&mut kept.waiters, self.share, &self.shared.source, cx);

@@ -81,6 +81,7 @@ impl LineCore {
         LineReply::Waiting(key)
     }
 
+    #[inline(never)]
     fn look(&mut self, key: u64) -> LineReply
         ensures { Follows self.old (LineStep.Look key) result self.new }
     {
@@ -96,6 +97,7 @@ impl LineCore {
         }
     }
 
+    #[inline(never)]
     fn cancel(&mut self, key: u64) -> LineReply
         ensures { Follows self.old (LineStep.Cancel key) result self.new }
     {
@@ -148,6 +150,7 @@ impl Core for LineCore {
 
     ghost is_wait = { is_waiting };
 
+    #[inline(always)]
     fn step(&mut self, step: LineStep) -> LineReply {
         match step {
             LineStep::Join => self.join(),

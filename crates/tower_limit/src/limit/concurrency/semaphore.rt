@@ -86,6 +86,7 @@ impl<L: Latch<LineCore>> Model for Permit<L> {
 
 /// The permit goes back by one step at its latch.
 impl<L: Latch<LineCore>> Drop for Permit<L> {
+    #[inline(always)]
     fn drop(self)
         ensures { (reply : _) × L.gave self.latch LineStep.Release reply }
     {
@@ -128,6 +129,7 @@ impl<L: Latch<LineCore>> PollSemaphore<L> {
     ///
     /// The permit's share of the latch is made before the step. For want of memory it answers an
     /// error, and the place, if there was one, is kept.
+    #[inline(always)]
     pub fn poll_acquire(&mut self, cx: &mut Context<'_>) -> Poll<Result<Permit<L>, AllocError>>
         ensures acquired { Acquired L.gave self.old result self.new }
         ensures armed { OnPending result (IsArmed cx.new) }

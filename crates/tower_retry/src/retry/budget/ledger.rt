@@ -74,6 +74,7 @@ impl BudgetCore {
         self.moment = moment;
     }
 
+    #[inline(always)]
     fn add(&mut self, amount: i128)
         ensures changes { Changes (λ l. added l amount) self.old self.new }
     {
@@ -120,6 +121,8 @@ impl BudgetCore {
 }
 
 // Only the amounts that still count in this generation stay.
+#[cold]
+#[inline(never)]
 fn expire(kept: &mut Vec<Amount>, generation: u64)
     ensures filtered { kept.new.items ≡ filter (still generation) kept.old.items }
     ensures capacity { vec_capacity kept.new ≡ vec_capacity kept.old }
