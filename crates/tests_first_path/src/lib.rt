@@ -3,16 +3,16 @@
 
 #[cfg(test)]
 mod awaited;
+mod awaited_makers;
 #[cfg(test)]
 mod clocks;
-mod awaited_makers;
 #[cfg(test)]
 mod drives;
 #[cfg(test)]
 mod layers;
+mod loans;
 #[cfg(test)]
 mod order;
-mod loans;
 #[cfg(test)]
 mod scripted;
 #[cfg(test)]

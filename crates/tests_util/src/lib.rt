@@ -3,9 +3,9 @@
 
 #[cfg(test)]
 mod builders;
+mod chains;
 #[cfg(test)]
 mod clones;
-mod chains;
 #[cfg(test)]
 mod makers;
 #[cfg(test)]
@@ -14,6 +14,6 @@ mod maps;
 mod scripted;
 #[cfg(test)]
 mod sides;
+mod stacks;
 #[cfg(test)]
 mod wares;
-mod stacks;
