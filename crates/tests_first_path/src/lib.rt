@@ -3,6 +3,7 @@
 
 #[cfg(test)]
 mod awaited;
+#[cfg(test)]
 mod awaited_makers;
 #[cfg(test)]
 mod clocks;
@@ -10,6 +11,7 @@ mod clocks;
 mod drives;
 #[cfg(test)]
 mod layers;
+#[cfg(test)]
 mod loans;
 #[cfg(test)]
 mod order;

@@ -3,6 +3,7 @@
 
 #[cfg(test)]
 mod builders;
+#[cfg(test)]
 mod chains;
 #[cfg(test)]
 mod clones;
@@ -14,6 +15,7 @@ mod maps;
 mod scripted;
 #[cfg(test)]
 mod sides;
+#[cfg(test)]
 mod stacks;
 #[cfg(test)]
 mod wares;
