@@ -69,6 +69,7 @@ impl<C: Core, R: Wait + Copy> Guarded<C, R> {
 }
 
 impl<C: Core> Kept<C> {
+    #[inline(always)]
     fn turn(&mut self, step: C::Step) -> C::Reply
         requires { C.admits step }
         ensures { Came C.opens C.steps step result }
@@ -76,7 +77,7 @@ impl<C: Core> Kept<C> {
         self.core.step(step)
     }
 
-    // The waiters, to be dropped once the lock is free, which wakes them.
+    // The waiters, who are woken when they are dropped.
     fn take_waiters(&mut self) -> Vec<Waiter> {
         mem::replace(&mut self.waiters, Vec::new(self.alloc))
     }
@@ -95,6 +96,15 @@ fn locked<T, R: Wait + Copy>(lock: &Mutex<T>, rt: R) -> MutexGuard<'_, T> {
 #[inline(never)]
 fn locked_late<T, R: Wait + Copy>(lock: &Mutex<T>, rt: R) -> MutexGuard<'_, T> {
     lock.lock(&rt)
+}
+
+// Wakes all that wait, once the lock is free.
+#[cold]
+#[inline(never)]
+fn wake<C: Core>(mut kept: MutexGuard<'_, Kept<C>>) {
+    let woken = kept.take_waiters();
+    drop(kept);
+    drop(woken);
 }
 
 // Keeps one waker of the task at this share, where there is room.
@@ -128,13 +138,12 @@ impl<C: Core, R: Wait + Copy> Latch<C> for Guarded<C, R> {
 
     ghost honest = { λ _ _ _ given. given };
 
+    #[inline]
     fn step(&self, step: C::Step) -> C::Reply {
         let mut kept = locked(&self.shared.kept, self.rt);
         let reply = kept.turn(step);
         if !C::waits(&reply) && !kept.waiters.is_empty() {
-            let woken = kept.take_waiters();
-            drop(kept);
-            drop(woken);
+            wake(kept);
         }
         reply
     }
@@ -150,9 +159,7 @@ impl<C: Core, R: Wait + Copy> Latch<C> for Guarded<C, R> {
                 let _pending: Poll<()> = cx.yield_now();
             }
         } else if !kept.waiters.is_empty() {
-            let woken = kept.take_waiters();
-            drop(kept);
-            drop(woken);
+            wake(kept);
         }
         reply
     }

@@ -1,6 +1,6 @@
 //! The core of a budget.
 ghost use Rattle.std.specs.Int.{w128, saturate_signed};
-ghost use Rattle.std.specs.Prelude.{◌≡◌, ◌≢◌, ◌+ℤ◌, filter, fold, ◌≤◌, ◌<◌, ◌+◌, ◌^◌, IfOk, IsTrue, vec_capacity};
+ghost use Rattle.std.specs.Prelude.{◌≡◌, ◌≢◌, ◌+ℤ◌, filter, fold, ◌≤◌, ◌<◌, ◌+◌, ◌^◌, IfOk, IsTrue, vec_capacity, vec_len, ◌∷◌};
 ghost use Rattle.tower_retry.specs.Budget.{Fits, begins_with, descends, still, terms_of};
 
 use crate::retry::budget::steps::{Amount, BudgetReply, BudgetStep, Terms};
@@ -84,9 +84,7 @@ impl BudgetCore {
             self.kept[0].amount = sum;
             return;
         }
-        let Ok(()) = self.kept.insert(0, Amount { generation, amount }) else {
-            unreachable!();
-        };
+        begin(&mut self.kept, Amount { generation, amount });
     }
 
     fn balance(&self) -> i128
@@ -118,6 +116,19 @@ impl BudgetCore {
         self.add(-(self.terms.withdrawal as i128));
         true
     }
+}
+
+// The first amount of a new generation, for which there is room.
+#[cold]
+#[inline(never)]
+fn begin(kept: &mut Vec<Amount>, newest: Amount)
+    requires room { vec_len kept.old < vec_capacity kept.old }
+    ensures items { kept.new.items ≡ newest ∷ kept.old.items }
+    ensures capacity { vec_capacity kept.new ≡ vec_capacity kept.old }
+{
+    let Ok(()) = kept.insert(0, newest) else {
+        unreachable!();
+    };
 }
 
 // Only the amounts that still count in this generation stay.

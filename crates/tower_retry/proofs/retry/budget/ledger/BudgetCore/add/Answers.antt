@@ -6,15 +6,14 @@ use Rattle.tower_retry.proofs.Amounts.{few_others, stands_new, stands_write}
 use Rattle.tower_retry.specs.Budget.{begins_with}
 use Rattle.tower_retry.proofs.retry.budget.ledger.BudgetCore.add.Goals as goal
 
-pub unreachable-requires : goal.unreachable-requires
-unreachable-requires c =
+pub begin-requires : goal.begin-requires
+begin-requires c =
     let old = c.args.self.now in
     let same = c.deref.ensures.value in
     let other : begins_with old.generation old.kept.items ≡ false = cc (c.starts_at.ensures) in
     let few = few_others old.generation old.kept.items other old.counted in
     let room = old.room in
-    let done = c.insert.ensures.succeeds (omega arith) in
-    absurd (cc (rw c.in_default.is at done))
+    omega arith
 
 pub returns-then-starts_at : goal.returns-then-starts_at
 returns-then-starts_at c = record {
@@ -46,6 +45,6 @@ returns c = record {
         terms = s.terms;
         generation = s.generation;
         moment = s.moment;
-        amounts = rw (c.in-Ok.ensures.items, s.generation) (stands_new old.generation old.kept.items l.amounts _ c.args.amount other (to_z-of_z w128 c.args.amount c.ranges.amount) s.amounts);
+        amounts = rw (c.begin.ensures.items, s.generation) (stands_new old.generation old.kept.items l.amounts _ c.args.amount other (to_z-of_z w128 c.args.amount c.ranges.amount) s.amounts);
       };
 }
