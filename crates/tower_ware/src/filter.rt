@@ -248,7 +248,7 @@ where
     fn poll_ready(&mut self, cx: &mut Context<'_>) -> Poll<Result<(), Error<S::Error, U::Error>>> {
         match self.inner.poll_ready(cx) {
             Poll::Ready(Ok(())) => Poll::Ready(Ok(())),
-            Poll::Ready(Err(error)) => Poll::Ready(Err(Error::Inner(error))),
+            Poll::Ready(Err(fault)) => Poll::Ready(Err(Error::Inner(fault))),
             Poll::Pending => Poll::Pending,
         }
     }
