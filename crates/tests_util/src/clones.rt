@@ -1,6 +1,11 @@
 //! Each layer of the maps, its clone, what that makes of a service, and a clone of it.
+ghost use Rattle.std.specs.Prelude.{◌≡◌, IsSome};
+
 use crate::scripted::{Delayed, Echo, Refuses, after, fire};
-use std::alloc::AllocError;
+use std::alloc::{AllocError, AllocGlobal};
+use std::io;
+use std::random::RandomSource;
+use std::sync::Wait;
 use std::test::Fail;
 use tower::MakeService;
 use tower::layer::util::{Identity, Stack};
@@ -32,6 +37,29 @@ fn clones_of_plain_maps_serve_alike(rt: HostRuntime) -> Result<(), Fail> {
     Ok(())
 }
 
+// One call of a clone of what a clone of the layer makes.
+fn of_results<F, R>(rt: &R, f: F) -> io::Result<Result<u8, u16>>
+where
+    F: Fn(Result<u8, u8>) -> Result<u8, u16> + Copy + Clone,
+    R: Wait + RandomSource + AllocGlobal,
+    requires { (g h : F) → F.is_clone f g → F.is_clone g h → F.IsAlwaysCallable h }
+{
+    let layer = MapResult::<Echo, F>::layer(f).clone()?;
+    fire(rt, layer.layer(Echo::failing())?.clone()?, 6)
+}
+
+// As `of_results`.
+fn of_second_futures<F, R>(rt: &R, f: F) -> io::Result<Result<u8, u8>>
+where
+    F: Fn(Result<u8, u8>) -> Delayed<Result<u8, u8>> + Copy + Clone,
+    R: Wait + RandomSource + AllocGlobal,
+    requires may { (g h : F) → F.is_clone f g → F.is_clone g h → F.IsAlwaysCallable h }
+    requires fresh { (g h : F) → F.is_clone f g → F.is_clone g h → (x : _) (t : _) → F.post h x t → IsSome t.answer }
+{
+    let layer = Then::<Echo, F>::layer(f).clone()?;
+    fire(rt, layer.layer(Echo::failing())?.clone()?, 6)
+}
+
 #[test]
 fn clones_of_maps_over_results_and_futures_are_alike(rt: HostRuntime) -> Result<(), Fail> {
     let half = |x: u8| after(1, Ok::<u8, u8>(x / 2));
@@ -39,14 +67,15 @@ fn clones_of_maps_over_results_and_futures_are_alike(rt: HostRuntime) -> Result<
     let service = layer.layer(Echo::slow())?.clone()?;
     assert_eq!(rt; fire(&rt, service, 6)?, Ok(3));
     let turned = |answer: Result<u8, u8>| match answer {
-        Ok(x) => Err::<u8, u8>(x),
-        Err(x) => Ok(x),
+        Ok(x) => Err(x as u16),
+        Err(x) => Ok::<u8, u16>(x),
     };
-    let layer = MapResult::<Echo, _>::layer(turned).clone()?;
-    assert!(rt; layer.layer(Echo::failing())?.clone().is_ok());
-    let later = |answer: Result<u8, u8>| after(1, answer);
-    let layer = Then::<Echo, _>::layer(later).clone()?;
-    assert!(rt; layer.layer(Echo::failing())?.clone().is_ok());
+    assert_eq!(rt; of_results(&rt, turned)?, Ok(6));
+    let halved = |answer: Result<u8, u8>| match answer {
+        Ok(x) => after(1, Ok(x)),
+        Err(x) => after(1, Err::<u8, u8>(x / 2)),
+    };
+    assert_eq!(rt; of_second_futures(&rt, halved)?, Err(3));
     let other = |_future: Delayed<Result<u8, u8>>| after(1, Ok::<u8, u8>(9));
     let layer = MapFuture::<Echo, _>::layer(other).clone()?;
     let service = layer.layer(Echo::failing())?.clone()?;
