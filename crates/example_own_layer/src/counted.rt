@@ -1,6 +1,6 @@
 //! A middleware of one's own: it counts the calls.
 ghost use Rattle.std.specs.Prelude.{◌≡◌};
-ghost use Rattle.example_own_layer.specs.Counting.{Counting, Polled, Called};
+ghost use Rattle.example_own_layer.specs.Counted.{CountedView, Polled, Called};
 
 use futures::task::{Context, Poll};
 use std::marker::Model;
@@ -15,7 +15,7 @@ pub struct Counted<S> {
 
 // What contracts see of it.
 impl<S> Model for Counted<S> {
-    ghost Value = { Counting S };
+    ghost Value = { CountedView S };
 
     ghost view = { λ c. record { inner = c.inner; calls = c.calls } };
 }
@@ -44,7 +44,7 @@ impl<Request, S: Service<Request>> Service<Request> for Counted<S> {
 
     ghost called = { Called S.Service };
 
-    ghost readies = { λ old new p. S.readies old.inner new.inner p.came };
+    ghost readies = { λ old new p. S.readies old.inner new.inner p.polled };
 
     fn poll_ready(&mut self, cx: &mut Context<'_>) -> Poll<Result<(), S::Error>> {
         self.inner.poll_ready(cx)

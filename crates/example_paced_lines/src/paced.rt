@@ -122,7 +122,7 @@ where
     ensures sound { S.sound service.new }
     ensures ready { OnOk result (S.ready service.new) }
 {
-    for _turn in 0..u64::MAX {
+    for _pass in 0..u64::MAX {
         match polled(service, solo) {
             Poll::Ready(Ok(())) => return Ok(()),
             Poll::Ready(Err(error)) => return Err(fault_of(error)),
@@ -152,7 +152,7 @@ where
     requires fresh { F.can_poll response }
     requires pause { P.IsAlwaysCallable pause.now }
 {
-    for _turn in 0..u64::MAX {
+    for _pass in 0..u64::MAX {
         let mut cx = solo.begin();
         let answer = response.step(&mut cx);
         cx.end(&answer);

@@ -1,17 +1,13 @@
-//! Tests of `tower_retry::retry`.
+//! Tests of `tower::retry`.
 #![tactic(auto)]
 
 #[cfg(test)]
-mod backoffs;
+mod attempts;
 #[cfg(test)]
-mod budgets;
+mod backoff;
 #[cfg(test)]
-mod clones;
+mod budget;
 #[cfg(test)]
-mod fixtures;
+mod parts;
 #[cfg(test)]
-mod mocks;
-#[cfg(test)]
-mod refused;
-#[cfg(test)]
-mod retries;
+mod retry;

@@ -1,21 +1,35 @@
-//! Tests of the small services, the makers and the builder at concrete types.
+//! Tests of the small services, the maps and the makers at concrete types.
 #![tactic(auto)]
 
 #[cfg(test)]
-mod builders;
+mod and_then;
 #[cfg(test)]
-mod chains;
+mod awaited;
 #[cfg(test)]
-mod clones;
+mod closure_service;
 #[cfg(test)]
-mod makers;
+mod either;
 #[cfg(test)]
-mod maps;
+mod make_connection;
 #[cfg(test)]
-mod scripted;
+mod make_service;
 #[cfg(test)]
-mod sides;
+mod map_err;
 #[cfg(test)]
-mod stacks;
+mod map_future;
 #[cfg(test)]
-mod wares;
+mod map_request;
+#[cfg(test)]
+mod map_response;
+#[cfg(test)]
+mod map_result;
+#[cfg(test)]
+mod oneshot;
+#[cfg(test)]
+mod optional;
+#[cfg(test)]
+mod ready;
+#[cfg(test)]
+mod shared;
+#[cfg(test)]
+mod then;

@@ -1,9 +1,17 @@
-//! Tests of the middleware that shares nothing, at concrete types.
+//! Tests of `tower::{filter, load_shed, reconnect, steer, timeout}` and of streams of calls.
 #![tactic(auto)]
 
 #[cfg(test)]
-mod filters;
+mod call_all;
 #[cfg(test)]
-mod scripted;
+mod filter;
 #[cfg(test)]
-mod sheds;
+mod load_shed;
+#[cfg(test)]
+mod orders;
+#[cfg(test)]
+mod reconnect;
+#[cfg(test)]
+mod steer;
+#[cfg(test)]
+mod timeout;

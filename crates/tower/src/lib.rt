@@ -10,7 +10,7 @@ pub use layer::Layer;
 pub use tower_base::service::Service;
 pub use tower_base::{drive, latch, service};
 pub use tower_limit::limit;
-pub use tower_retry::retry;
+pub use tower_retry::{hedge, retry};
 pub use tower_util::make;
 pub use tower_util::make::MakeService;
 pub use tower_ware::{filter, load_shed, reconnect, steer, timeout};

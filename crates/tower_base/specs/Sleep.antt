@@ -5,7 +5,7 @@ use Rattle.futures.specs.declared.task.Poll.TheVariants.{Ready, Pending}
 use Rattle.tower_base.specs.declared.service.Clock.{Ghosts as ClockOf}
 
 -- a `Sleep`
-pub record Sleeping (C : Type 0) : Type 0 where
+pub record SleepView (C : Type 0) : Type 0 where
   pub clock : C
   pub deadline : ℕ
 
@@ -14,7 +14,7 @@ abbrev pub due : ℕ → ℕ → Poll (Unit {0})
 due deadline moment = if nat_le deadline moment then Ready tt else Pending
 
 -- a poll: one reading of the clock, and the answer that it gives
-pub record Sleeps {C : Type 0} (c : ClockOf C) (old : Sleeping C) (answer : Poll (Unit {0})) (new : Sleeping C) : Type 0 where
+pub record Stepped {C : Type 0} (c : ClockOf C) (old : SleepView C) (answer : Poll (Unit {0})) (new : SleepView C) : Type 0 where
   pub answers : answer ≡ due old.deadline (c.reading new.clock)
   pub read : c.read old.clock new.clock
   pub same : new.deadline ≡ old.deadline

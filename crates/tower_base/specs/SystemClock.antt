@@ -3,11 +3,11 @@ use Rattle.std.specs.Prelude.{◌≡◌, ℕ}
 use Rattle.std.specs.declared.time.Instant.{Instant}
 
 -- a `SystemClock`: the runtime, the start from which it counts, and its last reading
-pub record Running (R : Type 0) : Type 0 where
+pub record SystemClockView (R : Type 0) : Type 0 where
   pub rt : R
   pub start : Instant
   pub last : ℕ
 
 -- a reading: of the same clock from the same start, and it may be any moment
-abbrev pub Reads : {R : Type 0} → Running R → Running R → Type 0
-Reads old new = new ≡ record old { last = new.last }
+abbrev pub Read : {R : Type 0} → SystemClockView R → SystemClockView R → Type 0
+Read old new = new ≡ record old { last = new.last }

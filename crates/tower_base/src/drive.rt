@@ -131,6 +131,7 @@ where
     requires { Sound S.sound S.ready S.Future.can_poll O.IsAlwaysCallable driver.old }
     ensures step { IfOk result (λ entry. Step S.Service S.Future.stepped O.step (state_of driver.old) event entry (state_of driver.new)) }
     ensures sound { IfOk result (λ _. Sound S.sound S.ready S.Future.can_poll O.IsAlwaysCallable driver.new) }
+    ensures refused { OnErr result (state_of driver.new ≡ state_of driver.old) }
     ensures kept { Keeps cx.old cx.new }
 {
     match event {
@@ -192,6 +193,7 @@ fn call<Request: Drop, S: Service<Request>, O>(
     requires live { All (CanStep S.Future.can_poll) driver.old.futures.items }
     ensures called { IfOk result (λ made. IfSome made (λ index. Calls S.Service (state_of driver.old) request index (state_of driver.new))) }
     ensures skipped { IfOk result (λ made. IfNone made ((driver.old.may_call ≡ false) × (driver.new ≡ driver.old))) }
+    ensures refused { OnErr result (state_of driver.new ≡ state_of driver.old) }
     ensures live { All (CanStep S.Future.can_poll) driver.new.futures.items }
     ensures sound { S.sound driver.new.service }
     ensures idle { driver.new.may_call ≡ true → S.ready driver.new.service }

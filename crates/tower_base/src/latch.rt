@@ -1,12 +1,15 @@
 //! Shared state as a machine without locks, and the lock round it.
-ghost use Rattle.std.specs.Prelude.{◌≡◌, Bool, true, ⊤, IfOk};
+ghost use Rattle.std.specs.Prelude.{◌≡◌, Bool, true, ⊤, IfOk, Result};
+ghost use Rattle.std.specs.declared.alloc.AllocError.{AllocError};
 ghost use Rattle.tower_base.specs.Latch.{Came};
 ghost use Rattle.futures.specs.Task.{IsArmed, Keeps};
 
 mod guarded;
+mod logged;
 
 use futures::task::Context;
 pub use guarded::Guarded;
+pub use logged::{History, Log, LogTable, Logged, Missing, Pass, Receipt};
 use std::alloc::AllocError;
 
 /// A machine without locks: one event is one `step`.
@@ -42,6 +45,9 @@ pub trait Latch<C: Core>: Sized + Drop {
     // A step that was made at this latch gave this reply.
     ghost gave: { Self → C.Step → C.Reply → Type 0 };
 
+    // A request for another share may have this answer.
+    ghost shares: { Self → Result Self AllocError → Type 0 } = { λ _ _. ⊤ };
+
     /// Makes one step of the core.
     fn step(&self, step: C::Step) -> C::Reply
         requires { C.admits step }
@@ -56,7 +62,8 @@ pub trait Latch<C: Core>: Sized + Drop {
 
     /// Another share of the same core: what it gives, this latch gives.
     fn share(&self) -> Result<Self, AllocError>
-        ensures { IfOk result (λ other. (s : _) (r : _) → gave other s r → gave self.now s r) };
+        ensures shares { shares self.now result }
+        ensures same { IfOk result (λ other. (step : _) (reply : _) → gave other step reply → gave self.now step reply) };
 
     // A reply is one of a run of the core from an opening one.
     ghost honest: { (latch : Self) (s : C.Step) (r : C.Reply) → gave latch s r → Came C.opens C.steps s r };

@@ -4,5 +4,7 @@
 pub mod drive;
 pub mod latch;
 pub mod layer;
+pub mod links;
+pub mod passes;
 pub mod service;
 pub mod util;

@@ -1,6 +1,12 @@
+pub mod HistoCoreLemmas
+pub mod HistogramLemmas
+pub mod KeysLemmas
+pub mod LineHistoryLemmas
+pub mod LineMoves
+pub mod LineRuns
 pub mod Lines
 pub mod Places
 pub mod RateBound
 pub mod RateTight
 pub mod Replies
-pub mod Turned
+pub mod Waiters

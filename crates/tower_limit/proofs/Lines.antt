@@ -1,12 +1,15 @@
 -- What holds of each list that a line stands for.
-use Rattle.std.proofs.Common.{◌≡◌, ◌≢◌, ℕ, ◌+◌, ◌-◌, ◌<◌, ◌≤◌, zero, suc, List, [], ◌∷◌, ◌++◌, length, Some, slice_get, slice_set, remove, All, refl, ap, ◌∙◌, sym, subst, arith}
-use Rattle.std.proofs.lemmas.Option.{slice_get_within, get_or_from_slice_get}
-use Rattle.tower_limit.specs.Line.{Ticket, Line, At, Lacks, Turns, LineTurns}
-use Rattle.tower_limit.specs.LineCore.{holders, keys_of, HoldersBelow, Stands, StandsFor, Follows}
+use Rattle.std.proofs.Common.{◌≡◌, ℕ, false, ◌+◌, ◌-◌, ◌<◌, ◌≤◌, zero, suc, List, [], ◌∷◌, ◌++◌, length, length-append, Some, slice_get, slice_set, remove, refl, ap, ◌∙◌, sym, subst, arith}
+use Rattle.tower_base.specs.Order.{has}
+use Rattle.tower_limit.specs.Waiters.{outside}
+use Rattle.tower_limit.proofs.KeysLemmas.{has_at, not_both}
+use Rattle.tower_limit.proofs.Waiters.{outside_waits}
+use Rattle.tower_limit.specs.Line.{Ticket, Line, At, Lacks, Steps, LineSteps, keys_of}
+use Rattle.tower_limit.specs.LineCore.{holders, HoldersBelow, Stands, StandsFor, Follows}
 use Rattle.tower_base.specs.Latch.{FollowsMachine, StepsAs}
-use Rattle.tower_limit.specs.declared.limit.concurrency.line.LineCore.{LineCore}
-use Rattle.tower_limit.specs.declared.limit.concurrency.line.LineStep.{LineStep}
-use Rattle.tower_limit.specs.declared.limit.concurrency.line.LineReply.{LineReply}
+use Rattle.tower_limit.specs.declared.limit.concurrency.line_core.LineCore.{LineCore}
+use Rattle.tower_limit.specs.declared.limit.concurrency.line_core.LineStep.{LineStep}
+use Rattle.tower_limit.specs.declared.limit.concurrency.line_core.LineReply.{LineReply}
 
 pub counted : (line : List Ticket) → length line ≡ holders line + length (keys_of line)
 counted [] = refl
@@ -86,11 +89,9 @@ key_at (Ticket.held ∷ line) (suc place) key at = key_at line place key at
 key_at (Ticket.waits other ∷ line) zero key at = (0, (cc))
 key_at (Ticket.waits other ∷ line) (suc place) key at = let r = key_at line place key at in (suc r.0, r.1)
 
-pub lacks : (line : List Ticket) (key : ℕ) → All (λ other. other ≢ key) (keys_of line) → Lacks line (Ticket.waits key)
+pub lacks : (line : List Ticket) (key : ℕ) → has (keys_of line) key ≡ false → Lacks line (Ticket.waits key)
 lacks line key none place at =
-    let r = key_at line place key at in
-    let here = none r.0 key (slice_get_within (keys_of line) r.0 key r.1) in
-    here (get_or_from_slice_get (keys_of line) r.0 key key r.1)
+    let r = key_at line place key at in not_both (has (keys_of line) key) (has_at (keys_of line) r.0 key r.1) none
 
 -- a holder that may leave
 pub record Leaves (max : ℕ) (line : List Ticket) : Type 0 where
@@ -127,19 +128,32 @@ some_line max zero keys le = (waiting keys, waiting_stands max keys)
 some_line max (suc held) keys le =
     let r = some_line (max - 1) held keys (omega arith) in (Ticket.held ∷ r.0, (ap suc r.1.0, r.1.1, (omega arith, r.1.2)))
 
-pub some_plain : (core : LineCore) → core.held ≤ core.max → (line : Line) × StandsFor core line
-some_plain core le = let r = some_line core.max core.held core.keys.items le in (record { max = core.max; tickets = r.0 }, (refl, r.1))
-
--- a step of a core follows the line's machine
-pub follows : (old new : LineCore) (step : LineStep) (reply : LineReply) → Follows old step reply new → FollowsMachine StandsFor LineTurns old step reply new
-follows old new step reply f plain stands =
-    let r = f.goes plain.tickets stands.1 in (
-      record { max = plain.max; tickets = r.0 },
-      (refl, subst (λ (max : ℕ). Turns max plain.tickets step reply r.0) (sym stands.0) r.1),
-      (stands.0 ∙ sym f.same, r.2),
+-- some line is what the core stands for: those outside the order first
+pub some_plain : (core : LineCore) → (line : Line) × StandsFor core line
+some_plain core =
+    let r = some_line core.max core.held (outside core.waiters ++ core.waiters.order) (omega (arith, core.fits)) in (
+      record { max = core.max; tickets = r.0; room = core.waiters.entries.capacity },
+      (refl, (outside core.waiters, outside_waits core.waiters core.apart core.present, core.count, r.1), refl),
     )
 
--- some line makes the turn that a step of a core says
-pub turned : (old new : LineCore) (step : LineStep) (reply : LineReply) → StepsAs StandsFor LineTurns old step reply new
-    → (line : Line) × (next : Line) × LineTurns line step reply next
-turned old new step reply s = let r = s.1 s.0.0 s.0.1 in (s.0.0, r.0, r.1)
+-- a step of a core follows the line's machine
+pub follows : (old new : LineCore) (step : LineStep) (reply : LineReply) → Follows old step reply new → FollowsMachine StandsFor LineSteps old step reply new
+follows old new step reply f plain stands =
+    let r = f.goes plain.tickets stands.1 in
+    let granted : List ℕ = stands.1.0 in
+    let waiting : length (keys_of plain.tickets) ≡ old.granted + length old.waiters.order =
+    ap length stands.1.3.1 ∙ length-append granted old.waiters.order ∙ ap (λ n. n + length old.waiters.order) stands.1.2 in (
+      record { max = plain.max; tickets = r.0; room = new.waiters.entries.capacity },
+      (
+        refl,
+        subst (λ (max : ℕ). Steps max plain.tickets step reply r.0) (sym stands.0) r.1,
+        rw (stands.2, waiting) f.excused,
+        rw stands.2 f.room,
+      ),
+      (stands.0 ∙ sym f.same, r.2, refl),
+    )
+
+-- some line makes the step that a step of a core says
+pub stepped : (old new : LineCore) (step : LineStep) (reply : LineReply) → StepsAs StandsFor LineSteps old step reply new
+    → (line : Line) × (next : Line) × LineSteps line step reply next
+stepped old new step reply s = let r = s.1 s.0.0 s.0.1 in (s.0.0, r.0, r.1)

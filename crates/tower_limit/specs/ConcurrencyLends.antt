@@ -2,12 +2,12 @@
 use Rattle.std.specs.Borrow.{Lends, MutBor, Fml}
 use denote.RattleType.{RattleType}
 use Rattle.tower_base.specs.declared.latch.Latch.{Ghosts as LatchOf}
-use Rattle.tower_limit.specs.Concurrency.{Limited}
-use Rattle.tower_limit.specs.declared.limit.concurrency.line.LineCore.{LineCore}
-use Rattle.tower_limit.specs.declared.limit.concurrency.line.LineStep.{LineStep}
-use Rattle.tower_limit.specs.declared.limit.concurrency.line.LineReply.{LineReply}
+use Rattle.tower_limit.specs.Concurrency.{ConcurrencyLimitView}
+use Rattle.tower_limit.specs.declared.limit.concurrency.line_core.LineCore.{LineCore}
+use Rattle.tower_limit.specs.declared.limit.concurrency.line_core.LineStep.{LineStep}
+use Rattle.tower_limit.specs.declared.limit.concurrency.line_core.LineReply.{LineReply}
 use Rattle.tower_limit.specs.contracts.limit.concurrency.service.ConcurrencyLimit.{the_row}
 
 -- t ends with the last value behind r as its inner service
-abbrev pub LendsInner : (S L : RattleType) → LatchOf L.Denot LineCore LineStep LineReply → MutBor (Limited S.Denot L.Denot) → MutBor S.Denot → Fml
+abbrev pub LendsInner : (S L : RattleType) → LatchOf L.Denot LineCore LineStep LineReply → MutBor (ConcurrencyLimitView S.Denot L.Denot) → MutBor S.Denot → Fml
 LendsInner S L latch t r = Lends (the_row S L latch) S t r (λ w. record t.now { inner = w })

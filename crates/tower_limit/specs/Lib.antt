@@ -1,9 +1,15 @@
 pub mod Concurrency
 pub mod ConcurrencyLends
+pub mod ConcurrencyReady
+pub mod HistoCore
+pub mod Histogram
 pub mod Line
 pub mod LineCore
+pub mod LineHistory
 pub mod LineLaws
 pub mod Rate
 pub mod RateLaws
 pub mod RateLends
 pub mod RateReady
+pub mod RotatingHistogram
+pub mod Waiters

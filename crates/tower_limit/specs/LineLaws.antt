@@ -1,11 +1,11 @@
 -- What holds of every list of steps and replies from the empty line.
 use Rattle.std.specs.Prelude.{◌≡◌, ◌⊎◌, ◌<◌, ◌≤◌, ◌+◌, ℕ, zero, suc, List, [], ◌∷◌}
 use Rattle.tower_base.specs.Latch.{Serves}
-use Rattle.tower_limit.specs.Line.{Ticket, Line, At, Turns, LineTurns, blank}
-use Rattle.tower_limit.specs.declared.limit.concurrency.line.LineStep.{LineStep}
-use Rattle.tower_limit.specs.declared.limit.concurrency.line.LineStep.TheVariants.{Join, Look, Cancel, Release, Free}
-use Rattle.tower_limit.specs.declared.limit.concurrency.line.LineReply.{LineReply}
-use Rattle.tower_limit.specs.declared.limit.concurrency.line.LineReply.TheVariants.{Granted, Waiting, Left, Count}
+use Rattle.tower_limit.specs.Line.{Ticket, Line, At, Steps, LineSteps, blank}
+use Rattle.tower_limit.specs.declared.limit.concurrency.line_core.LineStep.{LineStep}
+use Rattle.tower_limit.specs.declared.limit.concurrency.line_core.LineStep.TheVariants.{Join, Look, Cancel, Release, Free}
+use Rattle.tower_limit.specs.declared.limit.concurrency.line_core.LineReply.{LineReply}
+use Rattle.tower_limit.specs.declared.limit.concurrency.line_core.LineReply.TheVariants.{Granted, Waiting, Left, Count}
 
 abbrev pub one_if_granted : LineReply → ℕ
 one_if_granted Granted = 1
@@ -18,21 +18,21 @@ one_if_left _ _ = 0
 -- how many replies granted a permit, and how many releases gave one back
 abbrev pub grants : List (LineStep × LineReply) → ℕ
 grants [] = 0
-grants (turn ∷ turns) = one_if_granted turn.1 + grants turns
+grants (step ∷ steps) = one_if_granted step.1 + grants steps
 
 abbrev pub returns : List (LineStep × LineReply) → ℕ
 returns [] = 0
-returns (turn ∷ turns) = one_if_left turn.0 turn.1 + returns turns
+returns (step ∷ steps) = one_if_left step.0 step.1 + returns steps
 
 -- a look at the key may give this reply
 abbrev pub Sees : ℕ → List Ticket → ℕ → LineReply → Type 0
-Sees max line key reply = (next : List Ticket) × Turns max line (Look key) reply next
+Sees max line key reply = (next : List Ticket) × Steps max line (Look key) reply next
 
 -- young asked after old
 abbrev pub IsYounger : List Ticket → ℕ → ℕ → Type 0
 IsYounger line old young = (p : ℕ) × (q : ℕ) × At line p (Ticket.waits old) × At line q (Ticket.waits young) × (p < q)
 
--- the turn ends the key
+-- the step ends the key
 abbrev pub Ends : ℕ → LineStep → LineReply → Type 0
 Ends key (Look other) Granted = other ≡ key
 Ends key (Cancel other) Left = other ≡ key
@@ -48,22 +48,22 @@ taken (suc max) (Ticket.waits key ∷ line) = suc (taken max line)
 
 -- P holds of each list of steps and replies from the empty line, and of the line that they leave
 abbrev pub Always : (ℕ → List (LineStep × LineReply) → List Ticket → Type 0) → Type 0
-Always P = (max : ℕ) (turns : List (LineStep × LineReply)) (line : Line) → Serves LineTurns (blank max) turns line → P max turns line.tickets
+Always P = (max : ℕ) (steps : List (LineStep × LineReply)) (line : Line) → Serves LineSteps (blank max) steps line → P max steps line.tickets
 
 -- the permits that are out never pass max
 abbrev pub Bounded : ℕ → List (LineStep × LineReply) → List Ticket → Type 0
-Bounded max turns line = grants turns ≤ max + returns turns
+Bounded max steps line = grants steps ≤ max + returns steps
 
 -- while a key waits, nobody who asks later is granted
 abbrev pub InOrder : ℕ → List (LineStep × LineReply) → List Ticket → Type 0
-InOrder max turns line = (key : ℕ) → Sees max line key (Waiting key)
-    → ((next : List Ticket) → ¬ (Turns max line Join Granted next)) × ((young : ℕ) → IsYounger line key young → ¬ (Sees max line young Granted))
+InOrder max steps line = (key : ℕ) → Sees max line key (Waiting key)
+    → ((next : List Ticket) → ¬ (Steps max line Join Granted next)) × ((young : ℕ) → IsYounger line key young → ¬ (Sees max line young Granted))
 
 -- a key that is granted stays so until it ends
 abbrev pub Lasts : ℕ → List (LineStep × LineReply) → List Ticket → Type 0
-Lasts max turns line = (key : ℕ) → Sees max line key Granted → (step : LineStep) (reply : LineReply) (next : List Ticket)
-    → Turns max line step reply next → Ends key step reply ⊎ Sees max next key Granted
+Lasts max steps line = (key : ℕ) → Sees max line key Granted → (step : LineStep) (reply : LineReply) (next : List Ticket)
+    → Steps max line step reply next → Ends key step reply ⊎ Sees max next key Granted
 
 -- the free permits and those that somebody has are max
 abbrev pub Counts : ℕ → List (LineStep × LineReply) → List Ticket → Type 0
-Counts max turns line = (free : ℕ) (next : List Ticket) → Turns max line Free (Count free) next → free + taken max line ≡ max
+Counts max steps line = (free : ℕ) (next : List Ticket) → Steps max line Free (Count free) next → free + taken max line ≡ max

@@ -8,24 +8,24 @@ pub data Step : Type 0 where
   call : ℕ → Step
 
 abbrev pub moment_of : Step → ℕ
-moment_of (Step.poll m) = m
-moment_of (Step.call m) = m
+moment_of (Step.poll moment) = moment
+moment_of (Step.call moment) = moment
 
 -- Moments never go back, and calls come only while the last window isn't full.
 abbrev pub Fair : Windows → ℕ → List Step → Type 0
-Fair w now [] = Unit {0}
-Fair w now (Step.poll m ∷ steps) = (now ≤ m) × Fair (after_poll w m) m steps
-Fair w now (Step.call m ∷ steps) = (now ≤ m) × (is_full w ≡ false) × Fair (after_call w m) m steps
+Fair plain now [] = Unit {0}
+Fair plain now (Step.poll moment ∷ steps) = (now ≤ moment) × Fair (after_poll plain moment) moment steps
+Fair plain now (Step.call moment ∷ steps) = (now ≤ moment) × (is_full plain ≡ false) × Fair (after_call plain moment) moment steps
 
 -- one, if the moment is within [from, from + per)
 abbrev pub one_within : ℕ → ℕ → ℕ → ℕ
-one_within from per m = if nat_le from m && nat_lt m (from + per) then 1 else 0
+one_within from per moment = if nat_le from moment && nat_lt moment (from + per) then 1 else 0
 
 -- how many calls come within [from, from + per)
 abbrev pub calls_within : ℕ → ℕ → List Step → ℕ
 calls_within from per [] = 0
-calls_within from per (Step.poll m ∷ steps) = calls_within from per steps
-calls_within from per (Step.call m ∷ steps) = one_within from per m + calls_within from per steps
+calls_within from per (Step.poll moment ∷ steps) = calls_within from per steps
+calls_within from per (Step.call moment ∷ steps) = one_within from per moment + calls_within from per steps
 
 -- of every rate: no interval of length per holds more than twice the number
 abbrev pub Bounded : Type 0

@@ -1,4 +1,5 @@
-//! Limits on calls.
+//! Limits on calls, and latencies.
 #![tactic(auto)]
 
+pub mod hedge;
 pub mod limit;

@@ -1,2 +1,5 @@
-pub mod Amounts
-pub mod Ledgers
+pub mod BudgetCoreLemmas
+pub mod BudgetHistoryLemmas
+pub mod BudgetLemmas
+pub mod HedgeLemmas
+pub mod RetryLemmas

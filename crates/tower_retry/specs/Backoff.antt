@@ -1,7 +1,7 @@
 -- The waits of `retry::backoff`.
 use Rattle.std.specs.Prelude.{◌≡◌, ℕ, ◌+◌, ◌-◌, ◌*◌, ◌/◌, ◌^◌, min, nat_lt, nat_eq, if◌then◌else◌, true, false, Bool, Result, Ok, Err}
 use Rattle.std.specs.declared.alloc.AllocError.{AllocError}
-use Rattle.tower_base.specs.Sleep.{Sleeping}
+use Rattle.tower_base.specs.Sleep.{SleepView}
 use Rattle.tower_base.specs.declared.service.Clock.{Ghosts as ClockOf}
 use Rattle.tower_base.specs.declared.service.Fraction.{Fraction}
 use Rattle.tower_base.specs.declared.util.rng.Rng.{Ghosts as RngOf}
@@ -9,7 +9,7 @@ use Rattle.tower_retry.specs.declared.retry.backoff.invalid.InvalidBackoff.{Inva
 use Rattle.tower_retry.specs.declared.retry.backoff.invalid.InvalidBackoff.TheVariants.{MaximumBelowMinimum, MaximumIsZero, JitterAbove100}
 
 -- an `ExponentialBackoffMaker`
-pub record Maker (R C : Type 0) : Type 0 where
+pub record ExponentialBackoffMakerView (R C : Type 0) : Type 0 where
   pub least : ℕ
   pub most : ℕ
   pub jitter : Fraction
@@ -17,34 +17,34 @@ pub record Maker (R C : Type 0) : Type 0 where
   pub clock : C
 
 -- an `ExponentialBackoff`, and how many waits it gave
-pub record Waiter (R C : Type 0) : Type 0 where
-  pub maker : Maker R C
+pub record ExponentialBackoffView (R C : Type 0) : Type 0 where
+  pub maker : ExponentialBackoffMakerView R C
   pub count : ℕ
 
 -- A maker of these parts: the least wait isn't above the greatest, which isn't 0, and the jitter isn't above 100.
-abbrev pub maker_of : {R C : Type 0} → Maker R C → Result (Maker R C) InvalidBackoff
-maker_of m =
-    if nat_lt m.most m.least then Err MaximumBelowMinimum
-    else (if nat_eq m.most 0 then Err MaximumIsZero
-    else (if nat_lt (100 * m.jitter.divisor) m.jitter.numerator then Err JitterAbove100 else Ok m))
+abbrev pub maker_of : {R C : Type 0} → ExponentialBackoffMakerView R C → Result (ExponentialBackoffMakerView R C) InvalidBackoff
+maker_of parts =
+    if nat_lt parts.most parts.least then Err MaximumBelowMinimum
+    else (if nat_eq parts.most 0 then Err MaximumIsZero
+    else (if nat_lt (100 * parts.jitter.divisor) parts.jitter.numerator then Err JitterAbove100 else Ok parts))
 
 -- a wait without its jitter: the least one doubled with each earlier wait, 32 times at most, up to the greatest
-abbrev pub base_of : {R C : Type 0} → Waiter R C → ℕ
-base_of w = min (w.maker.least * min (2 ^ w.count) (2 ^ 32 - 1)) w.maker.most
+abbrev pub base_of : {R C : Type 0} → ExponentialBackoffView R C → ℕ
+base_of old = min (old.maker.least * min (2 ^ old.count) (2 ^ 32 - 1)) old.maker.most
 
 -- The jitter of a word: its top 53 bits as a part of 2 ^ 53, times the fraction. The wait doesn't pass the greatest.
-abbrev pub jitter_of : {R C : Type 0} → Waiter R C → ℕ → ℕ
-jitter_of w word = min (base_of w * (word / 2 ^ 11) / 2 ^ 53 * w.maker.jitter.numerator / w.maker.jitter.divisor) (w.maker.most - base_of w)
+abbrev pub jitter_of : {R C : Type 0} → ExponentialBackoffView R C → ℕ → ℕ
+jitter_of old word = min (base_of old * (word / 2 ^ 11) / 2 ^ 53 * old.maker.jitter.numerator / old.maker.jitter.divisor) (old.maker.most - base_of old)
 
 module _ {R C : Type 0} (r : RngOf R) where
   -- The jitter of the next wait: of one word, or 0 without a word where the fraction is 0.
-  abbrev pub Jitters : Bool → Waiter R C → ℕ → Waiter R C → Type 0
+  abbrev pub Jitters : Bool → ExponentialBackoffView R C → ℕ → ExponentialBackoffView R C → Type 0
   Jitters true old extra new = (extra ≡ 0) × (new.maker.rng ≡ old.maker.rng)
   Jitters false old extra new = (word : ℕ) × r.drew old.maker.rng word new.maker.rng × (extra ≡ jitter_of old word)
 
 module _ {R C : Type 0} (r : RngOf R) (c : ClockOf C) where
   -- the next wait begins at one reading of a share of the clock
-  pub record Begins (old : Waiter R C) (sleep : Sleeping C) (new : Waiter R C) : Type 0 where
+  pub record Begins (old : ExponentialBackoffView R C) (sleep : SleepView C) (new : ExponentialBackoffView R C) : Type 0 where
     pub extra : ℕ
     pub share : C
     pub jitters : Jitters r (nat_eq old.maker.jitter.numerator 0) old extra new
@@ -56,12 +56,12 @@ module _ {R C : Type 0} (r : RngOf R) (c : ClockOf C) where
 
 -- a copy of each part, with a share of the clock
 module _ {R C : Type 0} (is_clone : R → R → Type 0) (c : ClockOf C) where
-  pub record Copies (old new : Maker R C) : Type 0 where
+  pub record IsClone (old new : ExponentialBackoffMakerView R C) : Type 0 where
     pub rng : is_clone old.rng new.rng
     pub clock : c.shared old.clock new.clock
     pub same : new ≡ record old { rng = new.rng; clock = new.clock }
 
   -- a fresh backoff of the maker, which stays as it was
-  abbrev pub Makes : Maker R C → Result (Waiter R C) AllocError → Maker R C → Type 0
-  Makes old (Ok waiter) new = Copies old waiter.maker × (waiter.count ≡ 0) × (new ≡ old)
-  Makes old (Err e) new = new ≡ old
+  abbrev pub Made : ExponentialBackoffMakerView R C → Result (ExponentialBackoffView R C) AllocError → ExponentialBackoffMakerView R C → Type 0
+  Made old (Ok backoff) new = IsClone old backoff.maker × (backoff.count ≡ 0) × (new ≡ old)
+  Made old (Err refused) new = new ≡ old

@@ -9,6 +9,13 @@ use Rattle.tower_retry.specs.declared.retry.budget.steps.BudgetReply.{BudgetRepl
 use Rattle.tower_retry.specs.declared.retry.budget.steps.BudgetReply.TheVariants.{Done, Allowed}
 use Rattle.tower_retry.specs.declared.retry.budget.steps.Terms.{Terms}
 
+-- The present generation and its moment, and every amount so far, the newest first.
+pub record Ledger : Type 0 where
+  pub terms : Terms
+  pub generation : ℕ
+  pub moment : ℕ
+  pub amounts : List Amount
+
 -- The time of an amount is 1 to 60 seconds, the reserve of a second is below 2147483647, and the fraction is 1000 at most.
 pub record Fits (ttl min_per_sec : ℕ) (fraction : Fraction) : Type 0 where
   pub long : 1000000000 ≤ ttl
@@ -16,12 +23,12 @@ pub record Fits (ttl min_per_sec : ℕ) (fraction : Fraction) : Type 0 where
   pub reserve : min_per_sec < 2147483647
   pub part : fraction.numerator ≤ 1000 * fraction.divisor
 
--- the amount of a deposit, and that of a withdrawal, for p retries to q requests
+-- the amount of a deposit, and that of a withdrawal, for so many retries to so many requests
 abbrev pub deposit_of : ℕ → ℕ → ℕ
-deposit_of p q = if nat_eq p 0 then 0 else (if nat_le p q then 1 else 1000)
+deposit_of retries requests = if nat_eq retries 0 then 0 else (if nat_le retries requests then 1 else 1000)
 
 abbrev pub withdrawal_of : ℕ → ℕ → ℕ
-withdrawal_of p q = if nat_eq p 0 then 1 else (if nat_le p q then q / p else 1000 * q / p)
+withdrawal_of retries requests = if nat_eq retries 0 then 1 else (if nat_le retries requests then requests / retries else 1000 * requests / retries)
 
 -- The reserve has so many withdrawals for each whole second, and a generation is a tenth of the time.
 abbrev pub terms_of : ℕ → ℕ → Fraction → Terms
@@ -34,46 +41,39 @@ terms_of ttl min_per_sec fraction =
       window = ttl / 10;
     }
 
--- The present generation and its moment, and every amount so far, the newest first.
-pub record Ledger : Type 0 where
-  pub terms : Terms
-  pub generation : ℕ
-  pub moment : ℕ
-  pub amounts : List Amount
-
 -- at the moment of making
 abbrev pub blank : Terms → ℕ → Ledger
 blank terms moment = record { terms = terms; generation = 0; moment = moment; amounts = [] }
 
 -- The generation grows by the gap over the window, rounded up, where the gap is a window or more. A clock that went back leaves no gap.
 abbrev pub advanced : Ledger → ℕ → Ledger
-advanced l moment =
-    let gap = moment - l.moment in
-    if nat_lt gap l.terms.window then l
-    else record l { generation = l.generation + div_ceil gap l.terms.window; moment = moment }
+advanced ledger moment =
+    let gap = moment - ledger.moment in
+    if nat_lt gap ledger.terms.window then ledger
+    else record ledger { generation = ledger.generation + div_ceil gap ledger.terms.window; moment = moment }
 
 abbrev pub added : Ledger → ℤ → Ledger
-added l amount = record l { amounts = record { generation = l.generation; amount = amount } ∷ l.amounts }
+added ledger amount = record ledger { amounts = record { generation = ledger.generation; amount = amount } ∷ ledger.amounts }
 
 -- an amount counts in its own generation and in the next ten
 abbrev pub counts : ℕ → Amount → Bool
-counts generation a = nat_le a.generation generation && nat_le generation (a.generation + 10)
+counts generation amount = nat_le amount.generation generation && nat_le generation (amount.generation + 10)
 
 -- the sum of the amounts that count, and that of their sizes
 abbrev pub total : ℕ → List Amount → ℤ
 total generation [] = pos 0
-total generation (a ∷ rest) = (if counts generation a then a.amount else pos 0) +ℤ total generation rest
+total generation (amount ∷ rest) = (if counts generation amount then amount.amount else pos 0) +ℤ total generation rest
 
 abbrev pub size : ℕ → List Amount → ℕ
 size generation [] = 0
-size generation (a ∷ rest) = (if counts generation a then nat_abs a.amount else 0) + size generation rest
+size generation (amount ∷ rest) = (if counts generation amount then nat_abs amount.amount else 0) + size generation rest
 
 abbrev pub balance : Ledger → ℤ
-balance l = pos l.terms.reserve +ℤ total l.generation l.amounts
+balance ledger = pos ledger.terms.reserve +ℤ total ledger.generation ledger.amounts
 
 -- what counts is small enough for sums of 128 bits
 abbrev pub IsExact : Ledger → Type 0
-IsExact l = l.terms.reserve + size l.generation l.amounts < 2 ^ 127
+IsExact ledger = ledger.terms.reserve + size ledger.generation ledger.amounts < 2 ^ 127
 
 -- A withdrawal is made exactly if the balance reaches its amount. (Where the balance isn't exact it may be made or not.)
 pub record Withdraws (old : Ledger) (allowed : Bool) (new : Ledger) : Type 0 where
@@ -81,22 +81,22 @@ pub record Withdraws (old : Ledger) (allowed : Bool) (new : Ledger) : Type 0 whe
   pub after : new ≡ (if allowed then added old (neg_ℤ (pos old.terms.withdrawal)) else old)
 
 -- The budget's machine: one step with its reply. Each first advances.
-abbrev pub Turns : Ledger → BudgetStep → BudgetReply → Ledger → Type 0
-Turns old (Deposit moment) Done new = new ≡ added (advanced old moment) (pos old.terms.deposit)
-Turns old (Withdraw moment) (Allowed allowed) new = Withdraws (advanced old moment) allowed new
+abbrev pub Steps : Ledger → BudgetStep → BudgetReply → Ledger → Type 0
+Steps old (Deposit moment) Done new = new ≡ added (advanced old moment) (pos old.terms.deposit)
+Steps old (Withdraw moment) (Allowed allowed) new = Withdraws (advanced old moment) allowed new
 -- no other reply is given
-Turns old _ _ new = ⊥
+Steps old _ _ new = ⊥
 
 -- One amount for each generation that counts, the newest first: from this generation on, and below top.
 abbrev pub descends : ℕ → ℕ → List Amount → Bool
 descends generation top [] = true
-descends generation top (a ∷ rest) = nat_lt a.generation top && (nat_le generation (a.generation + 10) && descends generation a.generation rest)
+descends generation top (amount ∷ rest) = nat_lt amount.generation top && (nat_le generation (amount.generation + 10) && descends generation amount.generation rest)
 
 -- the newest amount is of this generation
 abbrev pub begins_with : ℕ → List Amount → Bool
 begins_with generation [] = false
-begins_with generation (a ∷ rest) = nat_eq a.generation generation
+begins_with generation (amount ∷ rest) = nat_eq amount.generation generation
 
 -- an amount that isn't newer than this generation still counts in it
 abbrev pub still : ℕ → Amount → Bool
-still generation a = nat_le (generation - a.generation) 10
+still generation amount = nat_le (generation - amount.generation) 10

@@ -1,6 +1,16 @@
 pub mod Backoff
 pub mod Budget
 pub mod BudgetCore
+pub mod BudgetHistory
+pub mod Delay
+pub mod Hedge
+pub mod HedgeCheck
+pub mod HedgeMade
+pub mod HedgePolicies
+pub mod Latency
 pub mod Retry
+pub mod RetryAttempts
 pub mod RetryLends
+pub mod Select
+pub mod SelectReady
 pub mod TpsBudget

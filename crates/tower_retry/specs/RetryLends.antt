@@ -1,9 +1,9 @@
 -- What `Retry` lends.
 use Rattle.std.specs.Borrow.{Lends, MutBor, Fml}
 use denote.RattleType.{RattleType}
-use Rattle.tower_retry.specs.Retry.{Retries}
+use Rattle.tower_retry.specs.Retry.{RetryView}
 use Rattle.tower_retry.specs.contracts.retry.Retry.{the_row}
 
--- t ends with the last value behind r as its inner service
-abbrev pub LendsInner : (P S : RattleType) → MutBor (Retries P.Denot S.Denot) → MutBor S.Denot → Fml
-LendsInner P S t r = Lends (the_row P S) S t r (λ w. record t.now { service = w })
+-- the `Retry` ends with the last value behind the loan as its inner service
+abbrev pub LendsInner : (P S : RattleType) → MutBor (RetryView P.Denot S.Denot) → MutBor S.Denot → Fml
+LendsInner P S retry loan = Lends (the_row P S) S retry loan (λ last. record retry.now { service = last })

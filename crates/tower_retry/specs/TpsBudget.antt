@@ -7,24 +7,24 @@ use Rattle.tower_retry.specs.declared.retry.budget.steps.BudgetReply.{BudgetRepl
 use Rattle.tower_retry.specs.declared.retry.budget.steps.BudgetReply.TheVariants.{Done, Allowed}
 
 -- a `TpsBudget`
-pub record Budgets (L C : Type 0) : Type 0 where
+pub record TpsBudgetView (L C : Type 0) : Type 0 where
   pub latch : L
   pub clock : C
 
 module _ {L C : Type 0} (gave : L → BudgetStep → BudgetReply → Type 0) (c : ClockOf C) where
   -- a deposit: one reading, and one step at that moment
-  pub record Deposited (old new : Budgets L C) : Type 0 where
+  pub record Deposited (old new : TpsBudgetView L C) : Type 0 where
     pub read : c.read old.clock new.clock
     pub gave_done : gave old.latch (Deposit (c.reading new.clock)) Done
     pub same : new.latch ≡ old.latch
 
   -- a withdrawal, whose answer is the reply
-  pub record Withdrew (old : Budgets L C) (allowed : Bool) (new : Budgets L C) : Type 0 where
+  pub record Withdrew (old : TpsBudgetView L C) (allowed : Bool) (new : TpsBudgetView L C) : Type 0 where
     pub read : c.read old.clock new.clock
     pub gave_answer : gave old.latch (Withdraw (c.reading new.clock)) (Allowed allowed)
     pub same : new.latch ≡ old.latch
 
   -- a clone: what its latch gives, the first one gives
-  pub record Copies (old new : Budgets L C) : Type 0 where
+  pub record IsClone (old new : TpsBudgetView L C) : Type 0 where
     pub latch : (s : BudgetStep) (r : BudgetReply) → gave new.latch s r → gave old.latch s r
     pub clock : c.shared old.clock new.clock

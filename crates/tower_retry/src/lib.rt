@@ -1,4 +1,5 @@
 //! Services that try again.
 #![tactic(auto)]
 
+pub mod hedge;
 pub mod retry;

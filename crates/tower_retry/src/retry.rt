@@ -1,11 +1,14 @@
 //! Retries of requests: the Rust's `tower::retry`.
 ghost use Rattle.std.specs.Prelude.{◌≡◌};
-ghost use Rattle.tower_retry.specs.Retry.{Calls, Polled, Retries, poll_of-ok};
+ghost use Rattle.tower_base.specs.AnswersLemmas.{answered_ok};
+ghost use Rattle.tower_retry.specs.Retry.{Called, Polled, RetryView};
+ghost use Rattle.tower_retry.specs.declared.retry.error.Error.TheVariants.{Inner};
 
 pub mod backoff;
 pub mod budget;
 mod error;
 pub mod future;
+mod laws;
 mod layer;
 mod policy;
 mod state;
@@ -13,6 +16,7 @@ mod state;
 pub use error::Error;
 use future::ResponseFuture;
 use futures::task::{Context, Poll};
+pub use laws::law;
 pub use layer::RetryLayer;
 pub use policy::Policy;
 use state::{Attempts, State};
@@ -30,9 +34,9 @@ pub struct Retry<P, S> {
 }
 
 impl<P, S> Model for Retry<P, S> {
-    ghost Value = { Retries P S };
+    ghost Value = { RetryView P S };
 
-    ghost view = { λ r. record { policy = r.policy; service = r.service } };
+    ghost view = { λ retry. record { policy = retry.policy; service = retry.service } };
 }
 
 impl<P, S> Retry<P, S> {
@@ -41,17 +45,6 @@ impl<P, S> Retry<P, S> {
         ensures { result ≡ record { policy = policy; service = service } }
     {
         Retry { policy, service }
-    }
-}
-
-impl<P: Clone, S: Clone> Clone for Retry<P, S> {
-    ghost is_clone = { λ old new. P.is_clone old.policy new.policy × S.is_clone old.service new.service };
-
-    fn clone(&self) -> Result<Retry<P, S>, AllocError> {
-        Ok(Retry {
-            policy: self.policy.clone()?,
-            service: self.service.clone()?,
-        })
     }
 }
 
@@ -68,17 +61,17 @@ where
     type Future = ResponseFuture<P, S, Request, S::Future, P::Future>;
 
     // Clones of a sound policy and of a sound service are sound.
-    ghost sound = { λ r. P.sound r.policy × S.sound r.service
-        × ((x y : P) → P.is_clone x y → P.sound x → P.sound y)
-        × ((x y : S) → S.is_clone x y → S.sound x → S.sound y) };
+    ghost sound = { λ retry. P.sound retry.policy × S.sound retry.service
+        × ((old new : P) → P.is_clone old new → P.sound old → P.sound new)
+        × ((old new : S) → S.is_clone old new → S.sound old → S.sound new) };
 
-    ghost ready = { λ r. S.ready r.service };
+    ghost ready = { λ retry. S.ready retry.service };
 
     ghost polled = { Polled S.Service P.Policy };
 
-    ghost called = { Calls S.Service P.Policy P.is_clone S.is_clone };
+    ghost called = { Called S.Service P.Policy P.is_clone S.is_clone };
 
-    ghost readies = { λ old new p. S.readies old.service new.service (let e = poll_of-ok p.inner tt p.answers in Prim.rw e at p.came) };
+    ghost readies = { λ old new poll. S.readies old.service new.service (let ready = answered_ok Inner poll.inner tt poll.answers in Prim.rw ready at poll.polled) };
 
     fn poll_ready(&mut self, cx: &mut Context<'_>) -> Poll<Result<(), Self::Error>> {
         match self.service.poll_ready(cx) {
@@ -97,10 +90,21 @@ where
                 policy,
                 service,
                 request: kept,
-                state: State::Called(response),
+                state: State::InFlight(response),
             }),
             Err(AllocError) => ResponseFuture::refused(),
         }
+    }
+}
+
+impl<P: Clone, S: Clone> Clone for Retry<P, S> {
+    ghost is_clone = { λ old new. P.is_clone old.policy new.policy × S.is_clone old.service new.service };
+
+    fn clone(&self) -> Result<Retry<P, S>, AllocError> {
+        Ok(Retry {
+            policy: self.policy.clone()?,
+            service: self.service.clone()?,
+        })
     }
 }
 

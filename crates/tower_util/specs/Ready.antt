@@ -1,22 +1,33 @@
--- The machines of `ReadyOneshot` and `Ready`.
+-- The machines of `ReadyOneshot` and `Ready`: polls of readiness, and the service is given back once it is ready.
 use Rattle.std.specs.Borrow.{MutBor}
-use Rattle.std.specs.Prelude.{◌≡◌, Option, Some, None, Result, Ok, Err}
+use Rattle.std.specs.Prelude.{◌≡◌, Option, Some, None, Result, Ok, Err, IfOk, IsSomeAnd}
 use Rattle.futures.specs.declared.task.Poll.{Poll}
 use Rattle.futures.specs.declared.task.Poll.TheVariants.{Ready, Pending}
 
 module _ {S E : Type 0} (sound ready : S → Type 0) (polled : S → Poll (Result (Unit {0}) E) → S → Type 0) where
-  -- the poll of readiness answered this, and left s: a service that is ready is given back, and an error passed on
-  abbrev pub After : S → Poll (Result (Unit {0}) E) → Poll (Result S E) → Option S → Type 0
-  After s Pending answer new = (answer ≡ Pending) × (new ≡ Some s)
-  After s (Ready (Err e)) answer new = (answer ≡ Ready (Err e)) × (new ≡ Some s)
-  After s (Ready (Ok x)) answer new = sound s × ready s × (answer ≡ Ready (Ok s)) × (new ≡ None)
+  -- the poll of readiness answered this, and left the service so: one that is ready is given back, and an error passed on
+  abbrev pub ReadinessPolled : S → Poll (Result (Unit {0}) E) → Poll (Result S E) → Option S → Type 0
+  ReadinessPolled left Pending answer new = (answer ≡ Pending) × (new ≡ Some left)
+  ReadinessPolled left (Ready (Err e)) answer new = (answer ≡ Ready (Err e)) × (new ≡ Some left)
+  ReadinessPolled left (Ready (Ok x)) answer new = sound left × ready left × (answer ≡ Ready (Ok left)) × (new ≡ None)
 
   -- a poll: one poll of readiness
-  abbrev pub Waits : Option S → Poll (Result S E) → Option S → Type 0
-  Waits (Some s) answer new = (r : Poll (Result (Unit {0}) E)) × (left : S) × polled s r left × After left r answer new
-  Waits None answer new = ⊥
+  abbrev pub ReadyOneshotStepped : Option S → Poll (Result S E) → Option S → Type 0
+  ReadyOneshotStepped (Some old) answer new = (inner : Poll (Result (Unit {0}) E)) × (left : S) × polled old inner left × ReadinessPolled left inner answer new
+  ReadyOneshotStepped None answer new = ⊥
 
-module _ {S E : Type 0} (sound : S → Type 0) (polled : S → Poll (Result (Unit {0}) E) → S → Type 0) where
-  -- a poll of a service that is lent: one poll of readiness, which leaves it sound, by a reference that stays the same
-  abbrev pub Asks : MutBor S → Poll (Result (Unit {0}) E) → MutBor S → Type 0
-  Asks old answer new = polled old.now answer new.now × sound new.now × (new.ghost_name ≡ old.ghost_name)
+  -- a poll of a service that is lent: one poll of readiness; where it is ready the same loan is handed back, and else it is kept
+  abbrev pub ReadyStepped : Option (MutBor S) → Poll (Result (MutBor S) E) → Option (MutBor S) → Type 0
+  ReadyStepped (Some old) Pending (Some new) = polled old.now Pending new.now × sound new.now × (new.ghost_name ≡ old.ghost_name)
+  ReadyStepped (Some old) (Ready (Err e)) (Some new) = polled old.now (Ready (Err e)) new.now × sound new.now × (new.ghost_name ≡ old.ghost_name)
+  ReadyStepped (Some old) (Ready (Ok back)) None = polled old.now (Ready (Ok tt)) back.now × sound back.now × ready back.now × (back.ghost_name ≡ old.ghost_name)
+  ReadyStepped _ _ _ = ⊥
+
+module _ {S E : Type 0} (sound ready : S → Type 0) where
+  -- an output that gives the service back, which is ready
+  abbrev pub GivesBack : Result S E → Type 0
+  GivesBack out = IfOk out (λ back. sound back × ready back)
+
+  -- an output that hands the same loan back, of a service that is ready
+  abbrev pub HandsBack : Option (MutBor S) → Result (MutBor S) E → Type 0
+  HandsBack old out = IfOk out (λ back. sound back.now × ready back.now × IsSomeAnd old (λ lent. back.ghost_name ≡ lent.ghost_name))

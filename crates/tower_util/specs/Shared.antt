@@ -10,6 +10,10 @@ Holds is_clone service (Some (Ok copy)) = is_clone service copy
 Holds is_clone service (Some (Err e)) = Unit {0}
 Holds is_clone service None = ⊥
 
+-- a call
+abbrev pub Called : {S Q : Type 0} → (S → S → Type 0) → S → Q → Option (Result S Error) → S → Type 0
+Called is_clone old request future new = Holds is_clone old future × (new ≡ old)
+
 -- a poll of the future
-abbrev pub Gives : {A : Type 0} → Option A → Poll A → Option A → Type 0
-Gives {A = A} old answer new = (x : A) × (old ≡ Some x) × (answer ≡ Ready x) × (new ≡ None)
+abbrev pub Stepped : {A : Type 0} → Option A → Poll A → Option A → Type 0
+Stepped {A = A} old answer new = (held : A) × (old ≡ Some held) × (answer ≡ Ready held) × (new ≡ None)

@@ -1,21 +1,34 @@
 //! Small services and what combines them: the Rust's `tower::util`.
 
+mod and_then;
 mod awaited;
+mod chain;
 mod closure_service;
 mod either;
 pub mod error;
 pub mod future;
+mod map_err;
+mod map_future;
+mod map_request;
+mod map_response;
+mod map_result;
 mod oneshot;
 mod optional;
 mod ready;
+mod then;
+mod waits;
 
+pub use and_then::{AndThen, AndThenLayer};
 pub use awaited::{FutureService, future_service};
 pub use closure_service::{ServiceFn, service_fn};
 pub use either::{Either, option_layer};
+pub use map_err::{MapErr, MapErrLayer};
+pub use map_future::{MapFuture, MapFutureLayer};
+pub use map_request::{MapRequest, MapRequestLayer};
+pub use map_response::{MapResponse, MapResponseLayer};
+pub use map_result::{MapResult, MapResultLayer};
 pub use oneshot::Oneshot;
 pub use optional::Optional;
 pub use ready::{Ready, ReadyOneshot};
-pub use tower_maps::{
-    AndThen, AndThenLayer, MapErr, MapErrLayer, MapFuture, MapFutureLayer, MapRequest,
-    MapRequestLayer, MapResponse, MapResponseLayer, MapResult, MapResultLayer, Then, ThenLayer,
-};
+pub use then::{Then, ThenLayer};
+pub use waits::{block_on_call, block_on_each, block_on_ready};

@@ -2,12 +2,14 @@
 use Rattle.std.specs.Prelude.{◌≡◌, Bool, true, false, Option, Some, None, Result, Ok, Err}
 use Rattle.futures.specs.declared.task.Poll.{Poll}
 use Rattle.futures.specs.declared.task.Poll.TheVariants.{Ready, Pending}
+use Rattle.tower_base.specs.Answers.{answered}
 use Rattle.tower_base.specs.declared.service.Service.{Ghosts as ServiceOf}
+use Rattle.tower_base.specs.declared.service.Steps.{Ghosts as StepsOf}
 use Rattle.tower_ware.specs.declared.load_shed.error.Error.{Error}
 use Rattle.tower_ware.specs.declared.load_shed.error.Error.TheVariants.{Inner, Overloaded}
 
 -- A `LoadShed`. The flag says that the last inner answer was `Ok` and that no call came since.
-pub record Shedding (S : Type 0) : Type 0 where
+pub record LoadShedView (S : Type 0) : Type 0 where
   pub inner : S
   pub is_ready : Bool
 
@@ -23,28 +25,22 @@ flag_of (Ready (Ok x)) = true
 flag_of (Ready (Err e)) = false
 flag_of Pending = false
 
--- the answer of a call that went inside, from the response's
-abbrev pub answer_of : {A E : Type 0} → Poll (Result A E) → Poll (Result A (Error E))
-answer_of (Ready (Ok x)) = Ready (Ok x)
-answer_of (Ready (Err e)) = Ready (Err (Inner e))
-answer_of Pending = Pending
-
 module _ {S Q A E F : Type 0} (s : ServiceOf S Q A E F) where
   -- a poll of readiness: one poll of the inner service
-  pub record Polled (old : Shedding S) (answer : Poll (Result (Unit {0}) (Error E))) (new : Shedding S) : Type 0 where
+  pub record Polled (old : LoadShedView S) (answer : Poll (Result (Unit {0}) (Error E))) (new : LoadShedView S) : Type 0 where
     pub inner : Poll (Result (Unit {0}) E)
-    pub came : s.polled old.inner inner new.inner
+    pub polled : s.polled old.inner inner new.inner
     pub answers : answer ≡ poll_of inner
     pub flag : new.is_ready ≡ flag_of inner
 
   -- A call goes inside exactly where the flag is set, to a ready service, and clears it. Else there is no response.
-  abbrev pub Called : Shedding S → Q → Option F → Shedding S → Type 0
+  abbrev pub Called : LoadShedView S → Q → Option F → LoadShedView S → Type 0
   Called old request (Some future) new = (old.is_ready ≡ true) × s.ready old.inner × s.called old.inner request future new.inner × (new.is_ready ≡ false)
   Called old request None new = (old.is_ready ≡ false) × (new ≡ old)
 
-module _ {F A E : Type 0} (stepped : F → Poll (Result A E) → F → Type 0) where
+module _ {F A E : Type 0} (f : StepsOf F (Result A E)) where
   -- a poll of the future: one poll of the response, or the refusal
   abbrev pub Stepped : Option F → Poll (Result A (Error E)) → Option F → Type 0
-  Stepped (Some f) answer (Some g) = (inner : Poll (Result A E)) × stepped f inner g × (answer ≡ answer_of inner)
-  Stepped (Some f) answer None = ⊥
+  Stepped (Some old) answer (Some new) = (inner : Poll (Result A E)) × f.stepped old inner new × (answer ≡ answered Inner inner)
+  Stepped (Some old) answer None = ⊥
   Stepped None answer new = (answer ≡ Ready (Err Overloaded)) × (new ≡ None)

@@ -2,6 +2,7 @@
 use Rattle.std.specs.Prelude.{◌≡◌, ℕ, ◌+◌, nat_le, if◌then◌else◌, Result, Ok, Err}
 use Rattle.futures.specs.declared.task.Poll.{Poll}
 use Rattle.futures.specs.declared.task.Poll.TheVariants.{Ready, Pending}
+use Rattle.tower_base.specs.Answers.{answered}
 use Rattle.tower_base.specs.declared.service.Service.{Ghosts as ServiceOf}
 use Rattle.tower_base.specs.declared.service.Steps.{Ghosts as StepsOf}
 use Rattle.tower_base.specs.declared.service.Clock.{Ghosts as ClockOf}
@@ -9,22 +10,21 @@ use Rattle.tower_ware.specs.declared.timeout.error.Error.{Error}
 use Rattle.tower_ware.specs.declared.timeout.error.Error.TheVariants.{Inner, Elapsed}
 
 -- a `Timeout`
-pub record Limited (S C : Type 0) : Type 0 where
+pub record TimeoutView (S C : Type 0) : Type 0 where
   pub inner : S
   pub duration : ℕ
   pub clock : C
 
 -- its response future
-pub record Waiting (F C : Type 0) : Type 0 where
+pub record ResponseFutureView (F C : Type 0) : Type 0 where
   pub response : F
   pub deadline : ℕ
   pub clock : C
 
--- the answer to a poll of readiness, from the inner one
-abbrev pub poll_of : {A E : Type 0} → Poll (Result A E) → Poll (Result A (Error E))
-poll_of (Ready (Ok x)) = Ready (Ok x)
-poll_of (Ready (Err e)) = Ready (Err (Inner e))
-poll_of Pending = Pending
+-- its layer
+pub record TimeoutLayerView (C : Type 0) : Type 0 where
+  pub duration : ℕ
+  pub clock : C
 
 -- the answer to a poll of the future, from the response's and from the moment at which it was pending
 abbrev pub answer_of : {A E : Type 0} → Poll (Result A E) → ℕ → ℕ → Poll (Result A (Error E))
@@ -39,16 +39,16 @@ Reads Read Unread (Ready x) = Unread
 
 module _ {S C Q A E F : Type 0} (s : ServiceOf S Q A E F) (c : ClockOf C) where
   -- a poll of readiness: one poll of the inner service
-  pub record Polled (old : Limited S C) (answer : Poll (Result (Unit {0}) (Error E))) (new : Limited S C) : Type 0 where
+  pub record Polled (old : TimeoutView S C) (answer : Poll (Result (Unit {0}) (Error E))) (new : TimeoutView S C) : Type 0 where
     pub inner : Poll (Result (Unit {0}) E)
-    pub came : s.polled old.inner inner new.inner
-    pub answers : answer ≡ poll_of inner
+    pub polled : s.polled old.inner inner new.inner
+    pub answers : answer ≡ answered Inner inner
     pub same : new ≡ record old { inner = new.inner }
 
   -- a call: one call of the inner service, which is ready, and then one reading of the clock, to which the duration is added
-  pub record Called (old : Limited S C) (request : Q) (future : Waiting F C) (new : Limited S C) : Type 0 where
+  pub record Called (old : TimeoutView S C) (request : Q) (future : ResponseFutureView F C) (new : TimeoutView S C) : Type 0 where
     pub ready : s.ready old.inner
-    pub came : s.called old.inner request future.response new.inner
+    pub called : s.called old.inner request future.response new.inner
     pub read : c.read old.clock new.clock
     pub deadline : future.deadline ≡ c.reading new.clock + old.duration
     pub clock : c.shared new.clock future.clock
@@ -56,33 +56,22 @@ module _ {S C Q A E F : Type 0} (s : ServiceOf S Q A E F) (c : ClockOf C) where
 
 module _ {F C A E : Type 0} (f : StepsOf F (Result A E)) (c : ClockOf C) where
   -- a poll of the future: one poll of the response, and one reading of the clock where that is pending
-  pub record Stepped (old : Waiting F C) (answer : Poll (Result A (Error E))) (new : Waiting F C) : Type 0 where
+  pub record Stepped (old : ResponseFutureView F C) (answer : Poll (Result A (Error E))) (new : ResponseFutureView F C) : Type 0 where
     pub inner : Poll (Result A E)
-    pub came : f.stepped old.response inner new.response
+    pub stepped : f.stepped old.response inner new.response
     pub answers : answer ≡ answer_of inner old.deadline (c.reading new.clock)
     pub read : Reads (c.read old.clock new.clock) (new.clock ≡ old.clock) inner
     pub same : new.deadline ≡ old.deadline
 
--- an outer `Ok` comes of an inner one
-pub poll_of-ok : {A E : Type 0} (inner : Poll (Result A E)) (x : A) → Ready (Ok x) ≡ poll_of inner → inner ≡ Ready (Ok x)
-poll_of-ok (Ready (Ok y)) x e = cc
-poll_of-ok (Ready (Err y)) x e = cc
-poll_of-ok Pending x e = cc
-
--- its layer
-pub record Limit (C : Type 0) : Type 0 where
-  pub duration : ℕ
-  pub clock : C
-
 module _ {S C : Type 0} (c : ClockOf C) where
   -- what the layer makes: round the service, with the layer's duration and a share of its clock
-  pub record Made (layer : Limit C) (service : S) (made : Limited S C) : Type 0 where
+  pub record Made (layer : TimeoutLayerView C) (service : S) (made : TimeoutView S C) : Type 0 where
     pub inner : made.inner ≡ service
     pub duration : made.duration ≡ layer.duration
     pub clock : c.shared layer.clock made.clock
 
   -- a clone: of the inner service, with the same duration and a share of the clock
-  pub record IsClone (is_clone : S → S → Type 0) (old copy : Limited S C) : Type 0 where
+  pub record IsClone (is_clone : S → S → Type 0) (old copy : TimeoutView S C) : Type 0 where
     pub inner : is_clone old.inner copy.inner
     pub duration : copy.duration ≡ old.duration
     pub clock : c.shared old.clock copy.clock

@@ -1,9 +1,9 @@
 -- What `Timeout` lends.
 use Rattle.std.specs.Borrow.{Lends, MutBor, Fml}
 use denote.RattleType.{RattleType}
-use Rattle.tower_ware.specs.Timeout.{Limited}
+use Rattle.tower_ware.specs.Timeout.{TimeoutView}
 use Rattle.tower_ware.specs.contracts.timeout.Timeout.{the_row}
 
 -- t ends with the last value behind r as its inner service
-abbrev pub LendsInner : (S C : RattleType) → MutBor (Limited S.Denot C.Denot) → MutBor S.Denot → Fml
+abbrev pub LendsInner : (S C : RattleType) → MutBor (TimeoutView S.Denot C.Denot) → MutBor S.Denot → Fml
 LendsInner S C t r = Lends (the_row S C) S t r (λ w. record t.now { inner = w })

@@ -1,6 +1,8 @@
 //! Requests that pass a predicate: the Rust's `tower::filter`.
 ghost use Rattle.std.specs.Prelude.{◌≡◌};
-ghost use Rattle.tower_ware.specs.Filter.{Filtering, Polled, Calls, AsyncCalls, answer_of-ok};
+ghost use Rattle.tower_base.specs.AnswersLemmas.{answered_ok};
+ghost use Rattle.tower_ware.specs.Filter.{AsyncFilterCalled, FilterCalled, FilterView, IsClone, Polled};
+ghost use Rattle.tower_ware.specs.declared.filter.error.Error.TheVariants.{Inner};
 
 mod error;
 pub mod future;
@@ -30,15 +32,12 @@ pub struct Filter<S, U> {
 }
 
 impl<S, U> Model for Filter<S, U> {
-    ghost Value = { Filtering S U };
+    ghost Value = { FilterView S U };
 
     ghost view = { λ f. record { inner = f.inner; predicate = f.predicate } };
 }
 
 impl<S, U> Filter<S, U> {
-    ghost use Rattle.tower_ware.specs.FilterLends.{LendsInner};
-    ghost use Rattle.std.specs.Borrow.{sem};
-
     /// Nothing is asked here.
     pub fn new(inner: S, predicate: U) -> Filter<S, U>
         ensures { result ≡ record { inner = inner; predicate = predicate } }
@@ -52,6 +51,59 @@ impl<S, U> Filter<S, U> {
     {
         FilterLayer::new(predicate)
     }
+}
+
+impl<R, P, S, U> Service<R> for Filter<S, U>
+where
+    S: Service<P>,
+    U: Predicate<R, Request = P>,
+{
+    type Response = S::Response;
+
+    type Error = Error<S::Error, U::Error>;
+
+    type Future = ResponseFuture<S::Future, U::Error>;
+
+    ghost sound = { λ f. S.sound f.inner × U.sound f.predicate };
+
+    ghost ready = { λ f. S.ready f.inner };
+
+    ghost polled = { Polled S.Service };
+
+    ghost called = { FilterCalled S.Service U.Predicate };
+
+    ghost readies = { λ old new p. S.readies old.inner new.inner (let e = answered_ok Inner p.inner tt p.answers in Prim.rw e at p.polled) };
+
+    fn poll_ready(&mut self, cx: &mut Context<'_>) -> Poll<Result<(), Error<S::Error, U::Error>>> {
+        match self.inner.poll_ready(cx) {
+            Poll::Ready(Ok(())) => Poll::Ready(Ok(())),
+            Poll::Ready(Err(error)) => Poll::Ready(Err(Error::Inner(error))),
+            Poll::Pending => Poll::Pending,
+        }
+    }
+
+    fn call(&mut self, request: R) -> ResponseFuture<S::Future, U::Error> {
+        match self.predicate.check(request) {
+            Ok(request) => ResponseFuture::new(State::Response(self.inner.call(request))),
+            Err(error) => ResponseFuture::new(State::Refusal(error)),
+        }
+    }
+}
+
+/// A clone has clones of both parts.
+impl<S: Clone + Drop, U: Clone> Clone for Filter<S, U> {
+    ghost is_clone = { IsClone U.is_clone S.is_clone };
+
+    fn clone(&self) -> Result<Filter<S, U>, AllocError> {
+        let inner = self.inner.clone()?;
+        let predicate = self.predicate.clone()?;
+        Ok(Filter::new(inner, predicate))
+    }
+}
+
+impl<S, U> Filter<S, U> {
+    ghost use Rattle.tower_ware.specs.FilterLends.{LendsInner};
+    ghost use Rattle.std.specs.Borrow.{sem};
 
     /// What the predicate makes of the request. The inner service isn't asked.
     pub fn check<R>(&mut self, request: R) -> Result<U::Request, U::Error>
@@ -90,54 +142,6 @@ impl<S, U> Filter<S, U> {
     }
 }
 
-/// A clone has clones of both parts.
-impl<S: Clone + Drop, U: Clone> Clone for Filter<S, U> {
-    ghost is_clone = { λ filter copy. S.is_clone filter.inner copy.inner × U.is_clone filter.predicate copy.predicate };
-
-    fn clone(&self) -> Result<Filter<S, U>, AllocError> {
-        let inner = self.inner.clone()?;
-        let predicate = self.predicate.clone()?;
-        Ok(Filter::new(inner, predicate))
-    }
-}
-
-impl<R, P, S, U> Service<R> for Filter<S, U>
-where
-    S: Service<P>,
-    U: Predicate<R, Request = P>,
-{
-    type Response = S::Response;
-
-    type Error = Error<S::Error, U::Error>;
-
-    type Future = ResponseFuture<S::Future, U::Error>;
-
-    ghost sound = { λ f. S.sound f.inner × U.sound f.predicate };
-
-    ghost ready = { λ f. S.ready f.inner };
-
-    ghost polled = { Polled S.Service };
-
-    ghost called = { Calls S.Service U.checked };
-
-    ghost readies = { λ old new p. S.readies old.inner new.inner (let e = answer_of-ok p.inner tt p.answers in Prim.rw e at p.came) };
-
-    fn poll_ready(&mut self, cx: &mut Context<'_>) -> Poll<Result<(), Error<S::Error, U::Error>>> {
-        match self.inner.poll_ready(cx) {
-            Poll::Ready(Ok(())) => Poll::Ready(Ok(())),
-            Poll::Ready(Err(error)) => Poll::Ready(Err(Error::Inner(error))),
-            Poll::Pending => Poll::Pending,
-        }
-    }
-
-    fn call(&mut self, request: R) -> ResponseFuture<S::Future, U::Error> {
-        match self.predicate.check(request) {
-            Ok(request) => ResponseFuture::new(State::Response(self.inner.call(request))),
-            Err(error) => ResponseFuture::new(State::Refusal(error)),
-        }
-    }
-}
-
 /// Calls the inner service with the request that the predicate's future gives, or answers `Rejected`:
 /// the Rust's `tower::filter::AsyncFilter`.
 ///
@@ -150,15 +154,12 @@ pub struct AsyncFilter<S, U> {
 }
 
 impl<S, U> Model for AsyncFilter<S, U> {
-    ghost Value = { Filtering S U };
+    ghost Value = { FilterView S U };
 
     ghost view = { λ f. record { inner = f.inner; predicate = f.predicate } };
 }
 
 impl<S, U> AsyncFilter<S, U> {
-    ghost use Rattle.tower_ware.specs.FilterLends.{AsyncLendsInner};
-    ghost use Rattle.std.specs.Borrow.{sem};
-
     /// Nothing is asked here.
     pub fn new(inner: S, predicate: U) -> AsyncFilter<S, U>
         ensures { result ≡ record { inner = inner; predicate = predicate } }
@@ -172,6 +173,65 @@ impl<S, U> AsyncFilter<S, U> {
     {
         AsyncFilterLayer::new(predicate)
     }
+}
+
+impl<R, P, S, U> Service<R> for AsyncFilter<S, U>
+where
+    R: Drop,
+    S: Service<P> + Clone,
+    U: AsyncPredicate<R, Request = P>,
+{
+    type Response = S::Response;
+
+    type Error = Error<S::Error, U::Error>;
+
+    type Future = AsyncResponseFuture<U::Future, S, S::Future>;
+
+    // A clone of a sound service is sound.
+    ghost sound = { λ f. S.sound f.inner × U.sound f.predicate × ((x y : S) → S.is_clone x y → S.sound x → S.sound y) };
+
+    ghost ready = { λ f. S.ready f.inner };
+
+    ghost polled = { Polled S.Service };
+
+    ghost called = { AsyncFilterCalled S.Service S.is_clone U.AsyncPredicate };
+
+    ghost readies = { λ old new p. S.readies old.inner new.inner (let e = answered_ok Inner p.inner tt p.answers in Prim.rw e at p.polled) };
+
+    fn poll_ready(&mut self, cx: &mut Context<'_>) -> Poll<Result<(), Error<S::Error, U::Error>>> {
+        match self.inner.poll_ready(cx) {
+            Poll::Ready(Ok(())) => Poll::Ready(Ok(())),
+            Poll::Ready(Err(error)) => Poll::Ready(Err(Error::Inner(error))),
+            Poll::Pending => Poll::Pending,
+        }
+    }
+
+    fn call(&mut self, request: R) -> AsyncResponseFuture<U::Future, S, S::Future> {
+        match self.inner.clone() {
+            Ok(clone) => {
+                let polled = mem::replace(&mut self.inner, clone);
+                let check = self.predicate.check(request);
+                AsyncResponseFuture::new(AsyncState::Check(check, polled))
+            }
+            Err(_) => AsyncResponseFuture::new(AsyncState::NoClone),
+        }
+    }
+}
+
+/// A clone has clones of both parts.
+impl<S: Clone + Drop, U: Clone> Clone for AsyncFilter<S, U> {
+    ghost is_clone = { IsClone U.is_clone S.is_clone };
+
+    fn clone(&self) -> Result<AsyncFilter<S, U>, AllocError> {
+        let inner = self.inner.clone()?;
+        let predicate = self.predicate.clone()?;
+        Ok(AsyncFilter::new(inner, predicate))
+    }
+}
+
+impl<S, U> AsyncFilter<S, U> {
+    ghost use Rattle.tower_ware.specs.FilterLends.{AsyncLendsInner};
+    ghost use Rattle.std.specs.Borrow.{sem};
 
     /// The predicate's future for the request. The inner service isn't asked.
     pub fn check<R>(&mut self, request: R) -> U::Future
@@ -208,59 +268,5 @@ impl<S, U> AsyncFilter<S, U> {
         ensures { result ≡ self.inner }
     {
         self.inner
-    }
-}
-
-/// A clone has clones of both parts.
-impl<S: Clone + Drop, U: Clone> Clone for AsyncFilter<S, U> {
-    ghost is_clone = { λ filter copy. S.is_clone filter.inner copy.inner × U.is_clone filter.predicate copy.predicate };
-
-    fn clone(&self) -> Result<AsyncFilter<S, U>, AllocError> {
-        let inner = self.inner.clone()?;
-        let predicate = self.predicate.clone()?;
-        Ok(AsyncFilter::new(inner, predicate))
-    }
-}
-
-impl<R, P, S, U> Service<R> for AsyncFilter<S, U>
-where
-    R: Drop,
-    S: Service<P> + Clone,
-    U: AsyncPredicate<R, Request = P>,
-{
-    type Response = S::Response;
-
-    type Error = Error<S::Error, U::Error>;
-
-    type Future = AsyncResponseFuture<U::Future, S, S::Future>;
-
-    // A clone of a sound service is sound.
-    ghost sound = { λ f. S.sound f.inner × U.sound f.predicate × ((x y : S) → S.is_clone x y → S.sound x → S.sound y) };
-
-    ghost ready = { λ f. S.ready f.inner };
-
-    ghost polled = { Polled S.Service };
-
-    ghost called = { AsyncCalls S.ready S.is_clone U.asked };
-
-    ghost readies = { λ old new p. S.readies old.inner new.inner (let e = answer_of-ok p.inner tt p.answers in Prim.rw e at p.came) };
-
-    fn poll_ready(&mut self, cx: &mut Context<'_>) -> Poll<Result<(), Error<S::Error, U::Error>>> {
-        match self.inner.poll_ready(cx) {
-            Poll::Ready(Ok(())) => Poll::Ready(Ok(())),
-            Poll::Ready(Err(fault)) => Poll::Ready(Err(Error::Inner(fault))),
-            Poll::Pending => Poll::Pending,
-        }
-    }
-
-    fn call(&mut self, request: R) -> AsyncResponseFuture<U::Future, S, S::Future> {
-        match self.inner.clone() {
-            Ok(clone) => {
-                let polled = mem::replace(&mut self.inner, clone);
-                let check = self.predicate.check(request);
-                AsyncResponseFuture::new(AsyncState::Check(check, polled))
-            }
-            Err(_) => AsyncResponseFuture::new(AsyncState::NoClone),
-        }
     }
 }

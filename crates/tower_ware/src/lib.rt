@@ -1,4 +1,4 @@
-//! Middleware that shares nothing.
+//! Middleware that shares nothing, and streams of calls.
 #![tactic(auto)]
 
 pub mod filter;
@@ -6,3 +6,4 @@ pub mod load_shed;
 pub mod reconnect;
 pub mod steer;
 pub mod timeout;
+pub mod util;

@@ -1,6 +1,6 @@
 //! Refuses the calls that the inner service isn't ready for: the Rust's `tower::load_shed`.
 ghost use Rattle.std.specs.Prelude.{◌≡◌, true, false};
-ghost use Rattle.tower_ware.specs.LoadShed.{Shedding, Polled, Called};
+ghost use Rattle.tower_ware.specs.LoadShed.{Called, LoadShedView, Polled};
 
 pub mod error;
 pub mod future;
@@ -25,7 +25,7 @@ pub struct LoadShed<S> {
 }
 
 impl<S> Model for LoadShed<S> {
-    ghost Value = { Shedding S };
+    ghost Value = { LoadShedView S };
 
     ghost view = { λ s. record { inner = s.inner; is_ready = s.is_ready } };
 }
@@ -39,15 +39,6 @@ impl<S> LoadShed<S> {
             inner,
             is_ready: false,
         }
-    }
-}
-
-// What a clone's inner service is ready for isn't known.
-impl<S: Clone> Clone for LoadShed<S> {
-    ghost is_clone = { λ old clone. S.is_clone old.inner clone.inner × (clone.is_ready ≡ false) };
-
-    fn clone(&self) -> Result<LoadShed<S>, AllocError> {
-        Ok(LoadShed::new(self.inner.clone()?))
     }
 }
 
@@ -88,5 +79,14 @@ impl<S: Service<Request>, Request: Drop> Service<Request> for LoadShed<S> {
         } else {
             ResponseFuture::overloaded()
         }
+    }
+}
+
+// What a clone's inner service is ready for isn't known.
+impl<S: Clone> Clone for LoadShed<S> {
+    ghost is_clone = { λ old clone. S.is_clone old.inner clone.inner × (clone.is_ready ≡ false) };
+
+    fn clone(&self) -> Result<LoadShed<S>, AllocError> {
+        Ok(LoadShed::new(self.inner.clone()?))
     }
 }

@@ -2,7 +2,8 @@
 ghost use Rattle.std.specs.Prelude.{◌≡◌, Some, None, IfSome};
 ghost use Rattle.futures.specs.Task.{IsArmed, Keeps};
 ghost use Rattle.futures.specs.Poll.{OnPending};
-ghost use Rattle.tower_ware.specs.Reconnect.{Calls, IsReady, Linked, Pass, Polled, Sound, polled_ok};
+ghost use Rattle.tower_ware.specs.Reconnect.{Called, IsReady, Pass, Polled, Sound, view_of};
+ghost use Rattle.tower_ware.specs.ReconnectReady.{polled_ok};
 ghost use Rattle.tower_ware.specs.declared.reconnect.state.State.TheVariants.{Idle, Connected};
 
 mod error;
@@ -13,7 +14,7 @@ pub use error::Error;
 pub use future::ResponseFuture;
 use futures::task::{Context, Poll};
 use state::{Reply, State};
-use std::marker::Model;
+use tower_base::passes::PASSES;
 use tower_base::service::{Service, Steps};
 
 /// Connects to its target by its maker, and connects again where the connection's readiness fails: the
@@ -23,26 +24,19 @@ use tower_base::service::{Service, Steps};
 /// its place. An error of the maker's readiness answers the poll as `Make`, and no connection is begun.
 /// Where the clone of the target is refused the poll answers `Memory`, and the next one tries again. A
 /// poll makes 64 passes at most, and is then pending with its own task woken.
-///
-/// `F`, `S` and `E` are the maker's future, response and error.
 #[derive(Drop)]
-pub struct Reconnect<M, F, S, E, Target> {
+// (A `Model` over the bound couldn't be used at a closure's type, so clauses say `view_of`.)
+pub struct Reconnect<M: Service<Target>, Target> {
     maker: M,
-    state: State<F, S>,
+    state: State<M::Future, M::Response>,
     target: Target,
-    error: Option<E>,
+    error: Option<M::Error>,
 }
 
-impl<M, F, S, E, Target> Model for Reconnect<M, F, S, E, Target> {
-    ghost Value = { Linked M F S E Target };
-
-    ghost view = { λ r. record { maker = r.maker; state = r.state; target = r.target; error = r.error } };
-}
-
-impl<M: Service<Target>, Target> Reconnect<M, M::Future, M::Response, M::Error, Target> {
+impl<M: Service<Target>, Target> Reconnect<M, Target> {
     /// It connects at its first poll.
-    pub fn new(maker: M, target: Target) -> Reconnect<M, M::Future, M::Response, M::Error, Target>
-        ensures { result ≡ record { maker = maker; state = Idle; target = target; error = None } }
+    pub fn new(maker: M, target: Target) -> Reconnect<M, Target>
+        ensures { view_of result ≡ record { maker = maker; state = Idle; target = target; error = None } }
     {
         Reconnect {
             maker,
@@ -53,12 +47,8 @@ impl<M: Service<Target>, Target> Reconnect<M, M::Future, M::Response, M::Error, 
     }
 
     /// It begins with a connection.
-    pub fn with_connection(
-        service: M::Response,
-        maker: M,
-        target: Target,
-    ) -> Reconnect<M, M::Future, M::Response, M::Error, Target>
-        ensures { result ≡ record { maker = maker; state = Connected service; target = target; error = None } }
+    pub fn with_connection(service: M::Response, maker: M, target: Target) -> Reconnect<M, Target>
+        ensures { view_of result ≡ record { maker = maker; state = Connected service; target = target; error = None } }
     {
         Reconnect {
             maker,
@@ -69,7 +59,7 @@ impl<M: Service<Target>, Target> Reconnect<M, M::Future, M::Response, M::Error, 
     }
 }
 
-impl<Request, M, S, Target> Service<Request> for Reconnect<M, M::Future, S, M::Error, Target>
+impl<Request, M, S, Target> Service<Request> for Reconnect<M, Target>
 where
     M: Service<Target, Response = S>,
     S: Service<Request>,
@@ -82,18 +72,18 @@ where
 
     type Future = ResponseFuture<S::Future, M::Error>;
 
-    ghost sound = { Sound M.Service M.Future.Steps.own M.Future.can_poll S.sound };
+    ghost sound = { λ r. Sound M.Service M.Future.Steps.own M.Future.can_poll S.sound (view_of r) };
 
-    ghost ready = { IsReady S.Service };
+    ghost ready = { λ r. IsReady S.Service (view_of r) };
 
-    ghost polled = { Polled M.Service M.Future.Steps.own S.Service Target.is_clone };
+    ghost polled = { λ old answer new. Polled M.Service M.Future.Steps.own S.Service Target.is_clone (view_of old) answer (view_of new) };
 
-    ghost called = { Calls S.Service };
+    ghost called = { λ old request future new. Called S.Service (view_of old) request future (view_of new) };
 
-    ghost readies = { λ old new p. polled_ok S.readies old new p };
+    ghost readies = { λ old new p. polled_ok S.readies (view_of old) (view_of new) p };
 
     fn poll_ready(&mut self, cx: &mut Context<'_>) -> Poll<Result<(), Self::Error>> {
-        for _turn in 0..64u8 {
+        for _pass in 0..PASSES {
             if let Some(answer) = pass::<Request, M, S, Target>(self, cx) {
                 return answer;
             }
@@ -108,7 +98,9 @@ where
         match &mut self.state {
             State::Idle => unreachable!(),
             State::Connecting(_) => unreachable!(),
-            State::Connected(service) => ResponseFuture::new(Reply::Called(service.call(request))),
+            State::Connected(service) => ResponseFuture::new(Reply::InFlight(service.call(
+                request,
+            ))),
         }
     }
 }
@@ -117,16 +109,16 @@ type Answer<E, M> = Poll<Result<(), Error<E, M>>>;
 
 // One pass: an answer, or on with the next pass.
 fn pass<Request, M, S, Target>(
-    reconnect: &mut Reconnect<M, M::Future, S, M::Error, Target>,
+    reconnect: &mut Reconnect<M, Target>,
     cx: &mut Context<'_>,
 ) -> Option<Answer<S::Error, M::Error>>
 where
     M: Service<Target, Response = S>,
     S: Service<Request>,
     Target: Clone + Drop,
-    requires { Sound M.Service M.Future.Steps.own M.Future.can_poll S.sound reconnect.old }
-    ensures pass { Pass M.Service M.Future.Steps.own S.Service Target.is_clone reconnect.old result reconnect.new }
-    ensures sound { Sound M.Service M.Future.Steps.own M.Future.can_poll S.sound reconnect.new }
+    requires { Sound M.Service M.Future.Steps.own M.Future.can_poll S.sound (view_of reconnect.old) }
+    ensures pass { Pass M.Service M.Future.Steps.own S.Service Target.is_clone (view_of reconnect.old) result (view_of reconnect.new) }
+    ensures sound { Sound M.Service M.Future.Steps.own M.Future.can_poll S.sound (view_of reconnect.new) }
     ensures armed { IfSome result (λ answer. OnPending answer (IsArmed cx.new)) }
     ensures kept { Keeps cx.old cx.new }
 {

@@ -1,7 +1,8 @@
 //! One of many services for each request: the Rust's `tower::steer`.
-ghost use Rattle.std.specs.Prelude.{◌≡◌, ◌<◌, [], All, IfOk, length};
+ghost use Rattle.std.specs.Prelude.{◌≡◌, ◌<◌, ◌≤◌, [], All, IfOk, length};
 ghost use Rattle.std.specs.VecDeque.{deque_capacity};
-ghost use Rattle.tower_ware.specs.Steer.{Called, Cloned, Polled, Sound, Standing, Steered, polled_ok, upto};
+ghost use Rattle.tower_ware.specs.Steer.{Called, IsClone, Polled, Sound, Standing, SteerView, upto};
+ghost use Rattle.tower_ware.specs.SteerReady.{polled_ok};
 
 mod picker;
 
@@ -26,7 +27,7 @@ pub struct Steer<S, F, Req> {
 }
 
 impl<S, F, Req> Model for Steer<S, F, Req> {
-    ghost Value = { Steered S F };
+    ghost Value = { SteerView S F };
 
     ghost view = { λ m. record {
       picker = m.picker;
@@ -44,11 +45,7 @@ impl<S: Service<Req>, F: Picker<S, Req>, Req> Steer<S, F, Req> {
         ensures parts { IfOk result (λ m. (m.picker ≡ picker) × (m.services ≡ services.items) × (m.listed ≡ upto (length services.items))) }
         ensures sound { F.sound picker → All S.sound services.items → IfOk result (Sound F.sound S.sound S.ready) }
     {
-        let count = services.len();
-        let mut listed = VecDeque::with_capacity(alloc, count)?;
-        for index in 0..count {
-            listed.push_back_reserved(index);
-        }
+        let listed = all_indexes(alloc, services.len())?;
         Ok(Steer {
             picker,
             services,
@@ -71,7 +68,7 @@ impl<S: Service<Req>, F: Picker<S, Req>, Req> Service<Req> for Steer<S, F, Req> 
 
     ghost polled = { Polled S.Service };
 
-    ghost called = { Called S.Service F.picked };
+    ghost called = { Called S.Service F.Picker };
 
     ghost readies = { λ old new p. polled_ok old new p };
 
@@ -96,16 +93,12 @@ impl<S: Service<Req>, F: Picker<S, Req>, Req> Service<Req> for Steer<S, F, Req> 
 }
 
 impl<S: Clone, F: Clone, Req> Clone for Steer<S, F, Req> {
-    ghost is_clone = { Cloned F.is_clone S.is_clone };
+    ghost is_clone = { IsClone F.is_clone S.is_clone };
 
     fn clone(&self) -> Result<Steer<S, F, Req>, AllocError> {
         let picker = self.picker.clone()?;
         let services = self.services.clone()?;
-        let count = services.len();
-        let mut listed = VecDeque::with_capacity(*services.allocator(), count)?;
-        for index in 0..count {
-            listed.push_back_reserved(index);
-        }
+        let listed = all_indexes(*services.allocator(), services.len())?;
         Ok(Steer {
             picker,
             services,
@@ -113,4 +106,15 @@ impl<S: Clone, F: Clone, Req> Clone for Steer<S, F, Req> {
             of: PhantomData,
         })
     }
+}
+
+// All indexes below the count, in a list that has room for so many.
+fn all_indexes(alloc: Global, count: usize) -> Result<VecDeque<usize>, AllocError>
+    ensures { IfOk result (λ listed. (listed.items ≡ upto count) × (count ≤ deque_capacity listed)) }
+{
+    let mut listed = VecDeque::with_capacity(alloc, count)?;
+    for index in 0..count {
+        listed.push_back_reserved(index);
+    }
+    Ok(listed)
 }

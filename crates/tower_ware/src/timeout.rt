@@ -1,16 +1,19 @@
 //! A limit on the time that a response may take: the Rust's `tower::timeout`.
-ghost use Rattle.std.specs.Prelude.{◌≡◌, IfOk};
-ghost use Rattle.tower_ware.specs.Timeout.{Limited, Limit, Polled, Called, Made, IsClone, poll_of-ok};
+ghost use Rattle.std.specs.Prelude.{◌≡◌};
+ghost use Rattle.tower_base.specs.AnswersLemmas.{answered_ok};
+ghost use Rattle.tower_ware.specs.declared.timeout.error.Error.TheVariants.{Inner};
+ghost use Rattle.tower_ware.specs.Timeout.{Called, IsClone, Polled, TimeoutView};
 
 pub mod error;
 pub mod future;
+mod layer;
 
 pub use error::Error;
 use future::ResponseFuture;
 use futures::task::{Context, Poll};
+pub use layer::TimeoutLayer;
 use std::alloc::AllocError;
 use std::marker::Model;
-use tower_base::layer::Layer;
 use tower_base::service::{Clock, Service};
 
 /// Answers `Elapsed` in place of a response that takes too long: the Rust's `tower::timeout::Timeout`.
@@ -24,7 +27,7 @@ pub struct Timeout<S, C> {
 }
 
 impl<S, C> Model for Timeout<S, C> {
-    ghost Value = { Limited S C };
+    ghost Value = { TimeoutView S C };
 
     ghost view = { λ t. record { inner = t.inner; duration = t.duration; clock = t.clock } };
 }
@@ -57,7 +60,7 @@ impl<Request, S: Service<Request>, C: Clock> Service<Request> for Timeout<S, C> 
 
     ghost called = { Called S.Service C.Clock };
 
-    ghost readies = { λ old new p. S.readies old.inner new.inner (let e = poll_of-ok p.inner tt p.answers in Prim.rw e at p.came) };
+    ghost readies = { λ old new p. S.readies old.inner new.inner (let e = answered_ok Inner p.inner tt p.answers in Prim.rw e at p.polled) };
 
     fn poll_ready(&mut self, cx: &mut Context<'_>) -> Poll<Result<(), Self::Error>> {
         match self.inner.poll_ready(cx) {
@@ -111,46 +114,5 @@ impl<S, C> Timeout<S, C> {
         ensures { result ≡ self.inner }
     {
         self.inner
-    }
-}
-
-/// Makes a `Timeout` of a service, with a share of its clock: the Rust's `tower::timeout::TimeoutLayer`.
-#[derive(Drop)]
-pub struct TimeoutLayer<C> {
-    duration: u64,
-    clock: C,
-}
-
-impl<C> Model for TimeoutLayer<C> {
-    ghost Value = { Limit C };
-
-    ghost view = { λ l. record { duration = l.duration; clock = l.clock } };
-}
-
-impl<C> TimeoutLayer<C> {
-    /// The duration is in nanoseconds.
-    pub fn new(duration: u64, clock: C) -> TimeoutLayer<C>
-        ensures { result ≡ record { duration = duration; clock = clock } }
-    {
-        TimeoutLayer { duration, clock }
-    }
-}
-
-impl<S, C: Clock> Layer<S> for TimeoutLayer<C> {
-    type Service = Timeout<S, C>;
-
-    ghost made = { Made C.Clock };
-
-    fn layer(&self, service: S) -> Result<Timeout<S, C>, AllocError> {
-        Ok(Timeout::new(service, self.duration, self.clock.share()))
-    }
-}
-
-/// A clone shares the clock.
-impl<C: Clock> Clone for TimeoutLayer<C> {
-    ghost is_clone = { λ layer copy. C.shared layer.clock copy.clock × (copy.duration ≡ layer.duration) };
-
-    fn clone(&self) -> Result<TimeoutLayer<C>, AllocError> {
-        Ok(TimeoutLayer::new(self.duration, self.clock.share()))
     }
 }

@@ -1,25 +1,30 @@
 //! Methods of each service.
-ghost use Rattle.std.specs.Prelude.{◌≡◌, Some, None};
-ghost use Rattle.tower_calls.specs.Calling.{Opens};
+ghost use Rattle.std.specs.Prelude.{◌≡◌, Some, None, IsSomeAnd, IfOk, OnOk};
+ghost use Rattle.tower_ware.specs.CallAll.{New as Opens};
+ghost use Rattle.tower_util.specs.Waits.{Waited, Answered, Each};
 ghost use Rattle.tower_util.specs.declared.util.oneshot.State.TheVariants.{NotReady};
 
 use crate::filter::{AsyncFilter, AsyncPredicate, Filter, Predicate};
+use crate::util;
 use crate::util::{
     AndThen, CallAll, MapErr, MapFuture, MapRequest, MapResponse, MapResult, Oneshot, Ready,
     ReadyOneshot, Then,
 };
 use futures::future::Future;
-use std::alloc::Global;
+use std::alloc::{AllocGlobal, Global};
+use std::io;
+use std::random::RandomSource;
+use std::sync::Wait;
 use tower_base::service::{Flow, Service};
 
 /// Methods that each service has: the Rust's `tower::ServiceExt`.
 pub trait ServiceExt<Request>: Service<Request> {
-    /// Waits until the service is ready.
+    /// Waits until the service is ready, and gives the borrow of it back. After an error nothing is
+    /// known of the service by this way, and `block_on_ready` knows more.
     final fn ready(&mut self) -> Ready<'_, Self, Request>
     where
         Self: Sized,
-        ensures value { result.service.now ≡ self.old }
-        ensures same_reference { result.service.ghost_name ≡ self.entry.ghost_name }
+        ensures { IsSomeAnd result.service (λ lent. (lent.now ≡ self.old) × (lent.ghost_name ≡ self.entry.ghost_name)) }
     {
         Ready::new(self)
     }
@@ -31,6 +36,60 @@ pub trait ServiceExt<Request>: Service<Request> {
         ensures { result ≡ Some self }
     {
         ReadyOneshot::new(self)
+    }
+
+    /// Waits on the calling thread until the service is ready, or answers an error: the Rust's
+    /// `service.ready().await`. The outer error says that the executor failed.
+    final fn block_on_ready<R>(&mut self, rt: &R) -> io::Result<Result<(), Self::Error>>
+    where
+        Self: Sized,
+        R: Wait + RandomSource + AllocGlobal,
+        requires { Self.sound self.old }
+        ensures sound { Self.sound self.new }
+        ensures ready { IfOk result (λ answer. OnOk answer (Self.ready self.new)) }
+        ensures waited { IfOk result (λ answer. Waited Self.Service self.old answer self.new) }
+    {
+        util::block_on_ready(self, rt)
+    }
+
+    /// Waits on the calling thread until the service is ready, calls it once, and waits for the
+    /// response: the Rust's `service.ready().await?.call(request).await`. An error of readiness is
+    /// answered, and then no call is made. The outer error says that the executor failed.
+    final fn block_on_call<R>(
+        &mut self,
+        rt: &R,
+        request: Request,
+    ) -> io::Result<Result<Self::Response, Self::Error>>
+    where
+        Self: Sized,
+        R: Wait + RandomSource + AllocGlobal,
+        Request: Drop,
+        requires { Self.sound self.old }
+        ensures sound { Self.sound self.new }
+        ensures answered { IfOk result (λ answer. Answered Self.Service Self.Future.stepped self.old request answer self.new) }
+    {
+        util::block_on_call(self, rt, request)
+    }
+
+    /// Calls the service with each of the requests, in order, as `block_on_call` does, and hands each
+    /// answer to the closure before the next call. An answer that is an error ends nothing.
+    final fn block_on_each<R, F>(
+        &mut self,
+        rt: &R,
+        requests: Vec<Request>,
+        each: F,
+    ) -> io::Result<()>
+    where
+        Self: Sized,
+        R: Wait + RandomSource + AllocGlobal,
+        Request: Drop,
+        F: FnMut(Result<Self::Response, Self::Error>) + Drop,
+        requires sound { Self.sound self.old }
+        requires callable { F.IsAlwaysCallable each }
+        ensures sound { Self.sound self.new }
+        ensures told { IfOk result (λ _. (last : F) × Each Self.Service Self.Future.stepped F.step requests.items self.old each self.new last) }
+    {
+        util::block_on_each(self, rt, requests, each)
     }
 
     /// Waits until the service is ready, and calls it once.

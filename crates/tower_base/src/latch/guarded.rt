@@ -70,7 +70,7 @@ impl<C: Core, R: Wait + Copy> Guarded<C, R> {
 
 impl<C: Core> Kept<C> {
     #[inline(always)]
-    fn turn(&mut self, step: C::Step) -> C::Reply
+    fn step(&mut self, step: C::Step) -> C::Reply
         requires { C.admits step }
         ensures { Came C.opens C.steps step result }
     {
@@ -141,7 +141,7 @@ impl<C: Core, R: Wait + Copy> Latch<C> for Guarded<C, R> {
     #[inline]
     fn step(&self, step: C::Step) -> C::Reply {
         let mut kept = locked(&self.shared.kept, self.rt);
-        let reply = kept.turn(step);
+        let reply = kept.step(step);
         if !C::waits(&reply) && !kept.waiters.is_empty() {
             wake(kept);
         }
@@ -151,7 +151,7 @@ impl<C: Core, R: Wait + Copy> Latch<C> for Guarded<C, R> {
     #[inline(always)]
     fn wait(&self, step: C::Step, cx: &mut Context<'_>) -> C::Reply {
         let mut kept = locked(&self.shared.kept, self.rt);
-        let reply = kept.turn(step);
+        let reply = kept.step(step);
         if C::waits(&reply) {
             let room = keep(&mut kept.waiters, self.share, &self.shared.source, cx);
             drop(kept);

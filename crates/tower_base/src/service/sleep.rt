@@ -1,7 +1,9 @@
 //! A future of a clock.
 ghost use Rattle.std.specs.Prelude.{◌≡◌, ⊤, ◌+◌};
+ghost use Rattle.futures.specs.Poll.{IfReady, OnPending};
+ghost use Rattle.futures.specs.Task.{Covers, Keeps};
 ghost use Rattle.tower_base.specs.Gives.{MayGive};
-ghost use Rattle.tower_base.specs.Sleep.{Sleeping, Sleeps};
+ghost use Rattle.tower_base.specs.Sleep.{SleepView, Stepped};
 
 use crate::service::{Clock, Steps};
 use futures::future::Future;
@@ -17,7 +19,7 @@ pub struct Sleep<C> {
 }
 
 impl<C> Model for Sleep<C> {
-    ghost Value = { Sleeping C };
+    ghost Value = { SleepView C };
 
     ghost view = { λ s. record { clock = s.clock; deadline = s.deadline } };
 }
@@ -36,19 +38,26 @@ impl<C: Clock> Sleep<C> {
 impl<C: Clock> Future for Sleep<C> {
     type Output = ();
 
-    ghost gives = { MayGive (Sleeps C.Clock) };
+    ghost gives = { MayGive (Stepped C.Clock) };
 
     // A pending poll wakes its own waker, whatever source is meant.
     ghost needs = { λ _ _. ⊤ };
 
-    #[tactic(auto, using(crate::specs::Gives::gives_value, crate::specs::Gives::gives_same))]
-    fn poll(&mut self, cx: &mut Context<'_>) -> Poll<()> {
+    #[tactic(auto, using(crate::specs::GivesLemmas::gives_value, crate::specs::GivesLemmas::gives_same))]
+    fn poll(&mut self, cx: &mut Context<'_>) -> Poll<()>
+        ensures step { Stepped C.Clock self.old result self.new }
+        ensures value { IfReady result (MayGive (Stepped C.Clock) self.old) }
+        ensures again { OnPending result ⊤ }
+        ensures same { OnPending result ((x : _) → MayGive (Stepped C.Clock) self.new x → MayGive (Stepped C.Clock) self.old x) }
+        ensures registered { OnPending result (Covers cx.new (λ _. ⊤)) }
+        ensures kept { Keeps cx.old cx.new }
+    {
         self.step(cx)
     }
 }
 
 impl<C: Clock> Steps for Sleep<C> {
-    ghost stepped = { Sleeps C.Clock };
+    ghost stepped = { Stepped C.Clock };
 
     fn step(&mut self, cx: &mut Context<'_>) -> Poll<()> {
         let moment = self.clock.now();

@@ -1,6 +1,6 @@
 //! The machine's own clock.
 ghost use Rattle.std.specs.Prelude.{◌≡◌, IfOk};
-ghost use Rattle.tower_base.specs.SystemClock.{Running, Reads};
+ghost use Rattle.tower_base.specs.SystemClock.{SystemClockView, Read};
 
 use crate::service::Clock;
 use std::marker::Model;
@@ -19,13 +19,13 @@ pub struct SystemClock<R> {
 }
 
 impl<R> Model for SystemClock<R> {
-    ghost Value = { Running R };
+    ghost Value = { SystemClockView R };
 
     ghost view = { λ c. record { rt = c.rt; start = c.start; last = c.last } };
 }
 
 impl<R: rt::Clock + Copy> SystemClock<R> {
-    /// Reads the machine's clock once, and fails where that can't be read.
+    /// Read the machine's clock once, and fails where that can't be read.
     pub fn new(rt: R) -> io::Result<SystemClock<R>>
         ensures { IfOk result (λ clock. (clock.rt ≡ rt) × (clock.last ≡ 0)) }
     {
@@ -37,7 +37,7 @@ impl<R: rt::Clock + Copy> SystemClock<R> {
 impl<R: rt::Clock + Copy> Clock for SystemClock<R> {
     ghost reading = { λ clock. clock.last };
 
-    ghost read = { Reads };
+    ghost read = { Read };
 
     ghost shared = { λ clock other. other ≡ clock };
 

@@ -1,6 +1,6 @@
 //! Random words.
 ghost use Rattle.std.specs.Prelude.{◌≡◌, ◌<◌, ◌+◌, ◌-◌, ◌%◌, ℕ};
-ghost use Rattle.tower_base.specs.Rng.{Fresh, Hashing, Word};
+ghost use Rattle.tower_base.specs.Rng.{New, HasherRngView, Word};
 
 use std::alloc::AllocError;
 use std::hash::{BuildHasher, BuildHasherDefault, FoldHasher};
@@ -35,7 +35,7 @@ pub struct HasherRng<H = BuildHasherDefault<FoldHasher>> {
 }
 
 impl<H> Model for HasherRng<H> {
-    ghost Value = { Hashing H };
+    ghost Value = { HasherRngView H };
 
     ghost view = { λ r. record { hasher = r.hasher; counter = r.counter } };
 }
@@ -43,14 +43,14 @@ impl<H> Model for HasherRng<H> {
 impl HasherRng {
     /// Hashes as a `HashMap` does by default, so that each such generator gives the same words.
     pub fn new() -> Self
-        ensures { Fresh result }
+        ensures { New result }
     {
         HasherRng::with_hasher(BuildHasherDefault::new())
     }
 }
 
 impl Default for HasherRng {
-    ghost is_default = { Fresh };
+    ghost is_default = { New };
 
     fn default() -> Self {
         HasherRng::new()

@@ -5,13 +5,13 @@ mod error;
 pub mod future;
 mod laws;
 mod layer;
-mod line;
+mod line_core;
 mod semaphore;
 mod service;
 
 pub use error::Error;
 pub use laws::law;
 pub use layer::{ConcurrencyLimitLayer, GlobalConcurrencyLimitLayer};
-pub use line::{LineCore, LineReply, LineStep};
+pub use line_core::{LineCore, LineReply, LineStep};
 pub use semaphore::{Permit, PollSemaphore, Semaphore};
 pub use service::ConcurrencyLimit;

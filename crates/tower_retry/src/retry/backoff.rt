@@ -1,8 +1,8 @@
 //! Waits between retries: the Rust's `tower::retry::backoff`.
 ghost use Rattle.std.specs.Prelude.{◌≡◌, ◌<◌, ◌+◌, ◌^◌, ⊤, IfOk, Result, nat_eq};
-ghost use Rattle.tower_retry.specs.Backoff.{Begins, Copies, Jitters, Maker, Makes, Waiter, base_of, maker_of};
+ghost use Rattle.tower_retry.specs.Backoff.{Begins, IsClone, Jitters, ExponentialBackoffMakerView, Made, ExponentialBackoffView, base_of, maker_of};
 ghost use Rattle.std.specs.declared.alloc.AllocError.{AllocError};
-ghost use Rattle.tower_base.specs.Rng.{Fresh};
+ghost use Rattle.tower_base.specs.Rng.{New};
 
 use std::alloc::AllocError;
 use std::marker::Model;
@@ -22,13 +22,13 @@ pub trait MakeBackoff: Drop {
     ghost sound: { Self → Type 0 } = { λ _. ⊤ };
 
     // A call may give this answer and leave the second value.
-    ghost makes: { Self → Result Self.Backoff AllocError → Self → Type 0 };
+    ghost made: { Self → Result Self.Backoff AllocError → Self → Type 0 };
 
     /// A backoff whose waits begin from the first. It is refused for want of memory alone, and the maker
     /// stays as it was then.
     fn make_backoff(&mut self) -> Result<Self::Backoff, AllocError>
         requires { sound self.old }
-        ensures makes { makes self.old result self.new }
+        ensures made { made self.old result self.new }
         ensures fresh { IfOk result Self.Backoff.sound }
         ensures sound { sound self.new };
 }
@@ -75,15 +75,15 @@ pub struct ExponentialBackoff<R, C> {
 }
 
 impl<R, C> Model for ExponentialBackoffMaker<R, C> {
-    ghost Value = { Maker R C };
+    ghost Value = { ExponentialBackoffMakerView R C };
 
-    ghost view = { λ m. record { least = m.min; most = m.max; jitter = m.jitter; rng = m.rng; clock = m.clock } };
+    ghost view = { λ maker. record { least = maker.min; most = maker.max; jitter = maker.jitter; rng = maker.rng; clock = maker.clock } };
 }
 
 impl<R, C> Model for ExponentialBackoff<R, C> {
-    ghost Value = { Waiter R C };
+    ghost Value = { ExponentialBackoffView R C };
 
-    ghost view = { λ b. record { maker = b.maker; count = b.iterations } };
+    ghost view = { λ backoff. record { maker = backoff.maker; count = backoff.iterations } };
 }
 
 impl<R: Rng, C: Clock> ExponentialBackoffMaker<R, C> {
@@ -126,7 +126,7 @@ impl<C: Clock> ExponentialBackoffMaker<HasherRng, C> {
         ensures most { result.most ≡ u64.MAX }
         ensures numerator { result.jitter.numerator ≡ 99 }
         ensures divisor { result.jitter.divisor ≡ 100 }
-        ensures rng { Fresh result.rng }
+        ensures rng { New result.rng }
         ensures clock { result.clock ≡ clock }
     {
         ExponentialBackoffMaker {
@@ -142,7 +142,7 @@ impl<C: Clock> ExponentialBackoffMaker<HasherRng, C> {
 impl<R: Rng + Clone, C: Clock> MakeBackoff for ExponentialBackoffMaker<R, C> {
     type Backoff = ExponentialBackoff<R, C>;
 
-    ghost makes = { Makes R.is_clone C.Clock };
+    ghost made = { Made R.is_clone C.Clock };
 
     fn make_backoff(&mut self) -> Result<ExponentialBackoff<R, C>, AllocError> {
         Ok(ExponentialBackoff {
@@ -194,7 +194,7 @@ impl<R: Rng, C: Clock> Backoff for ExponentialBackoff<R, C> {
 }
 
 impl<R: Clone, C: Clock> Clone for ExponentialBackoffMaker<R, C> {
-    ghost is_clone = { Copies R.is_clone C.Clock };
+    ghost is_clone = { IsClone R.is_clone C.Clock };
 
     fn clone(&self) -> Result<Self, AllocError> {
         Ok(ExponentialBackoffMaker {
@@ -208,7 +208,7 @@ impl<R: Clone, C: Clock> Clone for ExponentialBackoffMaker<R, C> {
 }
 
 impl<R: Clone, C: Clock> Clone for ExponentialBackoff<R, C> {
-    ghost is_clone = { λ old new. Copies R.is_clone C.Clock old.maker new.maker × (new.count ≡ old.count) };
+    ghost is_clone = { λ old new. IsClone R.is_clone C.Clock old.maker new.maker × (new.count ≡ old.count) };
 
     fn clone(&self) -> Result<Self, AllocError> {
         Ok(ExponentialBackoff {

@@ -1,13 +1,13 @@
 //! How many requests may be made again: the Rust's `tower::retry::budget`.
 ghost use Rattle.std.specs.Prelude.{Bool};
 
+mod budget_core;
 mod laws;
-mod ledger;
 mod steps;
 pub mod tps_budget;
 
+pub use budget_core::BudgetCore;
 pub use laws::law;
-pub use ledger::BudgetCore;
 pub use steps::{Amount, BudgetReply, BudgetStep, Terms};
 pub use tps_budget::TpsBudget;
 

@@ -1,23 +1,25 @@
 //! The response of a `Retry`.
 ghost use Rattle.std.specs.Prelude.{◌≡◌, Some, None, Option, IfSome, IsSome};
-ghost use Rattle.futures.specs.Poll.{OnPending};
+ghost use Rattle.futures.specs.Poll.{IfReady, OnPending};
 ghost use Rattle.futures.specs.Task.{Covers, Keeps};
-ghost use Rattle.futures.specs.declared.task.Poll.TheVariants.{Pending};
+ghost use Rattle.futures.specs.declared.task.Poll.TheVariants.{Pending, Ready};
 ghost use Rattle.tower_base.specs.Gives.{MayGive};
 ghost use Rattle.tower_base.specs.Passes.{Passes};
-ghost use Rattle.tower_retry.specs.Retry.{AfterResult, Again, Needs, NeedsAt, Pass, Sound, Stepped, Unanswered, result_of};
-ghost use Rattle.tower_retry.specs.declared.retry.state.Attempts.{Attempts};
+ghost use Rattle.tower_base.specs.Answers.{answered};
+ghost use Rattle.tower_retry.specs.Retry.{AfterResult, Again, Needs, NeedsAt, Pass, ResponseFutureView, Sound, Stepped, Unanswered};
+ghost use Rattle.tower_retry.specs.declared.retry.error.Error.TheVariants.{Inner};
 
 use crate::retry::state::{Attempts, State};
 use crate::retry::{Error, Policy};
 use futures::future::Future;
 use futures::task::{Context, Poll};
 use std::marker::Model;
+use tower_base::passes::PASSES;
 use tower_base::service::{Service, Steps};
 
 /// A response, after as many calls as the policy asks for.
 ///
-/// An answer to the policy, the end of a wait and a call are one pass each. A poll makes 64 passes at most.
+/// An answer to the policy, the end of a wait and a call are one pass each. A poll makes `PASSES` of them at most.
 #[derive(Drop)]
 pub struct ResponseFuture<P, S, Request, F, W> {
     // None where there was no memory for a clone
@@ -25,9 +27,9 @@ pub struct ResponseFuture<P, S, Request, F, W> {
 }
 
 impl<P, S, Request, F, W> Model for ResponseFuture<P, S, Request, F, W> {
-    ghost Value = { Option (Attempts P S Request F W) };
+    ghost Value = { ResponseFutureView P S Request F W };
 
-    ghost view = { λ f. f.attempts };
+    ghost view = { λ future. future.attempts };
 }
 
 impl<P, S, Request, F, W> ResponseFuture<P, S, Request, F, W> {
@@ -54,14 +56,23 @@ where
 {
     type Output = Result<S::Response, Error<S::Error>>;
 
-    ghost can_poll = { λ f. IfSome f (Sound P.sound S.sound S.Future.can_poll P.Future.can_poll) };
+    ghost can_poll = { λ future. IfSome future (Sound P.sound S.sound S.Future.can_poll P.Future.can_poll) };
 
     ghost gives = { MayGive (Stepped S.Service S.Future.stepped P.Policy P.Future.stepped) };
 
     ghost needs = { Needs S.Future.needs P.Future.needs };
 
-    #[tactic(auto, using(tower_base::specs::Gives::gives_value, tower_base::specs::Gives::gives_same))]
-    fn poll(&mut self, cx: &mut Context<'_>) -> Poll<Self::Output> {
+    #[tactic(auto, using(tower_base::specs::GivesLemmas::gives_value, tower_base::specs::GivesLemmas::gives_same))]
+    fn poll(&mut self, cx: &mut Context<'_>) -> Poll<Self::Output>
+        requires { IfSome self.old (Sound P.sound S.sound S.Future.can_poll P.Future.can_poll) }
+        ensures step { Stepped S.Service S.Future.stepped P.Policy P.Future.stepped self.old result self.new }
+        ensures value { IfReady result (MayGive (Stepped S.Service S.Future.stepped P.Policy P.Future.stepped) self.old) }
+        ensures again { OnPending result (IfSome self.new (Sound P.sound S.sound S.Future.can_poll P.Future.can_poll)) }
+        ensures same { OnPending result ((output : _) → MayGive (Stepped S.Service S.Future.stepped P.Policy P.Future.stepped) self.new output
+            → MayGive (Stepped S.Service S.Future.stepped P.Policy P.Future.stepped) self.old output) }
+        ensures registered { OnPending result (Covers cx.new (Needs S.Future.needs P.Future.needs self.new)) }
+        ensures kept { Keeps cx.old cx.new }
+    {
         self.step(cx)
     }
 }
@@ -91,12 +102,12 @@ where
     S: Service<Request>,
     Request: Drop,
     requires { Sound P.sound S.sound S.Future.can_poll P.Future.can_poll attempts.old }
-    ensures passes { Passes (Pass S.Service S.Future.stepped P.Policy P.Future.stepped) 64 Pending attempts.old result attempts.new }
+    ensures passes { Passes (Pass S.Service S.Future.stepped P.Policy P.Future.stepped) Pending attempts.old result attempts.new }
     ensures again { OnPending result (Sound P.sound S.sound S.Future.can_poll P.Future.can_poll attempts.new) }
     ensures registered { OnPending result (Covers cx.new (NeedsAt S.Future.needs P.Future.needs attempts.new.state)) }
     ensures kept { Keeps cx.old cx.new }
 {
-    for _turn in 0..64u8 {
+    for _pass in 0..PASSES {
         if let Some(answer) = pass(attempts, cx) {
             return answer;
         }
@@ -119,7 +130,7 @@ where
     ensures kept { Keeps cx.old cx.new }
 {
     match &mut attempts.state {
-        State::Called(response) => match response.step(cx) {
+        State::InFlight(response) => match response.step(cx) {
             Poll::Pending => Some(Poll::Pending),
             Poll::Ready(outcome) => decide(attempts, outcome),
         },
@@ -183,11 +194,11 @@ where
         unreachable!();
     };
     attempts.request = attempts.policy.clone_request(&request);
-    attempts.state = State::Called(attempts.service.call(request));
+    attempts.state = State::InFlight(attempts.service.call(request));
 }
 
 fn outer<A, E>(inner: Result<A, E>) -> Result<A, Error<E>>
-    ensures { result ≡ result_of inner }
+    ensures { Ready result ≡ answered Inner (Ready inner) }
 {
     match inner {
         Ok(value) => Ok(value),

@@ -15,7 +15,7 @@ pub struct RetryLayer<P> {
 impl<P> Model for RetryLayer<P> {
     ghost Value = { P };
 
-    ghost view = { λ l. l.policy };
+    ghost view = { λ layer. layer.policy };
 }
 
 impl<P> RetryLayer<P> {

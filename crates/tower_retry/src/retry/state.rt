@@ -14,7 +14,7 @@ pub(crate) struct Attempts<P, S, Request, F, W> {
 #[derive(Drop)]
 pub(crate) enum State<F, W> {
     /// The inner future.
-    Called(F),
+    InFlight(F),
     /// The wait that the policy asked for.
     Waiting(W),
     /// The readiness of the service.

@@ -40,11 +40,11 @@ where
 
     ghost ready = { λ v. M.ready v.make.now };
 
-    ghost polled = { λ v r w. M.polled v.make.now r w.make.now × (w.make.ghost_name ≡ v.make.ghost_name) };
+    ghost polled = { λ old answer new. M.polled old.make.now answer new.make.now × (new.make.ghost_name ≡ old.make.ghost_name) };
 
-    ghost called = { λ v q t w. M.ready v.make.now × M.called v.make.now q t w.make.now × (w.make.ghost_name ≡ v.make.ghost_name) };
+    ghost called = { λ old target future new. M.ready old.make.now × M.called old.make.now target future new.make.now × (new.make.ghost_name ≡ old.make.ghost_name) };
 
-    ghost readies = { λ v w p. M.readies v.make.now w.make.now p.0 };
+    ghost readies = { λ old new polled. M.readies old.make.now new.make.now polled.0 };
 
     fn poll_ready(&mut self, cx: &mut Context<'_>) -> Poll<Result<(), M::Error>> {
         self.make.poll_ready(cx)

@@ -62,9 +62,9 @@ where
 
     ghost polled = { C.polled };
 
-    ghost called = { λ m q t n. C.ready m × C.called m q t n };
+    ghost called = { λ old target future new. C.ready old × C.called old target future new };
 
-    ghost readies = { λ v w p. C.readies v w p };
+    ghost readies = { C.readies };
 
     fn poll_ready(&mut self, cx: &mut Context<'_>) -> Poll<Result<(), C::Error>> {
         Service::poll_ready(self, cx)

@@ -91,9 +91,9 @@ where
 
     ghost polled = { M.polled };
 
-    ghost called = { λ m q t n. M.ready m × M.called m q t n };
+    ghost called = { λ old target future new. M.ready old × M.called old target future new };
 
-    ghost readies = { λ v w p. M.readies v w p };
+    ghost readies = { M.readies };
 
     fn poll_ready(&mut self, cx: &mut Context<'_>) -> Poll<Result<(), M::Error>> {
         Service::poll_ready(self, cx)

@@ -1,10 +1,12 @@
-//! A service that a future gives.
+//! A service that a future gives: the Rust's `util/future_service.rs`, a name that the kit refuses beside the function's.
 ghost use Rattle.std.specs.Prelude.{◌≡◌, Ok, ⊤};
-ghost use Rattle.futures.specs.Poll.{OnPending};
-ghost use Rattle.futures.specs.Task.{IsArmed, Keeps};
+ghost use Rattle.futures.specs.Poll.{IfReady, OnPending};
+ghost use Rattle.futures.specs.Task.{Covers, IsArmed, Keeps};
 ghost use Rattle.tower_base.specs.Gives.{MayGive};
-ghost use Rattle.tower_maps.specs.Answers.{Readies};
-ghost use Rattle.tower_util.specs.FutureService.{Polled, Called, Answers, IsThere, Marks, Polled-ready};
+ghost use Rattle.tower_base.specs.Answers.{answered};
+ghost use Rattle.tower_util.specs.FutureService.{Polled, Called, Stepped, IsThere};
+ghost use Rattle.tower_util.specs.FutureServiceReady.{polled_ready};
+ghost use Rattle.tower_util.specs.declared.util.error.future_service.Error.TheVariants.{Inner};
 ghost use Rattle.tower_util.specs.declared.util.awaited.State.{State as Stage};
 ghost use Rattle.tower_util.specs.declared.util.awaited.State.TheVariants.{Coming, There, Lost};
 
@@ -68,8 +70,8 @@ where
 
     // The future may be polled, and a service that it may give is sound.
     ghost sound = { elim [
-      | Coming f ↦ F.can_poll f × ((s : S) → MayGive F.stepped f (Ok s) → S.sound s)
-      | There s ↦ S.sound s
+      | Coming future ↦ F.can_poll future × ((service : S) → MayGive F.stepped future (Ok service) → S.sound service)
+      | There service ↦ S.sound service
       | Lost ↦ ⊤
     ] };
 
@@ -77,11 +79,11 @@ where
 
     ghost polled = { Polled F.stepped S.polled };
 
-    ghost called = { λ m q t n. Called S.ready S.called m q t n };
+    ghost called = { Called S.ready S.called };
 
-    ghost readies = { λ v w p. Polled-ready F.stepped S.polled S.ready S.readies v w p };
+    ghost readies = { polled_ready F.stepped S.polled S.ready S.readies };
 
-    #[tactic(auto, using(tower_base::specs::Gives::gives_value, tower_base::specs::Gives::gives_same))]
+    #[tactic(auto, using(tower_base::specs::GivesLemmas::gives_value, tower_base::specs::GivesLemmas::gives_same))]
     fn poll_ready(&mut self, cx: &mut Context<'_>) -> Poll<Result<(), Error<S::Error>>> {
         match &mut self.state {
             State::Coming(future) => match future.step(cx) {
@@ -118,7 +120,7 @@ fn serve<R, S: Service<R>>(
 ) -> Poll<Result<(), Error<S::Error>>>
     requires { S.sound service.old }
     ensures sound { S.sound service.new }
-    ensures served { (r : _) × S.polled service.old r service.new × Readies Marks r result }
+    ensures served { (inner : _) × S.polled service.old inner service.new × (result ≡ answered Inner inner) }
     ensures armed { OnPending result (IsArmed cx.new) }
     ensures kept { Keeps cx.old cx.new }
 {
@@ -145,18 +147,26 @@ impl<N: Steps<Output = Result<A, E>>, A, E> Future for FutureServiceFuture<N> {
 
     ghost can_poll = { N.can_poll };
 
-    ghost gives = { MayGive (Answers N.stepped) };
+    ghost gives = { MayGive (Stepped N.stepped) };
 
     ghost needs = { N.needs };
 
-    #[tactic(auto, using(tower_base::specs::Gives::gives_value, tower_base::specs::Gives::gives_same))]
-    fn poll(&mut self, cx: &mut Context<'_>) -> Poll<Result<A, Error<E>>> {
+    #[tactic(auto, using(tower_base::specs::GivesLemmas::gives_value, tower_base::specs::GivesLemmas::gives_same))]
+    fn poll(&mut self, cx: &mut Context<'_>) -> Poll<Result<A, Error<E>>>
+        requires { ⟦<FutureServiceFuture<N> as Future>⟧.can_poll self.old }
+        ensures step { Stepped N.stepped self.old result self.new }
+        ensures value { IfReady result (⟦<FutureServiceFuture<N> as Future>⟧.gives self.old) }
+        ensures again { OnPending result (⟦<FutureServiceFuture<N> as Future>⟧.can_poll self.new) }
+        ensures same { OnPending result ((x : _) → ⟦<FutureServiceFuture<N> as Future>⟧.gives self.new x → ⟦<FutureServiceFuture<N> as Future>⟧.gives self.old x) }
+        ensures registered { OnPending result (Covers cx.new (⟦<FutureServiceFuture<N> as Future>⟧.needs self.new)) }
+        ensures kept { Keeps cx.old cx.new }
+    {
         self.step(cx)
     }
 }
 
 impl<N: Steps<Output = Result<A, E>>, A, E> Steps for FutureServiceFuture<N> {
-    ghost stepped = { Answers N.stepped };
+    ghost stepped = { Stepped N.stepped };
 
     fn step(&mut self, cx: &mut Context<'_>) -> Poll<Result<A, Error<E>>> {
         match ready!(self.inner.step(cx)) {

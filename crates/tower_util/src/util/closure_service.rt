@@ -1,7 +1,7 @@
-//! A service by a closure.
+//! A service by a closure: the Rust's `util/service_fn.rs`, a name that the kit refuses beside the function's.
 ghost use Rattle.std.specs.Prelude.{◌≡◌, Ok, Result};
 ghost use Rattle.futures.specs.declared.task.Poll.TheVariants.{Ready};
-ghost use Rattle.tower_maps.specs.Parts.{Kept};
+ghost use Rattle.tower_util.specs.ServiceFn.{ServiceFnView};
 
 use futures::task::{Context, Poll};
 use std::marker::Model;
@@ -9,12 +9,12 @@ use tower_base::service::{Service, Steps};
 
 /// A service that is always ready, and calls a closure: the Rust's `tower::util::ServiceFn`.
 #[derive(Clone, Copy, Drop)]
-pub struct ServiceFn<F> {
-    f: F,
+pub struct ServiceFn<T> {
+    f: T,
 }
 
-impl<F> Model for ServiceFn<F> {
-    ghost Value = { Kept F };
+impl<T> Model for ServiceFn<T> {
+    ghost Value = { ServiceFnView T };
 
     ghost view = { λ s. record { f = s.f } };
 
@@ -22,34 +22,34 @@ impl<F> Model for ServiceFn<F> {
 }
 
 /// The Rust's `tower::util::service_fn`.
-pub fn service_fn<F>(f: F) -> ServiceFn<F>
+pub fn service_fn<T>(f: T) -> ServiceFn<T>
     ensures { result ≡ record { f = f } }
 {
     ServiceFn { f }
 }
 
-impl<F, Request, R, T, E> Service<Request> for ServiceFn<F>
+impl<T, F, Request, R, E> Service<Request> for ServiceFn<T>
 where
-    F: FnMut(Request) -> R + Drop,
-    R: Steps<Output = Result<T, E>>,
-    T: Drop,
+    T: FnMut(Request) -> F + Drop,
+    F: Steps<Output = Result<R, E>>,
+    R: Drop,
     E: Drop,
 {
-    type Response = T;
+    type Response = R;
 
     type Error = E;
 
-    type Future = R;
+    type Future = F;
 
     // The closure may be called on and on, and what it gives may be polled.
-    ghost sound = { λ v. F.IsAlwaysCallable v.f
-        × ((p : F) (q : Request) (r : R) (n : F) → F.step p q r n → R.can_poll r) };
+    ghost sound = { λ s. T.IsAlwaysCallable s.f
+        × ((old : T) (request : Request) (future : F) (new : T) → T.step old request future new → F.can_poll future) };
 
     ghost ready = { λ _. Unit {0} };
 
     ghost polled = { λ old answer new. (answer ≡ Ready (Ok tt)) × (new ≡ old) };
 
-    ghost called = { λ old request future new. F.step old.f request future new.f };
+    ghost called = { λ old request future new. T.step old.f request future new.f };
 
     ghost readies = { λ _ _ _. tt };
 
@@ -57,7 +57,7 @@ where
         Poll::Ready(Ok(()))
     }
 
-    fn call(&mut self, request: Request) -> R {
+    fn call(&mut self, request: Request) -> F {
         (self.f)(request)
     }
 }

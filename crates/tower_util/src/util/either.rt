@@ -1,7 +1,10 @@
 //! One of two services, layers or futures.
 ghost use Rattle.std.specs.Prelude.{◌≡◌};
 ghost use Rattle.std.proofs.Common.{rules};
+ghost use Rattle.futures.specs.Poll.{IfReady, OnPending};
+ghost use Rattle.futures.specs.Task.{Covers, Keeps};
 ghost use Rattle.tower_base.specs.Gives.{MayGive};
+ghost use Rattle.tower_util.specs.Either.{Stepped};
 ghost use Rattle.tower_util.specs.declared.util.either.Either.TheVariants.{Left, Right};
 ghost use Rattle.tower_util.specs.declared.util.either.EitherResponseFuture.TheVariants.{First, Second};
 
@@ -34,20 +37,20 @@ where
     ghost ready = { elim [ Left a ↦ A.ready a | Right b ↦ B.ready b ] };
 
     // a poll of the side that is there
-    ghost polled = { λ m r n. elim m [
-      | Left a ↦ (c : A) × A.polled a r c × (n ≡ Left c)
-      | Right b ↦ (d : B) × B.polled b r d × (n ≡ Right d)
+    ghost polled = { λ old answer new. elim old [
+      | Left a ↦ (left : A) × A.polled a answer left × (new ≡ Left left)
+      | Right b ↦ (left : B) × B.polled b answer left × (new ≡ Right left)
     ] };
 
     // a call of the side that is there
-    ghost called = { λ m q t n. elim m [
-      | Left a ↦ (c : A) × (f : _) × A.ready a × A.called a q f c × (t ≡ First f) × (n ≡ Left c)
-      | Right b ↦ (d : B) × (f : _) × B.ready b × B.called b q f d × (t ≡ Second f) × (n ≡ Right d)
+    ghost called = { λ old request future new. elim old [
+      | Left a ↦ (left : A) × (inner : _) × A.ready a × A.called a request inner left × (future ≡ First inner) × (new ≡ Left left)
+      | Right b ↦ (left : B) × (inner : _) × B.ready b × B.called b request inner left × (future ≡ Second inner) × (new ≡ Right left)
     ] };
 
     ghost readies = { elim [
-      | Left a ↦ λ w p. Prim.search rules
-      | Right b ↦ λ w p. Prim.search rules
+      | Left a ↦ λ new polled. Prim.search rules
+      | Right b ↦ λ new polled. Prim.search rules
     ] };
 
     fn poll_ready(&mut self, cx: &mut Context<'_>) -> Poll<Result<(), A::Error>> {
@@ -68,12 +71,12 @@ where
 impl<S, A: Layer<S>, B: Layer<S>> Layer<S> for Either<A, B> {
     type Service = Either<A::Service, B::Service>;
 
-    ghost can_layer = { λ l s. elim l [ Left a ↦ A.can_layer a s | Right b ↦ B.can_layer b s ] };
+    ghost can_layer = { λ layer service. elim layer [ Left a ↦ A.can_layer a service | Right b ↦ B.can_layer b service ] };
 
     // what the side that is there makes
-    ghost made = { λ l s m. elim l [
-      | Left a ↦ (t : A.Service) × A.made a s t × (m ≡ Left t)
-      | Right b ↦ (t : B.Service) × B.made b s t × (m ≡ Right t)
+    ghost made = { λ layer service made. elim layer [
+      | Left a ↦ (inner : A.Service) × A.made a service inner × (made ≡ Left inner)
+      | Right b ↦ (inner : B.Service) × B.made b service inner × (made ≡ Right inner)
     ] };
 
     fn layer(&self, service: S) -> Result<Either<A::Service, B::Service>, AllocError> {
@@ -106,24 +109,26 @@ impl<A: Steps, B: Steps<Output = A::Output>> Future for EitherResponseFuture<A, 
 
     ghost can_poll = { elim [ First a ↦ A.can_poll a | Second b ↦ B.can_poll b ] };
 
-    ghost gives = { MayGive (λ t r u. elim t [
-      | First a ↦ (c : A) × A.stepped a r c × (u ≡ First c)
-      | Second b ↦ (d : B) × B.stepped b r d × (u ≡ Second d)
-    ]) };
+    ghost gives = { MayGive (Stepped A.stepped B.stepped) };
 
     ghost needs = { elim [ First a ↦ A.needs a | Second b ↦ B.needs b ] };
 
-    #[tactic(auto, using(tower_base::specs::Gives::gives_value, tower_base::specs::Gives::gives_same))]
-    fn poll(&mut self, cx: &mut Context<'_>) -> Poll<A::Output> {
+    #[tactic(auto, using(tower_base::specs::GivesLemmas::gives_value, tower_base::specs::GivesLemmas::gives_same))]
+    fn poll(&mut self, cx: &mut Context<'_>) -> Poll<A::Output>
+        requires { ⟦<EitherResponseFuture<A, B> as Future>⟧.can_poll self.old }
+        ensures step { Stepped A.stepped B.stepped self.old result self.new }
+        ensures value { IfReady result (⟦<EitherResponseFuture<A, B> as Future>⟧.gives self.old) }
+        ensures again { OnPending result (⟦<EitherResponseFuture<A, B> as Future>⟧.can_poll self.new) }
+        ensures same { OnPending result ((x : _) → ⟦<EitherResponseFuture<A, B> as Future>⟧.gives self.new x → ⟦<EitherResponseFuture<A, B> as Future>⟧.gives self.old x) }
+        ensures registered { OnPending result (Covers cx.new (⟦<EitherResponseFuture<A, B> as Future>⟧.needs self.new)) }
+        ensures kept { Keeps cx.old cx.new }
+    {
         self.step(cx)
     }
 }
 
 impl<A: Steps, B: Steps<Output = A::Output>> Steps for EitherResponseFuture<A, B> {
-    ghost stepped = { λ t r u. elim t [
-      | First a ↦ (c : A) × A.stepped a r c × (u ≡ First c)
-      | Second b ↦ (d : B) × B.stepped b r d × (u ≡ Second d)
-    ] };
+    ghost stepped = { Stepped A.stepped B.stepped };
 
     fn step(&mut self, cx: &mut Context<'_>) -> Poll<A::Output> {
         match self {

@@ -1,4 +1,5 @@
 //! The errors of these services: the Rust's `tower::util::error`.
 
 pub mod future_service;
-pub mod optional;
+
+pub use super::optional::error as optional;

@@ -1,7 +1,10 @@
 //! The futures of these services: the Rust's `tower::util::future`.
 
-pub mod optional;
-
-pub use super::awaited::FutureServiceFuture;
-pub use super::either::EitherResponseFuture;
-pub use tower_maps::{AndThenFuture, MapErrFuture, MapResponseFuture, MapResultFuture, ThenFuture};
+pub use crate::util::and_then::AndThenFuture;
+pub use crate::util::awaited::FutureServiceFuture;
+pub use crate::util::either::EitherResponseFuture;
+pub use crate::util::map_err::MapErrFuture;
+pub use crate::util::map_response::MapResponseFuture;
+pub use crate::util::map_result::MapResultFuture;
+pub use crate::util::optional::future as optional;
+pub use crate::util::then::ThenFuture;

@@ -1,8 +1,10 @@
 //! One call of a service, from its readiness to its response.
 ghost use Rattle.std.specs.Prelude.{◌≡◌};
+ghost use Rattle.futures.specs.Poll.{IfReady, OnPending};
+ghost use Rattle.futures.specs.Task.{Covers, Keeps};
 ghost use Rattle.tower_base.specs.Gives.{MayGive};
-ghost use Rattle.tower_util.specs.Oneshot.{Shoots};
-ghost use Rattle.tower_util.specs.declared.util.oneshot.State.TheVariants.{NotReady, Called, Done};
+ghost use Rattle.tower_util.specs.Oneshot.{Stepped};
+ghost use Rattle.tower_util.specs.declared.util.oneshot.State.TheVariants.{NotReady, InFlight, Done};
 
 use futures::future::Future;
 use futures::task::{Context, Poll};
@@ -20,7 +22,7 @@ pub struct Oneshot<S: Service<Request>, Request> {
 #[derive(Drop)]
 pub enum State<S, Request, F> {
     NotReady(S, Request),
-    Called(F),
+    InFlight(F),
     Done,
 }
 
@@ -38,20 +40,28 @@ impl<S: Service<Request>, Request> Oneshot<S, Request> {
 impl<S: Service<Request>, Request: Drop> Future for Oneshot<S, Request> {
     type Output = Result<S::Response, S::Error>;
 
-    ghost can_poll = { λ o. elim o.state [ NotReady s q ↦ S.sound s | Called f ↦ S.Future.can_poll f | Done ↦ ⊥ ] };
+    ghost can_poll = { λ o. elim o.state [ NotReady service request ↦ S.sound service | InFlight future ↦ S.Future.can_poll future | Done ↦ ⊥ ] };
 
-    ghost gives = { MayGive (λ old answer new. Shoots S.Service S.Future.stepped old.state answer new.state) };
+    ghost gives = { MayGive (λ old answer new. Stepped S.Service S.Future.stepped old.state answer new.state) };
 
-    ghost needs = { λ o. elim o.state [ NotReady s q ↦ λ _. ⊥ | Called f ↦ S.Future.needs f | Done ↦ λ _. ⊥ ] };
+    ghost needs = { λ o. elim o.state [ NotReady service request ↦ λ _. ⊥ | InFlight future ↦ S.Future.needs future | Done ↦ λ _. ⊥ ] };
 
-    #[tactic(auto, using(tower_base::specs::Gives::gives_value, tower_base::specs::Gives::gives_same))]
-    fn poll(&mut self, cx: &mut Context<'_>) -> Poll<Self::Output> {
+    #[tactic(auto, using(tower_base::specs::GivesLemmas::gives_value, tower_base::specs::GivesLemmas::gives_same))]
+    fn poll(&mut self, cx: &mut Context<'_>) -> Poll<Self::Output>
+        requires { ⟦<Oneshot<S, Request> as Future>⟧.can_poll self.old }
+        ensures step { Stepped S.Service S.Future.stepped self.old.state result self.new.state }
+        ensures value { IfReady result (⟦<Oneshot<S, Request> as Future>⟧.gives self.old) }
+        ensures again { OnPending result (⟦<Oneshot<S, Request> as Future>⟧.can_poll self.new) }
+        ensures same { OnPending result ((x : _) → ⟦<Oneshot<S, Request> as Future>⟧.gives self.new x → ⟦<Oneshot<S, Request> as Future>⟧.gives self.old x) }
+        ensures registered { OnPending result (Covers cx.new (⟦<Oneshot<S, Request> as Future>⟧.needs self.new)) }
+        ensures kept { Keeps cx.old cx.new }
+    {
         self.step(cx)
     }
 }
 
 impl<S: Service<Request>, Request: Drop> Steps for Oneshot<S, Request> {
-    ghost stepped = { λ old answer new. Shoots S.Service S.Future.stepped old.state answer new.state };
+    ghost stepped = { λ old answer new. Stepped S.Service S.Future.stepped old.state answer new.state };
 
     fn step(&mut self, cx: &mut Context<'_>) -> Poll<Self::Output> {
         match mem::replace(&mut self.state, State::Done) {
@@ -66,16 +76,16 @@ impl<S: Service<Request>, Request: Drop> Steps for Oneshot<S, Request> {
                     match response.step(cx) {
                         Poll::Ready(answer) => Poll::Ready(answer),
                         Poll::Pending => {
-                            self.state = State::Called(response);
+                            self.state = State::InFlight(response);
                             Poll::Pending
                         }
                     }
                 }
             },
-            State::Called(mut response) => match response.step(cx) {
+            State::InFlight(mut response) => match response.step(cx) {
                 Poll::Ready(answer) => Poll::Ready(answer),
                 Poll::Pending => {
-                    self.state = State::Called(response);
+                    self.state = State::InFlight(response);
                     Poll::Pending
                 }
             },

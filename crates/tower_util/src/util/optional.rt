@@ -1,9 +1,13 @@
 //! A service that may be absent.
 ghost use Rattle.std.specs.Prelude.{◌≡◌, Option, IfSome};
-ghost use Rattle.tower_util.specs.Optional.{Polled, Called, Polled-ready};
+ghost use Rattle.tower_util.specs.Optional.{Polled, Called};
+ghost use Rattle.tower_util.specs.OptionalReady.{polled_ready};
 
-use crate::util::error::optional::Error;
-use crate::util::future::optional::ResponseFuture;
+pub mod error;
+pub mod future;
+
+use crate::util::optional::error::Error;
+use crate::util::optional::future::ResponseFuture;
 use futures::ready;
 use futures::task::{Context, Poll};
 use std::marker::Model;
@@ -46,7 +50,7 @@ impl<T: Service<Request>, Request: Drop> Service<Request> for Optional<T> {
 
     ghost called = { Called T.ready T.called };
 
-    ghost readies = { λ v w p. Polled-ready T.polled T.ready T.readies v w p };
+    ghost readies = { polled_ready T.polled T.ready T.readies };
 
     fn poll_ready(&mut self, cx: &mut Context<'_>) -> Poll<Result<(), Error<T::Error>>> {
         match &mut self.inner {

@@ -1,7 +1,9 @@
 //! Waiting for a service to be ready.
 ghost use Rattle.std.specs.Prelude.{◌≡◌, Option, Some, IsSomeAnd, Ok, Err};
+ghost use Rattle.futures.specs.Poll.{IfReady, OnPending};
+ghost use Rattle.futures.specs.Task.{Covers, Keeps};
 ghost use Rattle.tower_base.specs.Gives.{MayGive};
-ghost use Rattle.tower_util.specs.Ready.{Asks, Waits};
+ghost use Rattle.tower_util.specs.Ready.{ReadyStepped, ReadyOneshotStepped, GivesBack, HandsBack};
 
 use futures::future::Future;
 use futures::task::{Context, Poll};
@@ -38,16 +40,24 @@ impl<T: Service<Request>, Request: Drop> Future for ReadyOneshot<T, Request> {
 
     ghost can_poll = { λ r. IsSomeAnd r T.sound };
 
-    ghost gives = { MayGive (Waits T.sound T.ready T.polled) };
+    // The service that it gives is sound and ready.
+    ghost gives = { λ r out. MayGive (ReadyOneshotStepped T.sound T.ready T.polled) r out × GivesBack T.sound T.ready out };
 
-    #[tactic(auto, using(tower_base::specs::Gives::gives_value, tower_base::specs::Gives::gives_same))]
-    fn poll(&mut self, cx: &mut Context<'_>) -> Poll<Result<T, T::Error>> {
+    fn poll(&mut self, cx: &mut Context<'_>) -> Poll<Result<T, T::Error>>
+        requires { ⟦<ReadyOneshot<T, Request> as Future>⟧.can_poll self.old }
+        ensures step { ReadyOneshotStepped T.sound T.ready T.polled self.old result self.new }
+        ensures value { IfReady result (⟦<ReadyOneshot<T, Request> as Future>⟧.gives self.old) }
+        ensures again { OnPending result (⟦<ReadyOneshot<T, Request> as Future>⟧.can_poll self.new) }
+        ensures same { OnPending result ((x : _) → ⟦<ReadyOneshot<T, Request> as Future>⟧.gives self.new x → ⟦<ReadyOneshot<T, Request> as Future>⟧.gives self.old x) }
+        ensures registered { OnPending result (Covers cx.new (⟦<ReadyOneshot<T, Request> as Future>⟧.needs self.new)) }
+        ensures kept { Keeps cx.old cx.new }
+    {
         self.step(cx)
     }
 }
 
 impl<T: Service<Request>, Request: Drop> Steps for ReadyOneshot<T, Request> {
-    ghost stepped = { Waits T.sound T.ready T.polled };
+    ghost stepped = { ReadyOneshotStepped T.sound T.ready T.polled };
 
     fn step(&mut self, cx: &mut Context<'_>) -> Poll<Result<T, T::Error>> {
         let Some(mut service) = self.inner.take() else {
@@ -67,43 +77,65 @@ impl<T: Service<Request>, Request: Drop> Steps for ReadyOneshot<T, Request> {
     }
 }
 
-/// Waits until a borrowed service is ready: the Rust's `tower::util::Ready`, which also gives
-/// the borrowed service back.
+/// Waits until a borrowed service is ready, and gives the borrow back: the Rust's
+/// `tower::util::Ready`. After an error nothing is known of the service by this way.
 #[derive(Drop)]
 pub struct Ready<'a, T, Request> {
-    service: &'a mut T,
+    service: Option<&'a mut T>,
     request: PhantomData<Request>,
 }
 
 impl<'a, T: Service<Request>, Request> Ready<'a, T, Request> {
+    /// Nothing is polled here.
     pub fn new(service: &'a mut T) -> Ready<'a, T, Request>
-        ensures value { result.service.now ≡ service.old }
-        ensures same_reference { result.service.ghost_name ≡ service.entry.ghost_name }
+        ensures { IsSomeAnd result.service (λ lent. (lent.now ≡ service.old) × (lent.ghost_name ≡ service.entry.ghost_name)) }
     {
         Ready {
-            service,
+            service: Some(service),
             request: PhantomData,
         }
     }
 }
 
 impl<'a, T: Service<Request>, Request: Drop> Future for Ready<'a, T, Request> {
-    type Output = Result<(), T::Error>;
+    type Output = Result<&'a mut T, T::Error>;
 
-    ghost can_poll = { λ r. T.sound r.service.now };
+    ghost can_poll = { λ r. IsSomeAnd r.service (λ lent. T.sound lent.now) };
 
-    ghost gives = { MayGive (λ old answer new. Asks T.sound T.polled old.service answer new.service) };
+    // The borrow that it gives is the same, of a service that is sound and ready.
+    ghost gives = { λ r out. MayGive (λ old answer new. ReadyStepped T.sound T.ready T.polled old.service answer new.service) r out
+        × HandsBack T.sound T.ready r.service out };
 
-    #[tactic(auto, using(tower_base::specs::Gives::gives_value, tower_base::specs::Gives::gives_same))]
-    fn poll(&mut self, cx: &mut Context<'_>) -> Poll<Result<(), T::Error>> {
+    fn poll(&mut self, cx: &mut Context<'_>) -> Poll<Result<&'a mut T, T::Error>>
+        requires { ⟦<Ready<'a, T, Request> as Future>⟧.can_poll self.old }
+        ensures step { ReadyStepped T.sound T.ready T.polled self.old.service result self.new.service }
+        ensures value { IfReady result (⟦<Ready<'a, T, Request> as Future>⟧.gives self.old) }
+        ensures again { OnPending result (⟦<Ready<'a, T, Request> as Future>⟧.can_poll self.new) }
+        ensures same { OnPending result ((x : _) → ⟦<Ready<'a, T, Request> as Future>⟧.gives self.new x → ⟦<Ready<'a, T, Request> as Future>⟧.gives self.old x) }
+        ensures registered { OnPending result (Covers cx.new (⟦<Ready<'a, T, Request> as Future>⟧.needs self.new)) }
+        ensures kept { Keeps cx.old cx.new }
+    {
         self.step(cx)
     }
 }
 
 impl<'a, T: Service<Request>, Request: Drop> Steps for Ready<'a, T, Request> {
-    ghost stepped = { λ old answer new. Asks T.sound T.polled old.service answer new.service };
+    ghost stepped = { λ old answer new. ReadyStepped T.sound T.ready T.polled old.service answer new.service };
 
-    fn step(&mut self, cx: &mut Context<'_>) -> Poll<Result<(), T::Error>> {
-        self.service.poll_ready(cx)
+    fn step(&mut self, cx: &mut Context<'_>) -> Poll<Result<&'a mut T, T::Error>> {
+        let Some(lent) = self.service.take() else {
+            unreachable!()
+        };
+        match lent.poll_ready(cx) {
+            Poll::Ready(Ok(())) => Poll::Ready(Ok(lent)),
+            Poll::Ready(Err(error)) => {
+                self.service = Some(lent);
+                Poll::Ready(Err(error))
+            }
+            Poll::Pending => {
+                self.service = Some(lent);
+                Poll::Pending
+            }
+        }
     }
 }

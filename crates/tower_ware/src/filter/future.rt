@@ -1,11 +1,13 @@
 //! The futures of the filters.
 ghost use Rattle.std.specs.Prelude.{◌≡◌, ⊤, Ok, Err};
+ghost use Rattle.futures.specs.Poll.{IfReady, OnPending};
+ghost use Rattle.futures.specs.Task.{Covers, Keeps};
 ghost use Rattle.tower_base.specs.Gives.{MayGive};
-ghost use Rattle.tower_ware.specs.Filter.{Stepped, AsyncStepped};
+ghost use Rattle.tower_ware.specs.Filter.{AsyncResponseFutureCanPoll, AsyncResponseFutureStepped, ResponseFutureCanPoll, ResponseFutureStepped, async_response_future_needs, response_future_needs};
 ghost use Rattle.tower_ware.specs.declared.filter.state.State.{State};
 ghost use Rattle.tower_ware.specs.declared.filter.state.State.TheVariants.{Response, Refusal, Answered};
 ghost use Rattle.tower_ware.specs.declared.filter.state.AsyncState.{AsyncState};
-ghost use Rattle.tower_ware.specs.declared.filter.state.AsyncState.TheVariants.{Check, Response as Called, NoClone};
+ghost use Rattle.tower_ware.specs.declared.filter.state.AsyncState.TheVariants.{Check, InFlight, NoClone};
 
 use crate::filter::error::Error;
 use crate::filter::state::{AsyncState, State};
@@ -39,20 +41,28 @@ impl<F, P> ResponseFuture<F, P> {
 impl<A, E, P: Drop, F: Steps<Output = Result<A, E>>> Future for ResponseFuture<F, P> {
     type Output = Result<A, Error<E, P>>;
 
-    ghost can_poll = { elim [ Response f ↦ F.can_poll f | Refusal p ↦ ⊤ | Answered ↦ ⊥ ] };
+    ghost can_poll = { ResponseFutureCanPoll F.can_poll };
 
-    ghost gives = { MayGive (Stepped F.stepped) };
+    ghost gives = { MayGive (ResponseFutureStepped F.Steps.own) };
 
-    ghost needs = { λ state source. elim state [ Response f ↦ F.needs f source | Refusal p ↦ ⊥ | Answered ↦ ⊥ ] };
+    ghost needs = { response_future_needs F.needs };
 
-    #[tactic(auto, using(tower_base::specs::Gives::gives_value, tower_base::specs::Gives::gives_same))]
-    fn poll(&mut self, cx: &mut Context<'_>) -> Poll<Result<A, Error<E, P>>> {
+    #[tactic(auto, using(tower_base::specs::GivesLemmas::gives_value, tower_base::specs::GivesLemmas::gives_same))]
+    fn poll(&mut self, cx: &mut Context<'_>) -> Poll<Result<A, Error<E, P>>>
+        requires { ResponseFutureCanPoll F.can_poll self.old }
+        ensures step { ResponseFutureStepped F.Steps.own self.old result self.new }
+        ensures value { IfReady result (MayGive (ResponseFutureStepped F.Steps.own) self.old) }
+        ensures again { OnPending result (ResponseFutureCanPoll F.can_poll self.new) }
+        ensures same { OnPending result ((x : _) → MayGive (ResponseFutureStepped F.Steps.own) self.new x → MayGive (ResponseFutureStepped F.Steps.own) self.old x) }
+        ensures registered { OnPending result (Covers cx.new (response_future_needs F.needs self.new)) }
+        ensures kept { Keeps cx.old cx.new }
+    {
         self.step(cx)
     }
 }
 
 impl<A, E, P: Drop, F: Steps<Output = Result<A, E>>> Steps for ResponseFuture<F, P> {
-    ghost stepped = { Stepped F.stepped };
+    ghost stepped = { ResponseFutureStepped F.Steps.own };
 
     fn step(&mut self, cx: &mut Context<'_>) -> Poll<Result<A, Error<E, P>>> {
         if let State::Response(response) = &mut self.state {
@@ -99,14 +109,22 @@ where
 {
     type Output = Result<S::Response, Error<S::Error, P>>;
 
-    ghost can_poll = { elim [ Check c s ↦ C.can_poll c × S.sound s × S.ready s | Called f ↦ F.can_poll f | NoClone ↦ ⊤ ] };
+    ghost can_poll = { AsyncResponseFutureCanPoll S.Service C.can_poll F.can_poll };
 
-    ghost gives = { MayGive (AsyncStepped S.Service F.stepped C.stepped) };
+    ghost gives = { MayGive (AsyncResponseFutureStepped S.Service F.Steps.own C.Steps.own) };
 
-    ghost needs = { λ state source. elim state [ Check c s ↦ C.needs c source | Called f ↦ F.needs f source | NoClone ↦ ⊥ ] };
+    ghost needs = { async_response_future_needs C.needs F.needs };
 
-    #[tactic(auto, using(tower_base::specs::Gives::gives_value, tower_base::specs::Gives::gives_same))]
-    fn poll(&mut self, cx: &mut Context<'_>) -> Poll<Result<S::Response, Error<S::Error, P>>> {
+    #[tactic(auto, using(tower_base::specs::GivesLemmas::gives_value, tower_base::specs::GivesLemmas::gives_same))]
+    fn poll(&mut self, cx: &mut Context<'_>) -> Poll<Result<S::Response, Error<S::Error, P>>>
+        requires { AsyncResponseFutureCanPoll S.Service C.can_poll F.can_poll self.old }
+        ensures step { AsyncResponseFutureStepped S.Service F.Steps.own C.Steps.own self.old result self.new }
+        ensures value { IfReady result (MayGive (AsyncResponseFutureStepped S.Service F.Steps.own C.Steps.own) self.old) }
+        ensures again { OnPending result (AsyncResponseFutureCanPoll S.Service C.can_poll F.can_poll self.new) }
+        ensures same { OnPending result ((x : _) → MayGive (AsyncResponseFutureStepped S.Service F.Steps.own C.Steps.own) self.new x → MayGive (AsyncResponseFutureStepped S.Service F.Steps.own C.Steps.own) self.old x) }
+        ensures registered { OnPending result (Covers cx.new (async_response_future_needs C.needs F.needs self.new)) }
+        ensures kept { Keeps cx.old cx.new }
+    {
         self.step(cx)
     }
 }
@@ -118,17 +136,17 @@ where
     F: Steps<Output = Result<S::Response, S::Error>>,
     P: Drop,
 {
-    ghost stepped = { AsyncStepped S.Service F.stepped C.stepped };
+    ghost stepped = { AsyncResponseFutureStepped S.Service F.Steps.own C.Steps.own };
 
     fn step(&mut self, cx: &mut Context<'_>) -> Poll<Result<S::Response, Error<S::Error, P>>> {
         if let AsyncState::Check(check, service) = &mut self.state {
             match ready!(check.step(cx)) {
-                Ok(request) => self.state = AsyncState::Response(service.call(request)),
+                Ok(request) => self.state = AsyncState::InFlight(service.call(request)),
                 Err(error) => return Poll::Ready(Err(Error::Rejected(error))),
             }
         }
         match &mut self.state {
-            AsyncState::Response(response) => match ready!(response.step(cx)) {
+            AsyncState::InFlight(response) => match ready!(response.step(cx)) {
                 Ok(value) => Poll::Ready(Ok(value)),
                 Err(error) => Poll::Ready(Err(Error::Inner(error))),
             },

@@ -1,6 +1,6 @@
 //! The layers of the filters.
 ghost use Rattle.std.specs.Prelude.{◌≡◌};
-ghost use Rattle.tower_ware.specs.Filter.{Filtering};
+ghost use Rattle.tower_ware.specs.Filter.{Made};
 
 use crate::filter::{AsyncFilter, Filter};
 use std::alloc::AllocError;
@@ -31,7 +31,7 @@ impl<U> FilterLayer<U> {
 impl<S: Drop, U: Clone + Drop> Layer<S> for FilterLayer<U> {
     type Service = Filter<S, U>;
 
-    ghost made = { λ predicate service filter. (filter.inner ≡ service) × U.is_clone predicate filter.predicate };
+    ghost made = { Made U.is_clone };
 
     fn layer(&self, service: S) -> Result<Filter<S, U>, AllocError> {
         let predicate = self.predicate.clone()?;
@@ -71,7 +71,7 @@ impl<U> AsyncFilterLayer<U> {
 impl<S: Drop, U: Clone + Drop> Layer<S> for AsyncFilterLayer<U> {
     type Service = AsyncFilter<S, U>;
 
-    ghost made = { λ predicate service filter. (filter.inner ≡ service) × U.is_clone predicate filter.predicate };
+    ghost made = { Made U.is_clone };
 
     fn layer(&self, service: S) -> Result<AsyncFilter<S, U>, AllocError> {
         let predicate = self.predicate.clone()?;

@@ -12,6 +12,6 @@ pub(crate) enum State<F, P> {
 #[derive(Drop)]
 pub(crate) enum AsyncState<C, S, F> {
     Check(C, S),
-    Response(F),
+    InFlight(F),
     NoClone,
 }

@@ -1,5 +1,7 @@
 //! The future of `LoadShed`.
 ghost use Rattle.std.specs.Prelude.{◌≡◌, Option, Some, None, IfSome, IsSomeAnd};
+ghost use Rattle.futures.specs.Poll.{IfReady, OnPending};
+ghost use Rattle.futures.specs.Task.{Covers, Keeps};
 ghost use Rattle.tower_base.specs.Gives.{MayGive};
 ghost use Rattle.tower_ware.specs.LoadShed.{Stepped};
 
@@ -42,18 +44,26 @@ impl<T, E, F: Steps<Output = Result<T, E>>> Future for ResponseFuture<F> {
 
     ghost can_poll = { λ f. IfSome f F.can_poll };
 
-    ghost gives = { MayGive (Stepped F.stepped) };
+    ghost gives = { MayGive (Stepped F.Steps.own) };
 
     ghost needs = { λ f source. IsSomeAnd f (λ response. F.needs response source) };
 
-    #[tactic(auto, using(tower_base::specs::Gives::gives_value, tower_base::specs::Gives::gives_same))]
-    fn poll(&mut self, cx: &mut Context<'_>) -> Poll<Result<T, Error<E>>> {
+    #[tactic(auto, using(tower_base::specs::GivesLemmas::gives_value, tower_base::specs::GivesLemmas::gives_same))]
+    fn poll(&mut self, cx: &mut Context<'_>) -> Poll<Result<T, Error<E>>>
+        requires { IfSome self.old F.can_poll }
+        ensures step { Stepped F.Steps.own self.old result self.new }
+        ensures value { IfReady result (MayGive (Stepped F.Steps.own) self.old) }
+        ensures again { OnPending result (IfSome self.new F.can_poll) }
+        ensures same { OnPending result ((x : _) → MayGive (Stepped F.Steps.own) self.new x → MayGive (Stepped F.Steps.own) self.old x) }
+        ensures registered { OnPending result (Covers cx.new (λ source. IsSomeAnd self.new (λ response. F.needs response source))) }
+        ensures kept { Keeps cx.old cx.new }
+    {
         self.step(cx)
     }
 }
 
 impl<T, E, F: Steps<Output = Result<T, E>>> Steps for ResponseFuture<F> {
-    ghost stepped = { Stepped F.stepped };
+    ghost stepped = { Stepped F.Steps.own };
 
     fn step(&mut self, cx: &mut Context<'_>) -> Poll<Result<T, Error<E>>> {
         let Some(response) = &mut self.response else {

@@ -10,6 +10,6 @@ pub enum State<F, S> {
 /// A response, or an error in place of it, which is given once.
 #[derive(Drop)]
 pub enum Reply<F, E> {
-    Called(F),
+    InFlight(F),
     Failed(Option<E>),
 }

@@ -1,7 +1,9 @@
 //! The response of a `Timeout`.
 ghost use Rattle.std.specs.Prelude.{◌≡◌, ⊤};
+ghost use Rattle.futures.specs.Poll.{IfReady, OnPending};
+ghost use Rattle.futures.specs.Task.{Covers, Keeps};
 ghost use Rattle.tower_base.specs.Gives.{MayGive};
-ghost use Rattle.tower_ware.specs.Timeout.{Waiting, Stepped};
+ghost use Rattle.tower_ware.specs.Timeout.{ResponseFutureView, Stepped};
 
 use crate::timeout::error::Error;
 use futures::future::Future;
@@ -20,7 +22,7 @@ pub struct ResponseFuture<F, C> {
 }
 
 impl<F, C> Model for ResponseFuture<F, C> {
-    ghost Value = { Waiting F C };
+    ghost Value = { ResponseFutureView F C };
 
     ghost view = { λ f. record { response = f.response; deadline = f.deadline; clock = f.clock } };
 }
@@ -51,8 +53,16 @@ where
     // A pending poll wakes its own waker, whatever source is meant.
     ghost needs = { λ _ _. ⊤ };
 
-    #[tactic(auto, using(tower_base::specs::Gives::gives_value, tower_base::specs::Gives::gives_same))]
-    fn poll(&mut self, cx: &mut Context<'_>) -> Poll<Self::Output> {
+    #[tactic(auto, using(tower_base::specs::GivesLemmas::gives_value, tower_base::specs::GivesLemmas::gives_same))]
+    fn poll(&mut self, cx: &mut Context<'_>) -> Poll<Self::Output>
+        requires { F.can_poll self.old.response }
+        ensures step { Stepped F.Steps.own C.Clock self.old result self.new }
+        ensures value { IfReady result (MayGive (Stepped F.Steps.own C.Clock) self.old) }
+        ensures again { OnPending result (F.can_poll self.new.response) }
+        ensures same { OnPending result ((x : _) → MayGive (Stepped F.Steps.own C.Clock) self.new x → MayGive (Stepped F.Steps.own C.Clock) self.old x) }
+        ensures registered { OnPending result (Covers cx.new (λ _. ⊤)) }
+        ensures kept { Keeps cx.old cx.new }
+    {
         self.step(cx)
     }
 }

@@ -1,4 +1,4 @@
 use Rattle.example_paced_lines.proofs.paced.written.Given as goal
 
-abbrev pub invariant-loop-turn : goal.invariant-loop-turn
-invariant-loop-turn g l = g.F.Future.can_poll l.response
+abbrev pub invariant-loop-pass : goal.invariant-loop-pass
+invariant-loop-pass g l = g.F.Future.can_poll l.response

@@ -1,6 +1,6 @@
 //! Why there is no response.
 ghost use Rattle.std.specs.Prelude.{◌≡◌};
-ghost use Rattle.tower_limit.specs.Concurrency.{answer_of};
+ghost use Rattle.tower_base.specs.Answers.{answered};
 
 use futures::task::Poll;
 use std::fmt::Display;
@@ -18,7 +18,7 @@ pub enum Error<E> {
 }
 
 pub(crate) fn outward<T, E>(answer: Poll<Result<T, E>>) -> Poll<Result<T, Error<E>>>
-    ensures { result ≡ answer_of answer }
+    ensures { result ≡ answered Error.Inner answer }
 {
     match answer {
         Poll::Ready(Ok(value)) => Poll::Ready(Ok(value)),

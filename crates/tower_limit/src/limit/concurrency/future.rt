@@ -1,10 +1,12 @@
 //! The response of a `ConcurrencyLimit`.
 ghost use Rattle.std.specs.Prelude.{◌≡◌};
+ghost use Rattle.futures.specs.Poll.{IfReady, OnPending};
+ghost use Rattle.futures.specs.Task.{Covers, Keeps};
 ghost use Rattle.tower_base.specs.Gives.{MayGive};
-ghost use Rattle.tower_limit.specs.Concurrency.{InFlight, Stepped};
+ghost use Rattle.tower_limit.specs.Concurrency.{ResponseFutureView, Stepped};
 
 use crate::limit::concurrency::error::{Error, outward};
-use crate::limit::concurrency::line::LineCore;
+use crate::limit::concurrency::line_core::LineCore;
 use crate::limit::concurrency::semaphore::Permit;
 use futures::future::Future;
 use futures::task::{Context, Poll};
@@ -21,7 +23,7 @@ pub struct ResponseFuture<F, L: Latch<LineCore>> {
 }
 
 impl<F, L: Latch<LineCore>> Model for ResponseFuture<F, L> {
-    ghost Value = { InFlight F L };
+    ghost Value = { ResponseFutureView F L };
 
     ghost view = { λ f. record { response = f.response; permit = f.permit } };
 }
@@ -47,8 +49,16 @@ where
 
     ghost needs = { λ v. F.needs v.response };
 
-    #[tactic(auto, using(tower_base::specs::Gives::gives_value, tower_base::specs::Gives::gives_same))]
-    fn poll(&mut self, cx: &mut Context<'_>) -> Poll<Self::Output> {
+    #[tactic(auto, using(tower_base::specs::GivesLemmas::gives_value, tower_base::specs::GivesLemmas::gives_same))]
+    fn poll(&mut self, cx: &mut Context<'_>) -> Poll<Self::Output>
+        requires { F.can_poll self.old.response }
+        ensures step { Stepped F.Steps.own self.old result self.new }
+        ensures value { IfReady result (MayGive (Stepped F.Steps.own) self.old) }
+        ensures again { OnPending result (F.can_poll self.new.response) }
+        ensures same { OnPending result ((x : _) → MayGive (Stepped F.Steps.own) self.new x → MayGive (Stepped F.Steps.own) self.old x) }
+        ensures registered { OnPending result (Covers cx.new (F.needs self.new.response)) }
+        ensures kept { Keeps cx.old cx.new }
+    {
         self.step(cx)
     }
 }

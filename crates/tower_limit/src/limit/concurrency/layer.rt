@@ -1,8 +1,8 @@
 //! What makes a `ConcurrencyLimit` of a service.
 ghost use Rattle.std.specs.Prelude.{◌≡◌, ℕ, IfOk};
-ghost use Rattle.tower_limit.specs.Concurrency.{Permits, Fresh, Joined, SharesPermits};
+ghost use Rattle.tower_limit.specs.Concurrency.{SemaphoreView, New, Made, SharesPermits};
 
-use crate::limit::concurrency::line::LineCore;
+use crate::limit::concurrency::line_core::LineCore;
 use crate::limit::concurrency::semaphore::Semaphore;
 use crate::limit::concurrency::service::ConcurrencyLimit;
 use std::alloc::{AllocError, Global};
@@ -37,7 +37,7 @@ impl<R> ConcurrencyLimitLayer<R> {
 impl<S: Drop, R: Wait + Copy> Layer<S> for ConcurrencyLimitLayer<R> {
     type Service = ConcurrencyLimit<S, Guarded<LineCore, R>>;
 
-    ghost made = { λ max service made. Fresh service max made };
+    ghost made = { λ max service made. New service max made };
 
     fn layer(&self, service: S) -> Result<Self::Service, AllocError> {
         ConcurrencyLimit::new(self.rt, self.alloc, service, self.max)
@@ -59,7 +59,7 @@ pub struct GlobalConcurrencyLimitLayer<L: Latch<LineCore>> {
 }
 
 impl<L: Latch<LineCore>> Model for GlobalConcurrencyLimitLayer<L> {
-    ghost Value = { Permits L };
+    ghost Value = { SemaphoreView L };
 
     ghost view = { λ l. l.semaphore };
 }
@@ -85,7 +85,7 @@ impl<L: Latch<LineCore>> GlobalConcurrencyLimitLayer<L> {
 impl<S: Drop, L: Latch<LineCore>> Layer<S> for GlobalConcurrencyLimitLayer<L> {
     type Service = ConcurrencyLimit<S, L>;
 
-    ghost made = { Joined L.gave };
+    ghost made = { Made L.Latch };
 
     fn layer(&self, service: S) -> Result<Self::Service, AllocError> {
         let semaphore = self.semaphore.share()?;
@@ -95,7 +95,7 @@ impl<S: Drop, L: Latch<LineCore>> Layer<S> for GlobalConcurrencyLimitLayer<L> {
 
 /// A clone shares the semaphore.
 impl<L: Latch<LineCore>> Clone for GlobalConcurrencyLimitLayer<L> {
-    ghost is_clone = { SharesPermits L.gave };
+    ghost is_clone = { SharesPermits L.Latch };
 
     fn clone(&self) -> Result<GlobalConcurrencyLimitLayer<L>, AllocError> {
         let semaphore = self.semaphore.share()?;

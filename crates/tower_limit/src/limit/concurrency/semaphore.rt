@@ -1,10 +1,10 @@
 //! Permits, and those who ask for them.
-ghost use Rattle.std.specs.Prelude.{◌≡◌, IfOk, IfSome, None};
-ghost use Rattle.tower_limit.specs.Concurrency.{Permits, Held, Asking, Shares, SharesPermits, Acquired};
+ghost use Rattle.std.specs.Prelude.{◌≡◌, IfOk, IfErr, IfSome, None, Err};
+ghost use Rattle.tower_limit.specs.Concurrency.{SemaphoreView, PermitView, PollSemaphoreView, SharesPermits, Acquired};
 ghost use Rattle.futures.specs.Task.{IsArmed, Keeps};
 ghost use Rattle.futures.specs.Poll.{OnPending};
 
-use crate::limit::concurrency::line::{LineCore, LineReply, LineStep};
+use crate::limit::concurrency::line_core::{LineCore, LineReply, LineStep};
 use futures::task::{Context, Poll};
 use std::alloc::{AllocError, Global};
 use std::marker::Model;
@@ -19,7 +19,7 @@ pub struct Semaphore<L: Latch<LineCore>> {
 }
 
 impl<L: Latch<LineCore>> Model for Semaphore<L> {
-    ghost Value = { Permits L };
+    ghost Value = { SemaphoreView L };
 
     ghost view = { λ s. record { latch = s.latch; max = s.max } };
 }
@@ -63,7 +63,8 @@ impl<L: Latch<LineCore>> Semaphore<L> {
 
     /// Another share of the same permits. It is refused where the latch refuses its share.
     pub fn share(&self) -> Result<Semaphore<L>, AllocError>
-        ensures { IfOk result (λ other. SharesPermits L.gave self.now other) }
+        ensures shares { IfOk result (λ other. SharesPermits L.Latch self.now other) }
+        ensures refused { IfErr result (λ e. L.shares self.now.latch (Err e)) }
     {
         let latch = self.latch.share()?;
         Ok(Semaphore {
@@ -79,7 +80,7 @@ pub struct Permit<L: Latch<LineCore>> {
 }
 
 impl<L: Latch<LineCore>> Model for Permit<L> {
-    ghost Value = { Held L };
+    ghost Value = { PermitView L };
 
     ghost view = { λ p. record { latch = p.latch } };
 }
@@ -102,7 +103,7 @@ pub struct PollSemaphore<L: Latch<LineCore>> {
 }
 
 impl<L: Latch<LineCore>> Model for PollSemaphore<L> {
-    ghost Value = { Asking L };
+    ghost Value = { PollSemaphoreView L };
 
     ghost view = { λ p. record { semaphore = p.semaphore; key = p.key } };
 }
@@ -120,7 +121,8 @@ impl<L: Latch<LineCore>> PollSemaphore<L> {
 
     /// Another share of the permits that it asks for. It is refused where the latch refuses its share.
     pub fn share(&self) -> Result<Semaphore<L>, AllocError>
-        ensures { IfOk result (λ other. SharesPermits L.gave self.now.semaphore other) }
+        ensures shares { IfOk result (λ other. SharesPermits L.Latch self.now.semaphore other) }
+        ensures refused { IfErr result (λ e. L.shares self.now.semaphore.latch (Err e)) }
     {
         self.semaphore.share()
     }
@@ -131,7 +133,7 @@ impl<L: Latch<LineCore>> PollSemaphore<L> {
     /// error, and the place, if there was one, is kept.
     #[inline(always)]
     pub fn poll_acquire(&mut self, cx: &mut Context<'_>) -> Poll<Result<Permit<L>, AllocError>>
-        ensures acquired { Acquired L.gave self.old result self.new }
+        ensures acquired { Acquired L.Latch self.old result self.new }
         ensures armed { OnPending result (IsArmed cx.new) }
         ensures kept { Keeps cx.old cx.new }
     {

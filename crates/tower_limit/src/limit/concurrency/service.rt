@@ -1,10 +1,11 @@
 //! A service with a limit on the calls in flight.
 ghost use Rattle.std.specs.Prelude.{◌≡◌, IfOk, IsSome};
-ghost use Rattle.tower_limit.specs.Concurrency.{Limited, Polled, Called, IsClone, Fresh, idle, ready_after};
+ghost use Rattle.tower_limit.specs.Concurrency.{ConcurrencyLimitView, Polled, Called, IsClone, New, idle};
+ghost use Rattle.tower_limit.specs.ConcurrencyReady.{ready_after};
 
 use crate::limit::concurrency::error::{Error, outward};
 use crate::limit::concurrency::future::ResponseFuture;
-use crate::limit::concurrency::line::LineCore;
+use crate::limit::concurrency::line_core::LineCore;
 use crate::limit::concurrency::semaphore::{Permit, PollSemaphore, Semaphore};
 use futures::task::{Context, Poll};
 use std::alloc::{AllocError, Global};
@@ -26,7 +27,7 @@ pub struct ConcurrencyLimit<S, L: Latch<LineCore>> {
 }
 
 impl<S, L: Latch<LineCore>> Model for ConcurrencyLimit<S, L> {
-    ghost Value = { Limited S L };
+    ghost Value = { ConcurrencyLimitView S L };
 
     ghost view = { λ c. record { inner = c.inner; asking = c.asking; permit = c.permit } };
 }
@@ -34,7 +35,7 @@ impl<S, L: Latch<LineCore>> Model for ConcurrencyLimit<S, L> {
 impl<S: Drop, R: Wait + Copy> ConcurrencyLimit<S, Guarded<LineCore, R>> {
     /// At most `max` calls in flight. For want of memory the service is dropped.
     pub fn new(rt: R, alloc: Global, inner: S, max: usize) -> Result<Self, AllocError>
-        ensures { IfOk result (λ made. Fresh inner max made) }
+        ensures { IfOk result (λ made. New inner max made) }
     {
         let semaphore = Semaphore::new(rt, alloc, max)?;
         Ok(ConcurrencyLimit::with_semaphore(inner, semaphore))
@@ -65,7 +66,7 @@ impl<Request, S: Service<Request>, L: Latch<LineCore>> Service<Request> for Conc
 
     ghost ready = { λ v. IsSome v.permit × S.ready v.inner };
 
-    ghost polled = { Polled L.gave S.Service };
+    ghost polled = { Polled L.Latch S.Service };
 
     ghost called = { Called S.Service };
 
@@ -92,7 +93,7 @@ impl<Request, S: Service<Request>, L: Latch<LineCore>> Service<Request> for Conc
 
 /// A clone shares the semaphore. It holds no permit and doesn't wait.
 impl<S: Clone, L: Latch<LineCore>> Clone for ConcurrencyLimit<S, L> {
-    ghost is_clone = { IsClone L.gave S.is_clone };
+    ghost is_clone = { IsClone L.Latch S.is_clone };
 
     fn clone(&self) -> Result<ConcurrencyLimit<S, L>, AllocError> {
         let inner = self.inner.clone()?;

@@ -1,6 +1,6 @@
 //! The layer of a rate limit.
 ghost use Rattle.std.specs.Prelude.{◌≡◌, ◌≢◌};
-ghost use Rattle.tower_limit.specs.Rate.{Limit, Made};
+ghost use Rattle.tower_limit.specs.Rate.{RateLimitLayerView, Made};
 
 use crate::limit::rate::{Rate, RateLimit};
 use std::alloc::AllocError;
@@ -18,7 +18,7 @@ pub struct RateLimitLayer<C> {
 }
 
 impl<C> Model for RateLimitLayer<C> {
-    ghost Value = { Limit C };
+    ghost Value = { RateLimitLayerView C };
 
     ghost view = { λ l. record { num = l.rate.num; per = l.rate.per; clock = l.clock } };
 }

@@ -1,4 +1,4 @@
-//! How many calls, and in which time.
+//! How many calls, and in which time. The Rust has it in a file `rate`, which may not stand beside `Rate` here.
 ghost use Rattle.std.specs.Prelude.{◌≡◌, ◌≢◌, ◌↔◌, IsTrue};
 
 /// So many calls in so many nanoseconds.

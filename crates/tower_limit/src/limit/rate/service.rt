@@ -1,6 +1,6 @@
 //! A service under a rate limit.
 ghost use Rattle.std.specs.Prelude.{◌≡◌, false};
-ghost use Rattle.tower_limit.specs.Rate.{Limiting, Makes, Polled, Called, Stands, is_full};
+ghost use Rattle.tower_limit.specs.Rate.{RateLimitView, New, Polled, Called, Stands, is_full};
 ghost use Rattle.tower_limit.specs.RateReady.{ready_after};
 
 use crate::limit::rate::{Rate, RateCore};
@@ -21,7 +21,7 @@ pub struct RateLimit<S, C> {
 }
 
 impl<S, C> Model for RateLimit<S, C> {
-    ghost Value = { Limiting S C };
+    ghost Value = { RateLimitView S C };
 
     ghost view = { λ l. record { inner = l.inner; core = l.core; clock = l.clock } };
 }
@@ -29,7 +29,7 @@ impl<S, C> Model for RateLimit<S, C> {
 impl<S, C: Clock> RateLimit<S, C> {
     /// Reads the clock once.
     pub fn new(inner: S, rate: Rate, mut clock: C) -> RateLimit<S, C>
-        ensures { Makes C.Clock rate.num rate.per inner clock result }
+        ensures { New C.Clock rate.num rate.per inner clock result }
     {
         let moment = clock.now();
         RateLimit {
@@ -48,9 +48,9 @@ impl<Request, S: Service<Request>, C: Clock> Service<Request> for RateLimit<S, C
     type Future = S::Future;
 
     // The core stands for some windows.
-    ghost sound = { λ l. S.sound l.inner × Stands l.core (λ w. Unit {0}) };
+    ghost sound = { λ l. S.sound l.inner × Stands l.core (λ plain. Unit {0}) };
 
-    ghost ready = { λ l. S.ready l.inner × Stands l.core (λ w. is_full w ≡ false) };
+    ghost ready = { λ l. S.ready l.inner × Stands l.core (λ plain. is_full plain ≡ false) };
 
     ghost polled = { Polled S.Service C.Clock };
 

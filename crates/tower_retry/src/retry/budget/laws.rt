@@ -1,12 +1,15 @@
 //! What holds of every budget.
 ghost use Rattle.tower_base.specs.Latch.{IsRun};
-ghost use Rattle.tower_retry.specs.Budget.{Turns};
+ghost use Rattle.tower_retry.specs.Budget.{Steps};
 ghost use Rattle.tower_retry.specs.BudgetCore.{StandsFor, SumsKept};
+ghost use Rattle.tower_retry.specs.BudgetHistory.{AnsweredBySums};
 
 /// What holds of every list of steps, whatever the gaps between them, also past ten windows and
 /// where the clock goes back: what a `BudgetCore` serves is such a list, and its kept amounts are the
-/// sum of those that count.
+/// sum of those that count. In the history of a budget that ran under a log each withdrawal is
+/// answered by the sum of the entries before it.
 pub fn law()
-    ensures follows { IsRun StandsFor Turns }
+    ensures follows { IsRun StandsFor Steps }
     ensures sums { SumsKept }
+    ensures history { AnsweredBySums }
 {}

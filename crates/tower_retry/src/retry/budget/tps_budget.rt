@@ -1,7 +1,7 @@
 //! A budget over a clock.
 ghost use Rattle.std.specs.Prelude.{◌≡◌, IfOk, IsTrue, ◌↔◌};
 ghost use Rattle.tower_retry.specs.Budget.{Fits};
-ghost use Rattle.tower_retry.specs.TpsBudget.{Budgets, Deposited, Withdrew, Copies};
+ghost use Rattle.tower_retry.specs.TpsBudget.{TpsBudgetView, Deposited, Withdrew, IsClone};
 
 use crate::retry::budget::{Budget, BudgetCore, BudgetReply, BudgetStep};
 use std::alloc::{AllocError, Global};
@@ -19,9 +19,9 @@ pub struct TpsBudget<L: Latch<BudgetCore>, C> {
 }
 
 impl<L: Latch<BudgetCore>, C> Model for TpsBudget<L, C> {
-    ghost Value = { Budgets L C };
+    ghost Value = { TpsBudgetView L C };
 
-    ghost view = { λ b. record { latch = b.latch; clock = b.clock } };
+    ghost view = { λ budget. record { latch = budget.latch; clock = budget.clock } };
 }
 
 impl<R: Wait + Copy, C: Clock> TpsBudget<Guarded<BudgetCore, R>, C> {
@@ -93,7 +93,7 @@ impl<L: Latch<BudgetCore>, C: Clock> Budget for TpsBudget<L, C> {
 
 /// A clone shares the core and the clock.
 impl<L: Latch<BudgetCore>, C: Clock> Clone for TpsBudget<L, C> {
-    ghost is_clone = { Copies L.gave C.Clock };
+    ghost is_clone = { IsClone L.gave C.Clock };
 
     fn clone(&self) -> Result<TpsBudget<L, C>, AllocError> {
         let latch = self.latch.share()?;

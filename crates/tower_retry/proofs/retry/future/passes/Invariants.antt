@@ -3,9 +3,9 @@ use Rattle.tower_base.specs.Passes.{Goes}
 use Rattle.tower_retry.specs.Retry.{Pass, Sound}
 use Rattle.tower_retry.proofs.retry.future.passes.Given as goal
 
-abbrev pub invariant-loop-turn : goal.invariant-loop-turn
-invariant-loop-turn g l = record {
-  went : Goes (Pass g.S.Service g.S.Future.Steps.stepped g.P.Policy g.P.Future.Steps.stepped) l._turn l.fn.attempts l.attempts;
+abbrev pub invariant-loop-pass : goal.invariant-loop-pass
+invariant-loop-pass g l = record {
+  went : Goes (Pass g.S.Service g.S.Future.Steps.stepped g.P.Policy g.P.Future.Steps.stepped) l._pass l.fn.attempts l.attempts;
   sound : Sound g.P.Policy.sound g.S.Service.sound g.S.Future.Future.can_poll g.P.Future.Future.can_poll l.attempts;
   kept : Keeps l.fn.cx l.cx;
 }

@@ -1,5 +1,5 @@
 use Rattle.std.proofs.Common.{rules, ◌<◌, length}
-use Rattle.tower_ware.proofs.Asking.{standing_next}
+use Rattle.tower_ware.proofs.SteerLemmas.{standing_next}
 use Rattle.tower_ware.proofs.steer.SteerService.poll_ready.Goals as goal
 
 pub loop-front-preserved-in-Ready-Ok-2 : goal.loop-front-preserved-in-Ready-Ok-2

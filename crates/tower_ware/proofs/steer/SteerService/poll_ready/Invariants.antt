@@ -1,14 +1,14 @@
 use Rattle.std.proofs.Common.{◌≡◌, ◌<◌, ℕ, List, length}
 use Rattle.std.specs.VecDeque.{deque_capacity}
 use Rattle.futures.specs.Task.{Keeps}
-use Rattle.tower_ware.specs.Steer.{Asks, Standing}
+use Rattle.tower_ware.specs.Steer.{EachPolled, Standing}
 use Rattle.tower_ware.proofs.steer.SteerService.poll_ready.Given as goal
 
 abbrev pub invariant-loop-front : goal.invariant-loop-front
 invariant-loop-front g l = record {
   picker : l.self-inside.picker ≡ l.fn.self.picker;
-  asked : (a : _) (rest : List ℕ) (ts : List _) → Asks g.S.Service.polled l.self-inside.listed.items l.self-inside.services.items a rest ts
-      → Asks g.S.Service.polled l.fn.self.listed l.fn.self.services a rest ts;
+  asked : (a : _) (rest : List ℕ) (ts : List _) → EachPolled g.S.Service.polled l.self-inside.listed.items l.self-inside.services.items a rest ts
+      → EachPolled g.S.Service.polled l.fn.self.listed l.fn.self.services a rest ts;
   chooses : g.F.Picker.sound l.self-inside.picker;
   standing : Standing g.S.Service.sound g.S.Service.ready l.self-inside.services.items l.self-inside.listed.items;
   room : deque_capacity l.self-inside.listed ≡ l.fn.self.room;

@@ -1,5 +1,6 @@
-use Rattle.tower_base.proofs.Reaching.{is_run}
-use Rattle.tower_retry.proofs.Ledgers.{sums_kept}
+use Rattle.tower_base.specs.LatchLemmas.{is_run}
+use Rattle.tower_retry.proofs.BudgetCoreLemmas.{sums_kept}
+use Rattle.tower_retry.proofs.BudgetHistoryLemmas.{answered_by_sums}
 use Rattle.tower_retry.proofs.retry.budget.laws.law.Goals as goal
 
 pub returns-clause-follows : goal.returns-clause-follows
@@ -7,3 +8,6 @@ returns-clause-follows c = is_run _ _
 
 pub returns-clause-sums : goal.returns-clause-sums
 returns-clause-sums c = sums_kept
+
+pub returns-clause-history : goal.returns-clause-history
+returns-clause-history c = answered_by_sums

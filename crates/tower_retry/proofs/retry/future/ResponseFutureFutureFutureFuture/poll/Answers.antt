@@ -1,4 +1,4 @@
-use Rattle.tower_base.specs.Gives.{gives_value}
+use Rattle.tower_base.specs.GivesLemmas.{gives_value}
 use Rattle.tower_retry.specs.Retry.{Stepped}
 use Rattle.tower_retry.proofs.retry.future.ResponseFutureFutureFutureFuture.poll.Goals as goal
 

@@ -1,4 +1,4 @@
-use Rattle.tower_base.specs.Gives.{gives_value}
+use Rattle.tower_base.specs.GivesLemmas.{gives_value}
 use Rattle.tower_util.proofs.util.oneshot.OneshotFuture.poll.Goals as goal
 
 pub returns-clause-value : goal.returns-clause-value

@@ -1,4 +1,4 @@
-use Rattle.tower_base.specs.Gives.{gives_value}
+use Rattle.tower_base.specs.GivesLemmas.{gives_value}
 use Rattle.tower_ware.specs.Reconnect.{Stepped}
 use Rattle.tower_ware.proofs.reconnect.future.ResponseFutureFuture.poll.Goals as goal
 

@@ -1,4 +1,4 @@
-use Rattle.tower_base.specs.Gives.{gives_value}
+use Rattle.tower_base.specs.GivesLemmas.{gives_value}
 use Rattle.tower_ware.specs.Timeout.{Stepped}
 use Rattle.tower_ware.proofs.timeout.future.ResponseFutureFuture.poll.Goals as goal
 

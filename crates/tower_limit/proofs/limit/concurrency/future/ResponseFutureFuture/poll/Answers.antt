@@ -1,4 +1,4 @@
-use Rattle.tower_base.specs.Gives.{gives_value}
+use Rattle.tower_base.specs.GivesLemmas.{gives_value}
 use Rattle.tower_limit.specs.Concurrency.{Stepped}
 use Rattle.tower_limit.proofs.limit.concurrency.future.ResponseFutureFuture.poll.Goals as goal
 

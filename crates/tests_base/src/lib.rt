@@ -1,0 +1,13 @@
+//! Tests of services, layers, clocks and `drive` at concrete types.
+#![tactic(auto)]
+
+#[cfg(test)]
+mod drive;
+#[cfg(test)]
+mod layer;
+#[cfg(test)]
+mod service;
+#[cfg(test)]
+mod sleep;
+#[cfg(test)]
+mod system;

@@ -1,0 +1,275 @@
+//! `tower::limit::rate`: windows, readings of the clock, and inner polls.
+
+use std::cell::Cell;
+use std::test::Fail;
+use tests_support::clock::Hand;
+use tests_support::log::Log;
+use tests_support::script::Mood::{Broken, Busy, Willing};
+use tests_support::script::Script;
+use tests_support::service::Scripted;
+use tests_support::story::{Act, Stage, Story, driven};
+use tower_base::drive::Event;
+use tower_base::layer::Layer;
+use tower_limit::limit::rate::{Rate, RateCore};
+use tower_limit::limit::{RateLimit, RateLimitLayer};
+
+// A run made at the stage's moment.
+fn run(
+    rt: &HostRuntime,
+    stage: &Stage<'_>,
+    rate: Rate,
+    events: Vec<Event<u8, Act>>,
+) -> Result<Story, Fail> {
+    let inner = Scripted::new(&stage.script, 's');
+    let service = RateLimit::new(inner, rate, Hand::new(stage.log, &stage.moment));
+    driven(rt, stage, service, events)
+}
+
+#[test]
+fn full_window_is_waited_for_without_an_inner_poll(rt: HostRuntime) -> Result<(), Fail> {
+    let log = Log::new(rt.alloc())?;
+    let stage = Stage::new(&log);
+    let events = vec![in rt.alloc();
+        Event::Poll,
+        Event::Call(1),
+        Event::Poll,
+        Event::Call(2),
+        Event::Turn(Act::At(9)),
+        Event::Poll,
+        Event::Turn(Act::At(10)),
+        Event::Poll,
+    ]?;
+    let story = run(&rt, &stage, Rate::new(2, 10), events)?;
+    assert_eq!(rt;
+        story.entries.as_str(),
+        "ready;call 0;ready;call 1;at 9;pending;at 10;ready;"
+    );
+    assert_eq!(rt;
+        story.told.as_str(),
+        "clock read 0;s ready;clock read 0;s called 1;s ready;clock read 0;s called 2;\
+         clock read 9;clock read 10;s ready;\
+         s dropped;clock dropped;s(1) dropped;s(2) dropped;"
+    );
+    Ok(())
+}
+
+#[test]
+fn interval_over_two_windows_holds_twice_the_number(rt: HostRuntime) -> Result<(), Fail> {
+    let log = Log::new(rt.alloc())?;
+    let stage = Stage::new(&log);
+    let events = vec![in rt.alloc();
+        Event::Poll,
+        Event::Call(1),
+        Event::Turn(Act::At(2)),
+        Event::Poll,
+        Event::Turn(Act::At(3)),
+        Event::Call(2),
+        Event::Poll,
+        Event::Turn(Act::At(4)),
+        Event::Poll,
+        Event::Call(3),
+    ]?;
+    let story = run(&rt, &stage, Rate::new(1, 2), events)?;
+    assert_eq!(rt;
+        story.entries.as_str(),
+        "ready;call 0;at 2;ready;at 3;call 1;pending;at 4;ready;call 2;"
+    );
+    Ok(())
+}
+
+#[test]
+fn call_past_the_end_opens_a_whole_window(rt: HostRuntime) -> Result<(), Fail> {
+    let log = Log::new(rt.alloc())?;
+    let stage = Stage::new(&log);
+    let events = vec![in rt.alloc();
+        Event::Poll,
+        Event::Call(1),
+        Event::Turn(Act::At(100)),
+        Event::Poll,
+        Event::Call(2),
+        Event::Poll,
+        Event::Call(3),
+        Event::Poll,
+        Event::Call(4),
+        Event::Poll,
+    ]?;
+    let story = run(&rt, &stage, Rate::new(3, 100), events)?;
+    assert_eq!(rt;
+        story.entries.as_str(),
+        "ready;call 0;at 100;ready;call 1;ready;call 2;ready;call 3;pending;"
+    );
+    Ok(())
+}
+
+#[test]
+fn capacity_is_reached_and_comes_back(rt: HostRuntime) -> Result<(), Fail> {
+    let log = Log::new(rt.alloc())?;
+    let stage = Stage::new(&log);
+    let events = vec![in rt.alloc();
+        Event::Poll,
+        Event::Call(1),
+        Event::Future(0),
+        Event::Poll,
+        Event::Turn(Act::At(101)),
+        Event::Poll,
+        Event::Call(2),
+        Event::Future(1),
+    ]?;
+    let story = run(&rt, &stage, Rate::new(1, 100), events)?;
+    assert_eq!(rt;
+        story.entries.as_str(),
+        "ready;call 0;0 ok 1;pending;at 101;ready;call 1;1 ok 2;"
+    );
+    assert_eq!(rt;
+        story.told.as_str(),
+        "clock read 0;s ready;clock read 0;s called 1;s(1) ready;clock read 0;\
+         clock read 101;s ready;clock read 101;s called 2;s(2) ready;\
+         s dropped;clock dropped;s(1) dropped;s(2) dropped;"
+    );
+    Ok(())
+}
+
+#[test]
+fn remaining_calls_are_all_there_again_in_the_next_window(rt: HostRuntime) -> Result<(), Fail> {
+    let log = Log::new(rt.alloc())?;
+    let stage = Stage::new(&log);
+    let events = vec![in rt.alloc();
+        Event::Poll,
+        Event::Call(1),
+        Event::Turn(Act::At(10)),
+        Event::Poll,
+        Event::Call(2),
+        Event::Future(1),
+        Event::Poll,
+        Event::Call(3),
+        Event::Future(2),
+        Event::Turn(Act::At(19)),
+        Event::Poll,
+    ]?;
+    let story = run(&rt, &stage, Rate::new(2, 10), events)?;
+    assert_eq!(rt;
+        story.entries.as_str(),
+        "ready;call 0;at 10;ready;call 1;1 ok 2;ready;call 2;2 ok 3;at 19;pending;"
+    );
+    Ok(())
+}
+
+#[test]
+fn end_past_the_last_moment_never_comes(rt: HostRuntime) -> Result<(), Fail> {
+    let log = Log::new(rt.alloc())?;
+    let stage = Stage::new(&log);
+    let events = vec![in rt.alloc();
+        Event::Turn(Act::At(u64::MAX)),
+        Event::Poll,
+        Event::Call(1),
+        Event::Poll,
+        Event::Turn(Act::At(0)),
+        Event::Poll,
+    ]?;
+    let story = run(&rt, &stage, Rate::new(1, u64::MAX), events)?;
+    assert_eq!(rt;
+        story.entries.as_str(),
+        "at 18446744073709551615;ready;call 0;pending;at 0;pending;"
+    );
+    Ok(())
+}
+
+#[test]
+fn inner_service_that_waits_or_fails_keeps_the_window(rt: HostRuntime) -> Result<(), Fail> {
+    let log = Log::new(rt.alloc())?;
+    let stage = Stage::new(&log);
+    stage
+        .script
+        .moods(&[Busy, Broken(7), Willing, Busy, Broken(8), Willing]);
+    let events = vec![in rt.alloc();
+        Event::Poll,
+        Event::Poll,
+        Event::Poll,
+        Event::Call(1),
+        Event::Turn(Act::At(10)),
+        Event::Poll,
+        Event::Turn(Act::At(25)),
+        Event::Poll,
+        Event::Poll,
+        Event::Call(2),
+        Event::Turn(Act::At(34)),
+        Event::Poll,
+    ]?;
+    let story = run(&rt, &stage, Rate::new(1, 10), events)?;
+    assert_eq!(rt;
+        story.entries.as_str(),
+        "pending;error 7;ready;call 0;at 10;pending;at 25;error 8;ready;call 1;at 34;pending;"
+    );
+    assert_eq!(rt;
+        story.told.as_str(),
+        "clock read 0;s pending;s error 7;s ready;clock read 0;s called 1;\
+         clock read 10;s pending;s error 8;s ready;clock read 25;s called 2;clock read 34;\
+         s dropped;clock dropped;s(1) dropped;s(2) dropped;"
+    );
+    Ok(())
+}
+
+#[test]
+fn layer_reads_once_for_each_service(rt: HostRuntime) -> Result<(), Fail> {
+    let alloc = rt.alloc();
+    let log = Log::new(alloc)?;
+    let script = Script::new(&log);
+    let moment = Cell::new(4);
+    let layer = RateLimitLayer::new(2, 10, Hand::new(&log, &moment)).clone()?;
+    assert_eq!(rt; log.told(alloc)?.as_str(), "clock shared;clock dropped;");
+    let service = layer.layer(Scripted::new(&script, 's'))?;
+    assert_eq!(rt; log.told(alloc)?.as_str(), "clock shared;clock read 4;");
+    drop(service.into_inner());
+    assert_eq!(rt; log.told(alloc)?.as_str(), "clock dropped;s dropped;");
+    Ok(())
+}
+
+#[test]
+fn inner_service_is_lent(rt: HostRuntime) -> Result<(), Fail> {
+    let alloc = rt.alloc();
+    let log = Log::new(alloc)?;
+    let script = Script::new(&log);
+    let moment = Cell::new(0);
+    let clock = Hand::new(&log, &moment);
+    let mut service = RateLimit::new(Scripted::new(&script, 'a'), Rate::new(2, 10), clock);
+    *service.get_mut() = Scripted::new(&script, 'b');
+    assert_eq!(rt; log.told(alloc)?.as_str(), "clock read 0;a dropped;");
+    drop(service.get_ref().clone()?);
+    assert_eq!(rt; log.told(alloc)?.as_str(), "b cloned b1;b1 dropped;");
+    drop(service.into_inner());
+    assert_eq!(rt; log.told(alloc)?.as_str(), "clock dropped;b dropped;");
+    Ok(())
+}
+
+#[test]
+fn core_by_hand(rt: HostRuntime) -> Result<(), Fail> {
+    let mut core = RateCore::new(Rate::new(1, 10), 5);
+    assert!(rt; !core.limited());
+    assert!(rt; core.poll(3));
+    core.call(7);
+    assert!(rt; core.limited());
+    assert!(rt; !core.poll(16));
+    assert!(rt; core.poll(17));
+    assert!(rt; !core.limited());
+    Ok(())
+}
+
+#[test]
+fn rates_that_fit_are_positive(rt: HostRuntime) {
+    for (num, per, fits) in [
+        (1, 1, true),
+        (u64::MAX, u64::MAX, true),
+        (0, 1, false),
+        (1, 0, false),
+        (0, 0, false),
+    ] {
+        assert_eq!(rt; Rate::fits(num, per), fits);
+    }
+}
+
+#[test]
+fn rate_shows_its_numbers(rt: HostRuntime) -> Result<(), Fail> {
+    let text = format!(in rt.alloc(); "{:?}", Rate::new(2, 10))?;
+    assert_eq!(rt; text.as_str(), "Rate { num: 2, per: 10 }");
+    Ok(())
+}

@@ -1,0 +1,15 @@
+//! Tests of `tower_base::latch::Logged` over the cores of the library.
+#![tactic(auto)]
+
+#[cfg(test)]
+mod budget;
+#[cfg(test)]
+mod fixtures;
+#[cfg(test)]
+mod line;
+#[cfg(test)]
+mod plain_line;
+#[cfg(test)]
+mod refused;
+#[cfg(test)]
+mod storm;

@@ -1,0 +1,99 @@
+ghost use Rattle.std.specs.Prelude.{◌≡◌, Some};
+ghost use Rattle.tower_limit.specs.LineCore.{Opens};
+
+use crate::fixtures::{compare, told};
+use crate::plain_line::PlainLine;
+use std::alloc::{AllocError, Global};
+use std::marker::Brand;
+use std::process::Abort;
+use std::sync::Wait;
+use std::sync::ledger::Blank;
+use std::test::Fail;
+use std::thread;
+use std::thread::Threads;
+use tower_base::latch::{Log, LogTable, Logged, Pass};
+use tower_limit::limit::concurrency::{LineCore, LineReply, LineStep};
+
+const ROUNDS: u32 = 1000;
+
+const LOOKS: u32 = 100;
+
+// Asks for a permit, and looks for it a while. It asks how many are free, and gives back what it has.
+fn round<K: Log<LineCore>, R: Wait + Drop>(
+    log: &Logged<LineCore, K, R>,
+    pass: &mut Pass<LineCore, K>,
+) -> Result<(), AllocError> {
+    let mut reply = log.step(pass, LineStep::Join)?.reply;
+    for _ in 0..LOOKS {
+        let LineReply::Waiting(key) = reply else {
+            break;
+        };
+        thread::yield_now();
+        reply = log.step(pass, LineStep::Look(key))?.reply;
+    }
+    log.step(pass, LineStep::Free)?;
+    match reply {
+        LineReply::Granted => log.step(pass, LineStep::Release)?,
+        LineReply::Waiting(key) => log.step(pass, LineStep::Cancel(key))?,
+        _ => return Ok(()),
+    };
+    Ok(())
+}
+
+fn rounds<K: Log<LineCore>, R: Wait + Drop>(
+    log: &Logged<LineCore, K, R>,
+    mut pass: Pass<LineCore, K>,
+) -> Result<Pass<LineCore, K>, AllocError> {
+    for _ in 0..ROUNDS {
+        round(log, &mut pass)?;
+    }
+    Ok(pass)
+}
+
+#[test]
+fn eight_threads_three_permits(rt: HostRuntime) -> Result<(), Fail> {
+    let alloc = rt.alloc();
+    let table = LogTable::new(alloc)?;
+    let line = LineCore::new(alloc, 3);
+    three_permits::<Brand, _>(rt, alloc, Blank::new(9), table, line)
+}
+
+fn three_permits<K: Log<LineCore> + Send + Sync, R: Threads + Wait + Abort + Copy + Send + Sync>(
+    rt: R,
+    alloc: Global,
+    blank: Blank,
+    table: LogTable<LineStep, LineReply>,
+    line: LineCore,
+) -> Result<(), Fail>
+    requires name { blank.name ≡ K.name }
+    requires parts { (blank.parts ≡ K.parts) × (blank.parts ≡ 9) }
+    requires opening { K.opening ≡ Some line }
+    requires opens { Opens line }
+    requires table { table ≡ K.table }
+{
+    let (log, mut passes) = Logged::<LineCore, K, R>::open(rt, alloc, blank, table, line, 9)?;
+    let mut last = passes.pop().ok_or("a pass")?;
+    let shared = &log;
+    let mut back = Vec::new(alloc);
+    for pass in thread::map_vec(&rt, passes, &|pass| rounds(shared, pass))? {
+        back.push(pass?)?;
+    }
+    let free = log.step(&mut last, LineStep::Free)?;
+    assert_eq!(rt; free.reply, LineReply::Count(3));
+    back.push(last)?;
+    let receipts = told(alloc, &back)?;
+    let history = log.close(back).map_err(|_| "a pass is missing")?;
+    let entries = history.entries();
+    compare(alloc, entries, &receipts)?;
+    let line = PlainLine::replay(alloc, 3, entries)?;
+    assert_eq!(rt; line.free(), 3);
+    let mut looks = 0u32;
+    for (step, reply) in entries {
+        if let (LineStep::Free, LineReply::Count(free)) = (*step, *reply) {
+            assert!(rt; free <= 3);
+            looks = looks.saturating_add(1);
+        }
+    }
+    assert_eq!(rt; looks, 8 * ROUNDS + 1);
+    Ok(())
+}

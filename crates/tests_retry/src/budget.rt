@@ -1,0 +1,284 @@
+//! `tower::retry::budget`: deposits and withdrawals by hand, at a core, behind a lock and through clones.
+
+use std::alloc::AllocGlobal;
+use std::cell::Cell;
+use std::process::Abort;
+use std::sync::Wait;
+use std::test::Fail;
+use tests_support::clock::Hand;
+use tests_support::latch::Noting;
+use tests_support::log::Log;
+use tower_base::latch::{Core, Guarded};
+use tower_base::service::Fraction;
+use tower_retry::retry::budget::{Budget, BudgetCore, BudgetReply, BudgetStep, TpsBudget};
+
+const MS: u64 = 1_000_000;
+
+const SECOND: u64 = 1000 * MS;
+
+// At that moment a deposit, or a withdrawal with its answer.
+#[derive(Clone, Copy, Debug)]
+enum Play {
+    Put(u64),
+    Take(u64, bool),
+}
+
+use Play::{Put, Take};
+
+// A generic body.
+fn act<B: Budget>(rt: &impl Abort, moment: &Cell<u64>, budget: &mut B, plays: &[Play]) {
+    for play in plays {
+        match *play {
+            Put(at) => {
+                moment.set(at);
+                budget.deposit();
+            }
+            Take(at, answer) => {
+                moment.set(at);
+                let given = budget.withdraw();
+                assert!(rt; given == answer, "at {play:?}");
+            }
+        }
+    }
+}
+
+// Plays on a new budget behind a lock.
+fn plays<R: Wait + Abort + AllocGlobal + Copy>(
+    rt: R,
+    made: u64,
+    ttl: u64,
+    min_per_sec: u32,
+    retries: Fraction,
+    all: &[Play],
+) -> Result<(), Fail> {
+    let (moment, log) = (Cell::new(made), Log::new(rt.alloc())?);
+    if !BudgetCore::fits(ttl, min_per_sec, retries) {
+        return Err("out of range".into());
+    }
+    let clock = Hand::new(&log, &moment);
+    let mut budget = TpsBudget::new(rt, rt.alloc(), ttl, min_per_sec, retries, clock)?;
+    act(&rt, &moment, &mut budget, all);
+    Ok(())
+}
+
+#[test]
+fn a_deposit_counts_for_ten_windows(rt: HostRuntime) -> Result<(), Fail> {
+    let whole = Fraction::new(1, 1);
+    let at_the_end = [Put(0), Take(10 * SECOND, true)];
+    plays(rt, 0, 10 * SECOND, 0, whole, &at_the_end)?;
+    let past_it = [Put(0), Take(10 * SECOND + 1, false)];
+    plays(rt, 0, 10 * SECOND, 0, whole, &past_it)?;
+    let long_past_it = [
+        Put(0),
+        Take(u64::MAX, false),
+        Take(0, false),
+        Put(0),
+        Take(5, true),
+    ];
+    plays(rt, 0, 10 * SECOND, 0, whole, &long_past_it)?;
+    // twelve windows
+    let twelve = [Put(0), Take(12 * SECOND, false)];
+    plays(rt, 0, 10 * SECOND, 0, whole, &twelve)
+}
+
+#[test]
+fn gaps_round_up(rt: HostRuntime) -> Result<(), Fail> {
+    let all = [
+        Put(0),
+        Put(1100 * MS),
+        Put(2200 * MS),
+        Put(3300 * MS),
+        Put(4400 * MS),
+        Put(5500 * MS),
+        Take(6600 * MS, false),
+    ];
+    plays(rt, 0, 10 * SECOND, 0, Fraction::new(1, 6), &all)
+}
+
+#[test]
+fn fractions_below_and_above_one(rt: HostRuntime) -> Result<(), Fail> {
+    let half = [
+        Put(7),
+        Take(7, false),
+        Put(7),
+        Take(7, true),
+        Take(7, false),
+    ];
+    plays(rt, 7, 10 * SECOND, 0, Fraction::new(1, 2), &half)?;
+    let twice = [Put(7), Take(7, true), Take(7, true), Take(7, false)];
+    plays(rt, 7, 10 * SECOND, 0, Fraction::new(2, 1), &twice)?;
+    let none = [Put(7), Take(7, false)];
+    plays(rt, 7, 10 * SECOND, 0, Fraction::new(0, 1), &none)?;
+    let reserve = [Put(7), Take(7, true), Take(7, false)];
+    plays(rt, 7, SECOND, 1, Fraction::new(0, 3), &reserve)
+}
+
+#[test]
+fn later_deposits_count_where_the_first_no_longer_does(rt: HostRuntime) -> Result<(), Fail> {
+    let all = [
+        Put(0),
+        Put(0),
+        Take(901 * MS, true),
+        Put(2902 * MS),
+        Put(3203 * MS),
+        Put(4004 * MS),
+        Take(4004 * MS, true),
+    ];
+    plays(rt, 0, SECOND, 0, Fraction::new(1, 2), &all)
+}
+
+#[test]
+fn an_empty_budget_and_one_left_for_long(rt: HostRuntime) -> Result<(), Fail> {
+    let whole = Fraction::new(1, 1);
+    plays(rt, 0, SECOND, 0, whole, &[Take(0, false)])?;
+    plays(rt, 0, SECOND, 0, whole, &[Put(0), Take(3 * SECOND, false)])
+}
+
+#[test]
+fn the_clock_may_go_back(rt: HostRuntime) -> Result<(), Fail> {
+    let whole = Fraction::new(1, 1);
+    let all = [
+        Put(100 * SECOND),
+        Take(50 * SECOND, true),
+        Take(100 * SECOND, false),
+    ];
+    plays(rt, 100 * SECOND, 10 * SECOND, 0, whole, &all)
+}
+
+#[test]
+fn guarded_keeps_its_writes(rt: HostRuntime) -> Result<(), Fail> {
+    let all = [
+        Take(0, true),
+        Take(0, true),
+        Take(0, true),
+        Take(0, true),
+        Take(0, true),
+        Take(0, false),
+    ];
+    plays(rt, 0, SECOND, 5, Fraction::new(1, 1), &all)
+}
+
+// The numbers are those that the budget was made with, and it is made at its clock's moment.
+#[test]
+fn each_budget_has_its_own_numbers(rt: HostRuntime) -> Result<(), Fail> {
+    let whole = Fraction::new(1, 1);
+    for ttl in [37 * SECOND, 60 * SECOND] {
+        plays(rt, 0, ttl, 0, whole, &[Put(0), Take(ttl, true)])?;
+        plays(rt, 0, ttl, 0, whole, &[Put(0), Take(ttl + 1, false)])?;
+    }
+    let later = [Put(150 * MS), Take(1150 * MS, false)];
+    plays(rt, 95 * MS, SECOND, 0, whole, &later)
+}
+
+// How many withdrawals are allowed at this moment, 1400 at most.
+fn allowed<B: Budget>(moment: &Cell<u64>, budget: &mut B, at: u64) -> usize {
+    moment.set(at);
+    for count in 0..1400usize {
+        if !budget.withdraw() {
+            return count;
+        }
+    }
+    1400
+}
+
+#[test]
+fn thirty_seven_a_second(rt: HostRuntime) -> Result<(), Fail> {
+    let (moment, log) = (Cell::new(0), Log::new(rt.alloc())?);
+    let whole = Fraction::new(1, 1);
+    // 37 times 37
+    for (ttl, count) in [(SECOND, 37), (37 * SECOND, 1369)] {
+        let clock = Hand::new(&log, &moment);
+        let mut budget = TpsBudget::new(rt, rt.alloc(), ttl, 37, whole, clock)?;
+        assert_eq!(rt; allowed(&moment, &mut budget, 0), count);
+    }
+    Ok(())
+}
+
+#[test]
+fn by_default_a_hundred_retries_in_ten_seconds(rt: HostRuntime) -> Result<(), Fail> {
+    let alloc = rt.alloc();
+    let (moment, log) = (Cell::new(5), Log::new(alloc)?);
+    let mut budget = TpsBudget::with_clock(rt, alloc, Hand::new(&log, &moment))?;
+    assert_eq!(rt; log.told(alloc)?.as_str(), "clock read 5;");
+    assert_eq!(rt; allowed(&moment, &mut budget, 5), 100);
+    let saved = [
+        Put(5),
+        Put(5),
+        Put(5),
+        Put(5),
+        Take(5, false),
+        Put(5),
+        Take(5, true),
+    ];
+    act(&rt, &moment, &mut budget, &saved);
+    moment.set(5);
+    let mut budget = TpsBudget::with_clock(rt, alloc, Hand::new(&log, &moment))?;
+    assert_eq!(rt; allowed(&moment, &mut budget, 5), 100);
+    act(&rt, &moment, &mut budget, &[Take(10 * SECOND + 6, true)]);
+    moment.set(5);
+    let mut budget = TpsBudget::with_clock(rt, alloc, Hand::new(&log, &moment))?;
+    assert_eq!(rt; allowed(&moment, &mut budget, 5), 100);
+    act(&rt, &moment, &mut budget, &[Take(10 * SECOND + 5, false)]);
+    Ok(())
+}
+
+#[test]
+fn ranges(rt: HostRuntime) {
+    for (ttl, min_per_sec, p, q, want) in [
+        (SECOND, 2147483646, 1000, 1, true),
+        (60 * SECOND, 0, 0, 1, true),
+        (SECOND - 1, 0, 0, 1, false),
+        (60 * SECOND + 1, 0, 0, 1, false),
+        (SECOND, 2147483647, 0, 1, false),
+        (SECOND, 0, 2001, 2, false),
+    ] {
+        let retries = Fraction::new(p, q);
+        let fits = TpsBudget::<Guarded<BudgetCore, HostRuntime>, Hand<'_>>::fits(
+            ttl,
+            min_per_sec,
+            retries,
+        );
+        assert_eq!(rt; fits, want, "{ttl} {min_per_sec} {p} {q}");
+    }
+}
+
+#[test]
+fn a_core_steps(rt: HostRuntime) -> Result<(), Fail> {
+    let mut core = BudgetCore::new(rt.alloc(), SECOND, 0, Fraction::new(1, 2), 0)?;
+    for (step, reply) in [
+        (BudgetStep::Deposit(0), BudgetReply::Done),
+        (BudgetStep::Withdraw(0), BudgetReply::Allowed(false)),
+        (BudgetStep::Deposit(200 * MS), BudgetReply::Done),
+        (BudgetStep::Withdraw(1000 * MS), BudgetReply::Allowed(true)),
+        (BudgetStep::Withdraw(1000 * MS), BudgetReply::Allowed(false)),
+    ] {
+        assert_eq!(rt; core.step(step), reply, "at {step:?}");
+        assert!(rt; !BudgetCore::waits(&reply));
+    }
+    Ok(())
+}
+
+// Each reads the clock, and then makes one step at the latch.
+#[test]
+fn one_latch_step_each(rt: HostRuntime) -> Result<(), Fail> {
+    let alloc = rt.alloc();
+    let (moment, log, shares) = (Cell::new(3), Log::new(alloc)?, Cell::new(1));
+    let core = BudgetCore::new(alloc, 10 * SECOND, 10, Fraction::new(1, 5), 3)?;
+    let latch = Noting::new(&log, &shares, Guarded::new(rt, alloc, core)?);
+    let mut budget = TpsBudget::with_latch(latch, Hand::new(&log, &moment));
+    assert_eq!(rt; log.told(alloc)?.as_str(), "");
+    assert_eq!(rt; allowed(&moment, &mut budget, 3), 100);
+    log.told(alloc)?;
+    let mut other = budget.clone()?;
+    assert_eq!(rt; log.told(alloc)?.as_str(), "latch shared;clock shared;");
+    moment.set(4);
+    assert!(rt; !other.withdraw());
+    other.deposit();
+    assert_eq!(rt;
+        log.told(alloc)?.as_str(),
+        "clock read 4;latch stepped Withdraw(4);clock read 4;latch stepped Deposit(4);"
+    );
+    assert!(rt; budget.clone().is_err());
+    assert_eq!(rt; log.told(alloc)?.as_str(), "latch refused;");
+    Ok(())
+}

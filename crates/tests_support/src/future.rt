@@ -1,0 +1,145 @@
+//! A future that answers after a count of polls, or once a gate is open.
+ghost use Rattle.std.specs.Prelude.{◌≡◌, IsSome, Some};
+ghost use Rattle.futures.specs.Poll.{IfReady, OnPending};
+
+use crate::log::{Log, Name};
+use crate::script::{Reply, Script};
+use futures::future::{Future, Pending, pending};
+use futures::task::{Context, Poll};
+use std::alloc::AllocError;
+use tower_base::service::Steps;
+
+// When the answer is there.
+#[derive(Clone, Copy)]
+pub(crate) enum When<'a> {
+    // After so many polls, each of which wakes its task.
+    Polls(u8),
+    Never,
+    // Once the gate of this call is open. Nothing wakes the task.
+    Gate(&'a Script<'a>, usize),
+}
+
+/// An answer that is there after a count of pending polls. It notes its polls, clones and drop.
+pub struct After<'a, T> {
+    log: &'a Log,
+    name: Name,
+    when: When<'a>,
+    idle: Pending<T>,
+    answer: Option<T>,
+}
+
+impl<'a, T> After<'a, T> {
+    /// Each pending poll wakes its task.
+    pub fn new(log: &'a Log, letter: char, polls: u8, answer: T) -> After<'a, T>
+        ensures { result.answer ≡ Some answer }
+    {
+        After {
+            log,
+            name: Name::new(letter),
+            when: When::Polls(polls),
+            idle: pending(),
+            answer: Some(answer),
+        }
+    }
+}
+
+// The plan of a call of the request: when its answer is there, and which.
+pub(crate) fn plan<'a>(script: &'a Script<'a>, request: u8) -> (When<'a>, Result<u8, u8>) {
+    let call = script.next_call();
+    match script.next_reply() {
+        Reply::Echo(polls) => (When::Polls(polls), Ok(request)),
+        Reply::Fail(polls) => (When::Polls(polls), Err(request)),
+        Reply::Give(polls, answer) => (When::Polls(polls), answer),
+        Reply::Never => (When::Never, Ok(request)),
+        Reply::Gated(answer) => (When::Gate(script, call), answer),
+    }
+}
+
+// The future of a call of this service.
+pub(crate) fn planned<'a, T>(
+    log: &'a Log,
+    service: Name,
+    request: u8,
+    when: When<'a>,
+    answer: T,
+) -> After<'a, T>
+    ensures { result.answer ≡ Some answer }
+{
+    After {
+        log,
+        name: service.of_future(request),
+        when,
+        idle: pending(),
+        answer: Some(answer),
+    }
+}
+
+impl<'a, T: Drop> Future for After<'a, T> {
+    type Output = T;
+
+    ghost can_poll = { λ f. IsSome f.answer };
+
+    fn poll(&mut self, cx: &mut Context<'_>) -> Poll<T> {
+        self.step(cx)
+    }
+}
+
+impl<'a, T: Drop> Steps for After<'a, T> {
+    ghost stepped = { λ old answer new. IfReady answer (λ x. old.answer ≡ Some x) × OnPending answer (new.answer ≡ old.answer) };
+
+    fn step(&mut self, cx: &mut Context<'_>) -> Poll<T> {
+        let is_there = match self.when {
+            When::Polls(polls) => polls == 0,
+            When::Never => false,
+            When::Gate(script, call) => script.is_open(call),
+        };
+        if is_there {
+            self.log.note(format_args!("{} ready", self.name));
+            return Poll::Ready(self.answer.take().unwrap());
+        }
+        self.log.note(format_args!("{} pending", self.name));
+        match self.when {
+            When::Gate(_, _) => self.idle.poll(cx),
+            When::Never => cx.yield_now(),
+            When::Polls(polls) => {
+                self.when = When::Polls(polls.saturating_sub(1));
+                cx.yield_now()
+            }
+        }
+    }
+}
+
+impl<'a, T: Clone> Clone for After<'a, T> {
+    ghost is_clone = { λ old new. IsSome old.answer → IsSome new.answer };
+
+    fn clone(&self) -> Result<After<'a, T>, AllocError> {
+        let answer = match &self.answer {
+            Some(answer) => Some(answer.clone()?),
+            None => None,
+        };
+        let name = self.name.of_copy(self.log);
+        self.log.note(format_args!("{} cloned {name}", self.name));
+        Ok(After {
+            log: self.log,
+            name,
+            when: self.when,
+            idle: pending(),
+            answer,
+        })
+    }
+}
+
+impl<'a, T: Drop> Drop for After<'a, T> {
+    fn drop(self) {
+        self.log.note(format_args!("{} dropped", self.name));
+        let After {
+            log: _,
+            name: _,
+            when: _,
+            idle,
+            answer,
+        } = self;
+        drop(idle);
+        drop(answer);
+    }
+}

@@ -1,0 +1,14 @@
+//! The parts that all tests share. Each notes what happens to it in one list.
+#![tactic(auto)]
+
+pub mod clock;
+pub mod future;
+pub mod latch;
+pub mod log;
+pub mod plain;
+pub mod policy;
+pub mod run;
+pub mod script;
+pub mod service;
+pub mod story;
+pub mod stream;

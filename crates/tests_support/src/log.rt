@@ -1,0 +1,96 @@
+//! The one list of what happened.
+
+use std::alloc::{AllocError, Global};
+use std::cell::{Cell, RefCell};
+use std::fmt::{self, Display, Write};
+
+// Room for the list, in bytes.
+const ROOM: usize = 8192;
+
+/// What happened to all parts of a test, in order, each as a few words before a semicolon.
+#[derive(Drop)]
+pub struct Log {
+    text: RefCell<String>,
+    copies: Cell<u8>,
+}
+
+impl Log {
+    /// Its room is made now.
+    pub fn new(alloc: Global) -> Result<Log, AllocError> {
+        Ok(Log {
+            text: RefCell::new(String::with_capacity(alloc, ROOM)?),
+            copies: Cell::new(0),
+        })
+    }
+
+    /// Adds an event: `log.note(format_args!("f asked {x}"))`.
+    pub fn note<T: Display + Drop>(&self, event: T) {
+        if let Ok(mut text) = self.text.try_borrow_mut() {
+            let _ = write!(text, "{event};");
+        }
+    }
+
+    /// What was noted since the last look.
+    pub fn told(&self, alloc: Global) -> Result<String, AllocError> {
+        let mut told = String::new(alloc);
+        if let Ok(mut text) = self.text.try_borrow_mut() {
+            told.push_str(text.as_str())?;
+            text.clear();
+        }
+        Ok(told)
+    }
+
+    // The number of the next copy.
+    pub(crate) fn next_copy(&self) -> u8 {
+        let copy = self.copies.get().saturating_add(1);
+        self.copies.set(copy);
+        copy
+    }
+}
+
+/// A part as the list has it: `a`, its third copy among all parts `a3`, the future that it gives for 6 `a(6)`.
+#[derive(Clone, Copy, Debug, PartialEq, Eq)]
+pub struct Name {
+    letter: char,
+    copy: u8,
+    request: Option<u8>,
+}
+
+impl Name {
+    pub fn new(letter: char) -> Name {
+        Name {
+            letter,
+            copy: 0,
+            request: None,
+        }
+    }
+
+    // The name of a further copy.
+    pub(crate) fn of_copy(self, log: &Log) -> Name {
+        Name {
+            copy: log.next_copy(),
+            ..self
+        }
+    }
+
+    // The name of the future of a request.
+    pub(crate) fn of_future(self, request: u8) -> Name {
+        Name {
+            request: Some(request),
+            ..self
+        }
+    }
+}
+
+impl Display for Name {
+    fn fmt<W: fmt::Write>(&self, f: &mut fmt::Formatter<W>) -> fmt::Result {
+        write!(f, "{}", self.letter)?;
+        if self.copy > 0 {
+            write!(f, "{}", self.copy)?;
+        }
+        match self.request {
+            Some(request) => write!(f, "({request})"),
+            None => Ok(()),
+        }
+    }
+}

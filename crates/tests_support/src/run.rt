@@ -1,0 +1,139 @@
+//! Polls and calls by hand, and transcripts as text.
+ghost use Rattle.std.specs.Prelude.{IfSome};
+ghost use Rattle.futures.specs.Poll.{OnPending};
+
+use futures::task::{Context, Doorbell, Poll, Solo};
+use std::alloc::{AllocError, AllocGlobal, Global};
+use std::fmt::{Display, Write};
+use std::io;
+use std::random::RandomSource;
+use tower_base::drive::{Entry, Transcript};
+use tower_base::service::{Service, Steps};
+
+// How many polls `fire` makes of a service, and of its response.
+const POLLS: u8 = 9;
+
+/// A task to poll in. Nothing runs it but the test.
+pub fn task<R: RandomSource + AllocGlobal>(rt: &R) -> io::Result<Solo> {
+    Solo::new(rt, Doorbell::spinning())
+}
+
+/// One poll of readiness.
+pub fn polled<Request, S: Service<Request>>(
+    solo: &Solo,
+    service: &mut S,
+) -> Poll<Result<(), S::Error>>
+    requires { S.sound service.old }
+    ensures polled { S.polled service.old result service.new }
+    ensures sound { S.sound service.new }
+{
+    let mut cx = solo.begin();
+    let answer = service.poll_ready(&mut cx);
+    cx.end(&answer);
+    answer
+}
+
+/// A poll of readiness, and a call where it answers `Ok`.
+pub fn called<Request: Drop, S: Service<Request>>(
+    solo: &Solo,
+    service: &mut S,
+    request: Request,
+) -> Option<S::Future>
+    requires { S.sound service.old }
+    ensures can_poll { IfSome result S.Future.can_poll }
+    ensures sound { S.sound service.new }
+{
+    match polled(solo, service) {
+        Poll::Ready(Ok(())) => Some(service.call(request)),
+        _ => None,
+    }
+}
+
+/// As `called`, within a poll that goes on.
+pub fn ask<Request: Drop, S: Service<Request>>(
+    cx: &mut Context<'_>,
+    service: &mut S,
+    request: Request,
+) -> Option<S::Future>
+    requires { S.sound service.old }
+    ensures can_poll { IfSome result S.Future.can_poll }
+    ensures sound { S.sound service.new }
+{
+    match service.poll_ready(cx) {
+        Poll::Ready(Ok(())) => Some(service.call(request)),
+        _ => None,
+    }
+}
+
+/// One poll of a future.
+pub fn stepped<F: Steps>(solo: &Solo, future: &mut F) -> Poll<F::Output>
+    requires { F.can_poll future.old }
+    ensures step { F.stepped future.old result future.new }
+    ensures again { OnPending result (F.can_poll future.new) }
+{
+    let mut cx = solo.begin();
+    let answer = future.step(&mut cx);
+    cx.cancel();
+    answer
+}
+
+/// The answer of a future, which is dropped, or none after so many polls.
+pub fn awaited<F: Steps>(solo: &Solo, mut future: F) -> Option<F::Output>
+    requires { F.can_poll future }
+{
+    for _ in 0..POLLS {
+        match stepped(solo, &mut future) {
+            Poll::Ready(answer) => return Some(answer),
+            Poll::Pending => {}
+        }
+    }
+    None
+}
+
+/// The answer of the service to one call, or none after so many polls of it or of the call's future. Both are
+/// dropped, the future first.
+pub fn fire<Request: Drop, S: Service<Request>>(
+    solo: &Solo,
+    mut service: S,
+    request: Request,
+) -> Option<Result<S::Response, S::Error>>
+    requires { S.sound service }
+{
+    for _ in 0..POLLS {
+        match polled(solo, &mut service) {
+            Poll::Ready(Ok(())) => {
+                let future = service.call(request);
+                return awaited(solo, future);
+            }
+            Poll::Ready(Err(error)) => return Some(Err(error)),
+            Poll::Pending => {}
+        }
+    }
+    None
+}
+
+/// The entries, a word or a few each before a semicolon.
+pub fn text_of<A: Display, E: Display, U: Display>(
+    alloc: Global,
+    transcript: &Transcript<A, E, U>,
+) -> Result<String, AllocError> {
+    let mut text = String::new(alloc);
+    for entry in &transcript.entries {
+        let _ = match entry {
+            Entry::Polled(Poll::Ready(Ok(()))) => write!(text, "ready;"),
+            Entry::Polled(Poll::Ready(Err(error))) => write!(text, "error {error};"),
+            Entry::Polled(Poll::Pending) => write!(text, "pending;"),
+            Entry::Called(index) => write!(text, "call {index};"),
+            Entry::Answered(index, Poll::Ready(Ok(value))) => write!(text, "{index} ok {value};"),
+            Entry::Answered(index, Poll::Ready(Err(error))) => write!(
+                text,
+                "{index} error {error};"
+            ),
+            Entry::Answered(index, Poll::Pending) => write!(text, "{index} pending;"),
+            Entry::Dropped(index) => write!(text, "drop {index};"),
+            Entry::Turned(value) => write!(text, "at {value};"),
+            Entry::Skipped => write!(text, "skipped;"),
+        };
+    }
+    Ok(text)
+}

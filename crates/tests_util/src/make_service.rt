@@ -1,0 +1,141 @@
+//! `MakeService`: each service of services is a maker, and a maker is a service.
+ghost use Rattle.std.specs.Prelude.{IfSome};
+
+use futures::task::{Context, Poll};
+use std::test::Fail;
+use tests_support::log::Log;
+use tests_support::run::{fire, stepped, task};
+use tests_support::script::{Mood, Reply, Script};
+use tests_support::service::{Maker, Place, Scripted};
+use tower_base::service::{Service, Steps};
+use tower_util::make::{MakeService, Shared};
+
+// What a maker makes at the first poll.
+fn made<M: MakeService<Target, u8>, Target: Drop>(
+    mut maker: M,
+    target: Target,
+    cx: &mut Context<'_>,
+) -> Option<Poll<Result<M::Service, M::MakeError>>>
+    requires { M.sound maker }
+{
+    match maker.poll_ready(cx) {
+        Poll::Ready(Ok(())) => Some(maker.make_service(target).step(cx)),
+        _ => None,
+    }
+}
+
+#[test]
+fn each_service_of_services_is_a_maker(rt: HostRuntime) -> Result<(), Fail> {
+    let log = Log::new(rt.alloc())?;
+    let (making, script) = (Script::new(&log), Script::new(&log));
+    let solo = task(&rt)?;
+    let maker = Maker::new(&making, 'm', &script, 'a');
+    let mut cx = solo.begin();
+    let answer = made(maker, Place::new(&script, 'p', 5), &mut cx);
+    cx.cancel();
+    let Some(Poll::Ready(Ok(service))) = answer else {
+        return Err("no service".into());
+    };
+    assert_eq!(rt;
+        log.told(rt.alloc())?.as_str(),
+        "m ready;m called 5;p dropped;m(5) ready;m(5) dropped;m dropped;"
+    );
+    assert_eq!(rt; fire(&solo, service, 6), Some(Ok(6)));
+    assert_eq!(rt;
+        log.told(rt.alloc())?.as_str(),
+        "a1 ready;a1 called 6;a1(6) ready;a1(6) dropped;a1 dropped;"
+    );
+    Ok(())
+}
+
+#[test]
+fn maker_that_is_pending_or_fails_makes_nothing(rt: HostRuntime) -> Result<(), Fail> {
+    let log = Log::new(rt.alloc())?;
+    let (making, script) = (Script::new(&log), Script::new(&log));
+    let solo = task(&rt)?;
+    making.moods(&[Mood::Busy, Mood::Willing]);
+    making.replies(&[Reply::Fail(0)]);
+    let maker = Maker::new(&making, 'm', &script, 'a');
+    let mut cx = solo.begin();
+    let answer = made(maker, Place::new(&script, 'p', 5), &mut cx);
+    cx.cancel();
+    assert!(rt; answer.is_none());
+    assert_eq!(rt;
+        log.told(rt.alloc())?.as_str(),
+        "m pending;p dropped;m dropped;"
+    );
+    let maker = Maker::new(&making, 'm', &script, 'a');
+    let mut cx = solo.begin();
+    let answer = made(maker, Place::new(&script, 'p', 5), &mut cx);
+    cx.cancel();
+    assert!(rt; matches!(answer, Some(Poll::Ready(Err(5)))));
+    assert_eq!(rt;
+        log.told(rt.alloc())?.as_str(),
+        "m ready;m called 5;p dropped;m(5) ready;m(5) dropped;m dropped;"
+    );
+    Ok(())
+}
+
+// Polls a maker by reference, and makes a service of it where it is ready: the loan comes back.
+fn made_once_ready<M, S>(maker: &mut M, cx: &mut Context<'_>) -> Option<M::Future>
+where
+    M: Service<u8, Response = S>,
+    S: Service<u8>,
+    requires { M.sound maker.old }
+    ensures { IfSome result M.Future.can_poll }
+{
+    let answer = {
+        let mut lent = MakeService::<u8, u8>::as_service(maker);
+        Service::poll_ready(&mut lent, cx)
+    };
+    match answer {
+        Poll::Ready(Ok(())) => Some(maker.call(1)),
+        _ => None,
+    }
+}
+
+#[test]
+fn maker_makes_once_it_was_found_ready_by_a_loan(rt: HostRuntime) -> Result<(), Fail> {
+    let log = Log::new(rt.alloc())?;
+    let script = Script::new(&log);
+    let solo = task(&rt)?;
+    let mut shared = Shared::new(Scripted::new(&script, 'a'));
+    let mut cx = solo.begin();
+    let made = made_once_ready(&mut shared, &mut cx);
+    cx.cancel();
+    let mut future = made.ok_or("not ready")?;
+    assert!(rt; matches!(stepped(&solo, &mut future), Poll::Ready(Ok(_))));
+    assert_eq!(rt; log.told(rt.alloc())?.as_str(), "a cloned a1;a1 dropped;");
+    Ok(())
+}
+
+#[test]
+fn maker_is_a_service_by_value_and_by_reference(rt: HostRuntime) -> Result<(), Fail> {
+    let log = Log::new(rt.alloc())?;
+    let script = Script::new(&log);
+    let solo = task(&rt)?;
+    let mut shared = Shared::new(Scripted::new(&script, 'a'));
+    let lent = MakeService::<u8, u8>::as_service(&mut shared);
+    assert!(rt; matches!(fire(&solo, lent, 1u8), Some(Ok(_))));
+    let service = MakeService::<u8, u8>::into_service(shared);
+    let copy = service.clone()?;
+    assert!(rt; matches!(fire(&solo, service, 1u8), Some(Ok(_))));
+    drop(copy);
+    assert_eq!(rt;
+        log.told(rt.alloc())?.as_str(),
+        "a cloned a1;a1 dropped;a cloned a2;a cloned a3;a dropped;a3 dropped;a2 dropped;"
+    );
+    Ok(())
+}
+
+#[test]
+fn refused_clone_of_a_maker_is_handed_on(rt: HostRuntime) -> Result<(), Fail> {
+    let log = Log::new(rt.alloc())?;
+    let script = Script::new(&log);
+    script.clones(0);
+    let service = MakeService::<u8, u8>::into_service(Shared::new(Scripted::new(&script, 'a')));
+    assert!(rt; service.clone().is_err());
+    drop(service);
+    assert_eq!(rt; log.told(rt.alloc())?.as_str(), "a refused;a dropped;");
+    Ok(())
+}

@@ -1,0 +1,384 @@
+//! `tower::util::{CallAll, CallAllUnordered}`: the order of answers, of calls and of polls, and what is dropped when.
+ghost use Rattle.std.specs.Prelude.{IfSome};
+
+use futures::task::{Poll, Solo};
+use std::alloc::Global;
+use std::fmt::Write;
+use std::test::Fail;
+use tests_support::log::Log;
+use tests_support::run::task;
+use tests_support::script::Mood::{self, Broken, Busy, Willing};
+use tests_support::script::{Reply, Script};
+use tests_support::service::Scripted;
+use tests_support::stream::{Outbox, Requests};
+use tower_base::service::Flow;
+use tower_ware::util::call_all::{Error, law};
+use tower_ware::util::{CallAll, CallAllUnordered};
+
+// What a test does before a poll.
+#[derive(Clone, Copy, Drop)]
+enum Act {
+    Nothing,
+    Open(usize),
+    OpenBoth(usize, usize),
+    // So many requests were sent in all, and the service is so.
+    Send(u8, Mood),
+    Close,
+    Mood(Mood),
+}
+
+// The test's side of the service and of the requests.
+#[derive(Drop)]
+struct Desk<'a> {
+    log: &'a Log,
+    script: Script<'a>,
+    outbox: Outbox,
+}
+
+impl<'a> Desk<'a> {
+    fn new(log: &'a Log, outbox: Outbox) -> Desk<'a> {
+        Desk {
+            log,
+            script: Script::new(log),
+            outbox,
+        }
+    }
+
+    fn act(&self, act: Act) {
+        match act {
+            Act::Nothing => {}
+            Act::Open(call) => self.script.open(call),
+            Act::OpenBoth(first, second) => {
+                self.script.open(first);
+                self.script.open(second);
+            }
+            Act::Send(sent, mood) => {
+                self.outbox.send(sent);
+                self.script.moods(&[mood]);
+            }
+            Act::Close => self.outbox.close(),
+            Act::Mood(mood) => self.script.moods(&[mood]),
+        }
+    }
+
+    fn service(&self) -> Scripted<'_> {
+        Scripted::new(&self.script, 's')
+    }
+
+    fn requests(&self) -> Requests<'_> {
+        Requests::new(self.log, &self.outbox)
+    }
+}
+
+// One poll of a stream of calls, which is dropped at its end.
+fn polled<F>(solo: &Solo, flow: &mut Option<F>, text: &mut String)
+where
+    F: Flow<Item = Result<u8, Error<u8>>>,
+    requires { IfSome flow.old F.can_poll }
+    ensures { IfSome flow.new F.can_poll }
+{
+    let Some(mut live) = flow.take() else {
+        let _ = write!(text, "gone;");
+        return;
+    };
+    let mut cx = solo.begin();
+    let answer = live.flow(&mut cx);
+    cx.cancel();
+    let _ = match answer {
+        Poll::Ready(None) => {
+            let _ = write!(text, "ended;");
+            return;
+        }
+        Poll::Ready(Some(Ok(number))) => write!(text, "{number};"),
+        Poll::Ready(Some(Err(error))) => write!(text, "error {error};"),
+        Poll::Pending => write!(text, "pending;"),
+    };
+    *flow = Some(live);
+}
+
+// A poll after each act.
+fn run<F>(
+    alloc: Global,
+    solo: &Solo,
+    desk: &Desk<'_>,
+    flow: F,
+    acts: &[Act],
+) -> Result<String, Fail>
+where
+    F: Flow<Item = Result<u8, Error<u8>>>,
+    requires { F.can_poll flow }
+{
+    let mut flow = Some(flow);
+    let mut text = String::new(alloc);
+    for act in acts {
+        desk.act(*act);
+        polled(solo, &mut flow, &mut text);
+    }
+    Ok(text)
+}
+
+fn ordered(rt: &HostRuntime, desk: &Desk<'_>, acts: &[Act]) -> Result<String, Fail> {
+    let calls = CallAll::new(rt.alloc(), desk.service(), desk.requests());
+    run(rt.alloc(), &task(rt)?, desk, calls, acts)
+}
+
+fn unordered(rt: &HostRuntime, desk: &Desk<'_>, acts: &[Act]) -> Result<String, Fail> {
+    let calls = CallAllUnordered::new(rt.alloc(), desk.service(), desk.requests());
+    run(rt.alloc(), &task(rt)?, desk, calls, acts)
+}
+
+const GATED: [Reply; 3] = [
+    Reply::Gated(Err(1)),
+    Reply::Gated(Ok(2)),
+    Reply::Gated(Ok(3)),
+];
+
+const THIRD_FIRST_SECOND: [Act; 7] = [
+    Act::Nothing,
+    Act::Open(2),
+    Act::Open(0),
+    Act::Open(1),
+    Act::Nothing,
+    Act::Nothing,
+    Act::Nothing,
+];
+
+// The calls are asked in their order, each until it has answered, and each future is dropped then.
+const THREE_CALLS: &str = "requests gave 0;s ready;s called 0;\
+    s(0) pending;requests gave 1;s ready;s called 1;\
+    s(0) pending;s(1) pending;requests gave 2;s ready;s called 2;\
+    s(0) pending;s(1) pending;s(2) pending;requests ended;\
+    s(0) pending;s(1) pending;s(2) pending;";
+
+#[test]
+fn ordered_answers_wait_for_the_earlier_ones(rt: HostRuntime) -> Result<(), Fail> {
+    let log = Log::new(rt.alloc())?;
+    let desk = Desk::new(&log, Outbox::new(3, true));
+    desk.script.replies(&GATED);
+    let text = ordered(&rt, &desk, &THIRD_FIRST_SECOND)?;
+    assert_eq!(rt; text.as_str(), "pending;pending;error 1;2;3;ended;gone;");
+    let told = log.told(rt.alloc())?;
+    assert_eq!(rt;
+        told.as_str().strip_prefix(THREE_CALLS),
+        Some(
+            "s(0) pending;s(1) pending;s(2) ready;s(2) dropped;s(0) ready;s(0) dropped;\
+             s(1) ready;s(1) dropped;s dropped;requests dropped;"
+        )
+    );
+    Ok(())
+}
+
+#[test]
+fn unordered_answers_come_as_they_are_there(rt: HostRuntime) -> Result<(), Fail> {
+    let log = Log::new(rt.alloc())?;
+    let desk = Desk::new(&log, Outbox::new(3, true));
+    desk.script.replies(&GATED);
+    let text = unordered(&rt, &desk, &THIRD_FIRST_SECOND)?;
+    assert_eq!(rt; text.as_str(), "pending;3;error 1;2;ended;gone;gone;");
+    let told = log.told(rt.alloc())?;
+    assert_eq!(rt;
+        told.as_str().strip_prefix(THREE_CALLS),
+        Some(
+            "s(0) pending;s(1) pending;s(2) ready;s(2) dropped;s(0) ready;s(0) dropped;\
+             s(1) ready;s(1) dropped;s dropped;requests dropped;"
+        )
+    );
+    Ok(())
+}
+
+#[test]
+fn readiness_error_comes_first_and_ends_the_requests(rt: HostRuntime) -> Result<(), Fail> {
+    let log = Log::new(rt.alloc())?;
+    let acts = [
+        Act::Nothing,
+        Act::Nothing,
+        Act::Open(0),
+        Act::Open(1),
+        Act::Nothing,
+    ];
+    let desk = Desk::new(&log, Outbox::new(4, true));
+    desk.script
+        .replies(&[Reply::Gated(Ok(4)), Reply::Gated(Ok(5))]);
+    desk.script.moods(&[Willing, Willing, Broken(7), Willing]);
+    let text = ordered(&rt, &desk, &acts)?;
+    assert_eq!(rt; text.as_str(), "error 7;pending;4;5;ended;");
+    let desk = Desk::new(&log, Outbox::new(4, true));
+    desk.script
+        .replies(&[Reply::Gated(Ok(4)), Reply::Gated(Ok(5))]);
+    desk.script.moods(&[Willing, Willing, Broken(7), Willing]);
+    let text = unordered(&rt, &desk, &acts)?;
+    assert_eq!(rt; text.as_str(), "error 7;pending;4;5;ended;");
+    Ok(())
+}
+
+// The second answer is kept while the first is awaited, and the third request's readiness fails.
+#[test]
+fn a_kept_answer_comes_after_the_readiness_error(rt: HostRuntime) -> Result<(), Fail> {
+    let log = Log::new(rt.alloc())?;
+    let desk = Desk::new(&log, Outbox::new(2, false));
+    desk.script
+        .replies(&[Reply::Gated(Ok(4)), Reply::Gated(Ok(5))]);
+    let acts = [
+        Act::Nothing,
+        Act::Open(1),
+        Act::Send(3, Broken(7)),
+        Act::Nothing,
+        Act::Open(0),
+        Act::Nothing,
+        Act::Nothing,
+    ];
+    let text = ordered(&rt, &desk, &acts)?;
+    assert_eq!(rt; text.as_str(), "pending;pending;error 7;pending;4;5;ended;");
+    assert_eq!(rt;
+        log.told(rt.alloc())?.as_str().split("s(1) ready;").count(),
+        2
+    );
+    Ok(())
+}
+
+#[test]
+fn readiness_error_comes_before_answers_that_are_there_too(rt: HostRuntime) -> Result<(), Fail> {
+    let log = Log::new(rt.alloc())?;
+    let acts = [
+        Act::Nothing,
+        Act::OpenBoth(0, 1),
+        Act::Nothing,
+        Act::Nothing,
+    ];
+    let desk = Desk::new(&log, Outbox::new(4, true));
+    desk.script
+        .replies(&[Reply::Gated(Ok(4)), Reply::Gated(Ok(5))]);
+    desk.script.moods(&[Willing, Willing, Broken(7)]);
+    assert_eq!(rt; ordered(&rt, &desk, &acts)?.as_str(), "error 7;4;5;ended;");
+    let desk = Desk::new(&log, Outbox::new(4, true));
+    desk.script
+        .replies(&[Reply::Gated(Ok(4)), Reply::Gated(Ok(5))]);
+    desk.script.moods(&[Willing, Willing, Broken(7)]);
+    assert_eq!(rt;
+        unordered(&rt, &desk, &acts)?.as_str(),
+        "error 7;4;5;ended;"
+    );
+    Ok(())
+}
+
+#[test]
+fn requests_that_come_later_are_called_once_the_service_is_ready(
+    rt: HostRuntime,
+) -> Result<(), Fail> {
+    let log = Log::new(rt.alloc())?;
+    let desk = Desk::new(&log, Outbox::new(0, false));
+    desk.script
+        .replies(&[Reply::Gated(Ok(6)), Reply::Gated(Ok(8))]);
+    let acts = [
+        Act::Nothing,
+        Act::Send(1, Busy),
+        Act::Open(0),
+        Act::Mood(Willing),
+        Act::Send(2, Willing),
+        Act::Close,
+        Act::Open(1),
+        Act::Nothing,
+    ];
+    let text = ordered(&rt, &desk, &acts)?;
+    assert_eq!(rt;
+        text.as_str(),
+        "pending;pending;pending;6;pending;pending;8;ended;"
+    );
+    let told = log.told(rt.alloc())?;
+    assert_eq!(rt; told.as_str().split("requests gave 0;").count(), 2);
+    assert_eq!(rt; told.as_str().split("s called 0;").count(), 2);
+    Ok(())
+}
+
+// What two polls came to, and how many calls were made by each.
+fn two_polls<F: Flow<Item = Result<u8, Error<u8>>>>(
+    rt: &HostRuntime,
+    log: &Log,
+    flow: F,
+) -> Result<(String, usize, usize), Fail>
+    requires { F.can_poll flow }
+{
+    let (alloc, solo) = (rt.alloc(), task(rt)?);
+    let mut calls = Some(flow);
+    let mut text = String::new(alloc);
+    polled(&solo, &mut calls, &mut text);
+    let first = log.told(alloc)?.as_str().split("s called").count();
+    polled(&solo, &mut calls, &mut text);
+    let second = log.told(alloc)?.as_str().split("s called").count();
+    Ok((text, first, second))
+}
+
+#[test]
+fn one_poll_makes_so_many_calls(rt: HostRuntime) -> Result<(), Fail> {
+    let log = Log::new(rt.alloc())?;
+    let desk = Desk::new(&log, Outbox::new(65, false));
+    desk.script.replies(&[Reply::Never]);
+    let calls = CallAll::new(rt.alloc(), desk.service(), desk.requests());
+    let (text, first, second) = two_polls(&rt, &log, calls)?;
+    assert_eq!(rt; (text.as_str(), first, second), ("pending;pending;", 65, 2));
+    let calls = CallAllUnordered::new(rt.alloc(), desk.service(), desk.requests());
+    let (text, first, second) = two_polls(&rt, &log, calls)?;
+    assert_eq!(rt; (text.as_str(), first, second), ("pending;pending;", 65, 2));
+    Ok(())
+}
+
+// A request that waits for the service, and what came of it once the stream was unordered.
+fn handed_over(rt: &HostRuntime, desk: &Desk<'_>) -> Result<String, Fail> {
+    let (alloc, solo) = (rt.alloc(), task(rt)?);
+    desk.script.moods(&[Busy, Willing]);
+    let mut text = String::new(alloc);
+    let mut calls = Some(CallAll::new(alloc, desk.service(), desk.requests()));
+    polled(&solo, &mut calls, &mut text);
+    let Some(calls) = calls else {
+        return Err("it ended".into());
+    };
+    if !calls.can_unorder() {
+        return Err("a call is without its answer".into());
+    }
+    let mut rest = Some(calls.unordered());
+    polled(&solo, &mut rest, &mut text);
+    Ok(text)
+}
+
+#[test]
+fn unordered_hands_a_kept_request_over(rt: HostRuntime) -> Result<(), Fail> {
+    let log = Log::new(rt.alloc())?;
+    let desk = Desk::new(&log, Outbox::new(1, true));
+    assert_eq!(rt; handed_over(&rt, &desk)?.as_str(), "pending;0;");
+    assert_eq!(rt;
+        log.told(rt.alloc())?.as_str(),
+        "requests gave 0;s pending;s ready;s called 0;s(0) ready;s(0) dropped;\
+         s dropped;requests dropped;"
+    );
+    Ok(())
+}
+
+#[test]
+fn service_comes_out_again(rt: HostRuntime) -> Result<(), Fail> {
+    let alloc = rt.alloc();
+    let log = Log::new(alloc)?;
+    let desk = Desk::new(&log, Outbox::new(1, true));
+    let mut calls = CallAll::new(alloc, desk.service(), desk.requests());
+    assert!(rt; calls.has_service() && calls.can_unorder());
+    drop(calls.take_service());
+    assert!(rt; !calls.has_service());
+    assert_eq!(rt; log.told(alloc)?.as_str(), "s dropped;");
+    assert!(rt; !calls.unordered().has_service());
+    assert_eq!(rt; log.told(alloc)?.as_str(), "requests dropped;");
+    let others = CallAllUnordered::new(alloc, desk.service(), desk.requests());
+    drop(others.into_inner());
+    assert_eq!(rt; log.told(alloc)?.as_str(), "requests dropped;s dropped;");
+    let calls = CallAll::new(alloc, desk.service(), desk.requests());
+    drop(calls.into_inner());
+    assert_eq!(rt; log.told(alloc)?.as_str(), "requests dropped;s dropped;");
+    law::<Scripted<'_>, Requests<'_>>();
+    Ok(())
+}
+
+#[test]
+fn errors_have_texts(rt: HostRuntime) -> Result<(), Fail> {
+    let (inner, memory): (Error<u8>, Error<u8>) = (Error::Inner(1), Error::Memory);
+    let text = format!(in rt.alloc(); "{inner}, {memory}")?;
+    assert_eq!(rt; text.as_str(), "1, out of memory");
+    Ok(())
+}

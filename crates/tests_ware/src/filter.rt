@@ -1,0 +1,292 @@
+//! `tower::filter`: what the predicate is asked, and which requests go inside.
+
+use futures::task::Poll;
+use std::test::Fail;
+use tests_support::future::After;
+use tests_support::log::Log;
+use tests_support::plain::Plain;
+use tests_support::run::{stepped, task};
+use tests_support::script::Mood::{Broken, Busy, Willing};
+use tests_support::script::Reply;
+use tests_support::service::Scripted;
+use tests_support::story::{Act, Stage, Story, driven};
+use tower_base::drive::Event;
+use tower_base::layer::Layer;
+use tower_ware::filter::{
+    AsyncFilter, AsyncFilterLayer, AsyncPredicateFn, Error, Filter, FilterLayer, PredicateFn,
+};
+
+// Refuses requests from 100 on, and doubles the others.
+fn doubled(log: &Log, request: u8) -> Result<u8, u8> {
+    log.note(format_args!("checked {request}"));
+    if request < 100 {
+        Ok(request * 2)
+    } else {
+        Err(request)
+    }
+}
+
+fn run(rt: &HostRuntime, stage: &Stage<'_>, events: Vec<Event<u8, Act>>) -> Result<Story, Fail> {
+    let log = stage.log;
+    let predicate = PredicateFn::new(|request: u8| doubled(log, request));
+    let service = Filter::new(Scripted::new(&stage.script, 's'), predicate);
+    driven(rt, stage, service, events)
+}
+
+// The predicate's future answers after so many polls.
+fn run_async(
+    rt: &HostRuntime,
+    stage: &Stage<'_>,
+    polls: u8,
+    events: Vec<Event<u8, Act>>,
+) -> Result<Story, Fail> {
+    let log = stage.log;
+    let check = |request: u8| After::new(log, 'c', polls, doubled(log, request));
+    let predicate = AsyncPredicateFn::new(check);
+    let service = AsyncFilter::new(Scripted::new(&stage.script, 's'), predicate);
+    driven(rt, stage, service, events)
+}
+
+#[test]
+fn checked_request_goes_inside_and_a_refused_one_does_not(rt: HostRuntime) -> Result<(), Fail> {
+    let log = Log::new(rt.alloc())?;
+    let stage = Stage::new(&log);
+    let events = vec![in rt.alloc();
+        Event::Poll,
+        Event::Call(21),
+        Event::Future(0),
+        Event::Poll,
+        Event::Call(200),
+        Event::Future(1),
+    ]?;
+    let story = run(&rt, &stage, events)?;
+    assert_eq!(rt;
+        story.entries.as_str(),
+        "ready;call 0;0 ok 42;ready;call 1;1 error 200;"
+    );
+    assert_eq!(rt;
+        story.told.as_str(),
+        "s ready;checked 21;s called 42;s(42) ready;s ready;checked 200;s dropped;s(42) dropped;"
+    );
+    Ok(())
+}
+
+#[test]
+fn readiness_and_errors_are_passed_on(rt: HostRuntime) -> Result<(), Fail> {
+    let log = Log::new(rt.alloc())?;
+    let stage = Stage::new(&log);
+    let events = || vec![in rt.alloc();
+        Event::Poll,
+        Event::Poll,
+        Event::Poll,
+        Event::Call(1),
+        Event::Future(0),
+        Event::Future(0),
+    ];
+    let expected = "pending;error 7;ready;call 0;0 pending;0 error 2;";
+    stage.script.moods(&[Busy, Broken(7), Willing]);
+    stage.script.replies(&[Reply::Fail(1)]);
+    let story = run(&rt, &stage, events()?)?;
+    assert_eq!(rt; story.entries.as_str(), expected);
+    stage.script.moods(&[Busy, Broken(7), Willing]);
+    let story = run_async(&rt, &stage, 0, events()?)?;
+    assert_eq!(rt; story.entries.as_str(), expected);
+    Ok(())
+}
+
+#[test]
+fn polled_service_is_called_once_the_check_is_ok(rt: HostRuntime) -> Result<(), Fail> {
+    let log = Log::new(rt.alloc())?;
+    let stage = Stage::new(&log);
+    let events = vec![in rt.alloc();
+        Event::Poll,
+        Event::Call(4),
+        Event::Future(0),
+        Event::Poll,
+        Event::Future(0),
+    ]?;
+    let story = run_async(&rt, &stage, 1, events)?;
+    assert_eq!(rt;
+        story.entries.as_str(),
+        "ready;call 0;0 pending;ready;0 ok 8;"
+    );
+    assert_eq!(rt;
+        story.told.as_str(),
+        "s ready;s cloned s1;checked 4;c pending;s1 ready;c ready;s called 8;c dropped;s dropped;\
+         s(8) ready;s1 dropped;s(8) dropped;"
+    );
+    Ok(())
+}
+
+#[test]
+fn refused_check_is_rejected_and_nothing_is_called(rt: HostRuntime) -> Result<(), Fail> {
+    let log = Log::new(rt.alloc())?;
+    let stage = Stage::new(&log);
+    let events = vec![in rt.alloc();
+        Event::Poll,
+        Event::Call(104),
+        Event::Future(0),
+        Event::Future(0),
+        Event::Drop(0),
+    ]?;
+    let story = run_async(&rt, &stage, 1, events)?;
+    assert_eq!(rt;
+        story.entries.as_str(),
+        "ready;call 0;0 pending;0 error 104;drop 0;"
+    );
+    assert_eq!(rt;
+        story.told.as_str(),
+        "s ready;s cloned s1;checked 104;c pending;c ready;c dropped;s dropped;s1 dropped;"
+    );
+    Ok(())
+}
+
+#[test]
+fn refused_clone_is_answered_and_nothing_is_asked(rt: HostRuntime) -> Result<(), Fail> {
+    let log = Log::new(rt.alloc())?;
+    let stage = Stage::new(&log);
+    stage.script.clones(0);
+    let events = vec![in rt.alloc();
+        Event::Poll,
+        Event::Call(4),
+        Event::Future(0),
+        Event::Turn(Act::Clones(255)),
+        Event::Poll,
+        Event::Call(5),
+        Event::Future(1),
+    ]?;
+    let story = run_async(&rt, &stage, 0, events)?;
+    assert_eq!(rt;
+        story.entries.as_str(),
+        "ready;call 0;0 error out of memory;at 0;ready;call 1;1 ok 10;"
+    );
+    assert_eq!(rt;
+        story.told.as_str(),
+        "s ready;s refused;s ready;s cloned s1;checked 5;c ready;s called 10;c dropped;s dropped;\
+         s(10) ready;s1 dropped;s(10) dropped;"
+    );
+    Ok(())
+}
+
+#[test]
+fn a_filter_checks_and_lends(rt: HostRuntime) -> Result<(), Fail> {
+    let alloc = rt.alloc();
+    let log = Log::new(alloc)?;
+    let stage = Stage::new(&log);
+    let predicate = PredicateFn::new(|request: u8| doubled(&log, request));
+    let layer = Filter::<Scripted<'_>, _>::layer(predicate).clone()?;
+    let mut filter = layer.layer(Scripted::new(&stage.script, 'a'))?;
+    assert_eq!(rt; filter.check(3), Ok(6));
+    assert_eq!(rt; filter.check(103), Err(103));
+    *filter.get_mut() = Scripted::new(&stage.script, 'b');
+    drop(filter.get_ref().clone()?);
+    drop(filter.into_inner());
+    assert_eq!(rt;
+        log.told(alloc)?.as_str(),
+        "checked 3;checked 103;a dropped;b cloned b1;b1 dropped;b dropped;"
+    );
+    Ok(())
+}
+
+#[test]
+fn an_async_filter_checks_and_lends(rt: HostRuntime) -> Result<(), Fail> {
+    let alloc = rt.alloc();
+    let log = Log::new(alloc)?;
+    let stage = Stage::new(&log);
+    let predicate = AsyncPredicateFn::new(|request: u8| After::new(
+        &log,
+        'c',
+        0,
+        doubled(&log, request),
+    ));
+    let layer = AsyncFilter::<Scripted<'_>, _>::layer(predicate).clone()?;
+    let mut filter = layer.layer(Scripted::new(&stage.script, 'a'))?;
+    let mut check = filter.check(3);
+    assert_eq!(rt; stepped(&task(&rt)?, &mut check), Poll::Ready(Ok(6)));
+    *filter.get_mut() = Scripted::new(&stage.script, 'b');
+    drop(filter.get_ref().clone()?);
+    drop(filter.into_inner());
+    assert_eq!(rt;
+        log.told(alloc)?.as_str(),
+        "checked 3;c ready;a dropped;b cloned b1;b1 dropped;b dropped;"
+    );
+    Ok(())
+}
+
+#[test]
+fn clones_have_clones_of_both_parts(rt: HostRuntime) -> Result<(), Fail> {
+    let alloc = rt.alloc();
+    let log = Log::new(alloc)?;
+    let stage = Stage::new(&log);
+    let filter = Filter::new(Scripted::new(&stage.script, 's'), Plain::new(&log, 'p'));
+    drop(filter.clone()?);
+    assert_eq!(rt;
+        log.told(alloc)?.as_str(),
+        "s cloned s1;p cloned p2;s1 dropped;p2 dropped;"
+    );
+    let filter = AsyncFilter::new(filter, Plain::new(&log, 'q'));
+    drop(filter.clone()?);
+    assert_eq!(rt;
+        log.told(alloc)?.as_str(),
+        "s cloned s3;p cloned p4;q cloned q5;s3 dropped;p4 dropped;q5 dropped;"
+    );
+    Ok(())
+}
+
+#[test]
+fn refused_clones_of_parts_are_handed_on(rt: HostRuntime) -> Result<(), Fail> {
+    let alloc = rt.alloc();
+    let log = Log::new(alloc)?;
+    let stage = Stage::new(&log);
+    let filter = Filter::new(
+        Scripted::new(&stage.script, 's'),
+        Plain::refusing(&log, 'p'),
+    );
+    let other = AsyncFilter::new(
+        Scripted::new(&stage.script, 't'),
+        Plain::refusing(&log, 'q'),
+    );
+    assert!(rt; filter.clone().is_err() && other.clone().is_err());
+    assert_eq!(rt;
+        log.told(alloc)?.as_str(),
+        "s cloned s1;p refused;s1 dropped;t cloned t2;q refused;t2 dropped;"
+    );
+    stage.script.clones(0);
+    assert!(rt; filter.clone().is_err() && other.clone().is_err());
+    assert_eq!(rt; log.told(alloc)?.as_str(), "s refused;t refused;");
+    Ok(())
+}
+
+#[test]
+fn a_layer_clones_its_predicate_or_drops_the_service(rt: HostRuntime) -> Result<(), Fail> {
+    let alloc = rt.alloc();
+    let log = Log::new(alloc)?;
+    let stage = Stage::new(&log);
+    let service = || Scripted::new(&stage.script, 's');
+    drop(FilterLayer::new(Plain::new(&log, 'p')).layer(service())?);
+    assert_eq!(rt;
+        log.told(alloc)?.as_str(),
+        "p cloned p1;s dropped;p1 dropped;p dropped;"
+    );
+    drop(AsyncFilterLayer::new(Plain::new(&log, 'p')).layer(service())?);
+    assert_eq!(rt;
+        log.told(alloc)?.as_str(),
+        "p cloned p2;s dropped;p2 dropped;p dropped;"
+    );
+    let layer = FilterLayer::new(Plain::refusing(&log, 'p'));
+    assert!(rt; layer.layer(service()).is_err() && layer.clone().is_err());
+    assert_eq!(rt; log.told(alloc)?.as_str(), "p refused;s dropped;p refused;");
+    let layer = AsyncFilterLayer::new(Plain::refusing(&log, 'q'));
+    assert!(rt; layer.layer(service()).is_err() && layer.clone().is_err());
+    assert_eq!(rt; log.told(alloc)?.as_str(), "q refused;s dropped;q refused;");
+    Ok(())
+}
+
+#[test]
+fn errors_have_texts(rt: HostRuntime) -> Result<(), Fail> {
+    let errors: [Error<u8, u8>; 3] = [Error::Inner(1), Error::Rejected(2), Error::Memory];
+    let [inner, rejected, memory] = errors;
+    let text = format!(in rt.alloc(); "{inner}, {rejected}, {memory}")?;
+    assert_eq!(rt; text.as_str(), "1, 2, out of memory");
+    Ok(())
+}

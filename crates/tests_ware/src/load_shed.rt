@@ -1,0 +1,168 @@
+//! `tower::load_shed`: a call goes inside exactly after a poll that found the inner service ready.
+
+use futures::task::Poll;
+use std::test::Fail;
+use tests_support::log::Log;
+use tests_support::run::{polled, stepped, task};
+use tests_support::script::Mood::{Broken, Busy, Willing};
+use tests_support::script::{Reply, Script};
+use tests_support::service::{Maker, Place, Scripted};
+use tests_support::story::{Stage, driven};
+use tower_base::drive::Event;
+use tower_base::layer::Layer;
+use tower_base::service::Service;
+use tower_ware::load_shed::error::Overloaded;
+use tower_ware::load_shed::{Error, LoadShed, LoadShedLayer};
+
+#[test]
+fn calls_go_inside_exactly_after_ok(rt: HostRuntime) -> Result<(), Fail> {
+    let log = Log::new(rt.alloc())?;
+    let stage = Stage::new(&log);
+    stage
+        .script
+        .moods(&[Willing, Busy, Busy, Willing, Willing, Busy]);
+    let service = LoadShedLayer::new().layer(Scripted::new(&stage.script, 's'))?;
+    let events = vec![in rt.alloc();
+        Event::Call(9),
+        Event::Poll,
+        Event::Call(1),
+        Event::Future(0),
+        Event::Poll,
+        Event::Call(2),
+        Event::Future(1),
+        Event::Poll,
+        Event::Poll,
+        Event::Call(3),
+        Event::Future(2),
+        Event::Poll,
+        Event::Poll,
+        Event::Call(4),
+        Event::Future(3),
+    ]?;
+    let story = driven(&rt, &stage, service, events)?;
+    assert_eq!(rt;
+        story.entries.as_str(),
+        "skipped;ready;call 0;0 ok 1;ready;call 1;1 error service overloaded;\
+         ready;ready;call 2;2 ok 3;ready;ready;call 3;3 error service overloaded;"
+    );
+    assert_eq!(rt;
+        story.told.as_str(),
+        "s ready;s called 1;s(1) ready;s pending;s pending;s ready;s called 3;s(3) ready;\
+         s ready;s pending;s dropped;s(1) dropped;s(3) dropped;"
+    );
+    Ok(())
+}
+
+#[test]
+fn only_an_inner_error_is_not_ok(rt: HostRuntime) -> Result<(), Fail> {
+    let log = Log::new(rt.alloc())?;
+    let stage = Stage::new(&log);
+    stage.script.moods(&[Broken(7), Busy, Willing]);
+    stage.script.replies(&[Reply::Fail(1)]);
+    let service = LoadShed::new(Scripted::new(&stage.script, 's'));
+    let events = vec![in rt.alloc();
+        Event::Poll,
+        Event::Poll,
+        Event::Poll,
+        Event::Call(1),
+        Event::Future(0),
+        Event::Future(0),
+    ]?;
+    let story = driven(&rt, &stage, service, events)?;
+    assert_eq!(rt;
+        story.entries.as_str(),
+        "error 7;ready;ready;call 0;0 pending;0 error 1;"
+    );
+    Ok(())
+}
+
+// Calls without a poll, and after one that failed.
+#[test]
+fn other_calls_are_refused(rt: HostRuntime) -> Result<(), Fail> {
+    let alloc = rt.alloc();
+    let log = Log::new(alloc)?;
+    let script = Script::new(&log);
+    script.moods(&[Willing, Broken(7)]);
+    let solo = task(&rt)?;
+    let mut shed = LoadShed::new(Scripted::new(&script, 's'));
+    let mut first = shed.call(5);
+    assert_eq!(rt;
+        stepped(&solo, &mut first),
+        Poll::Ready(Err(Error::Overloaded))
+    );
+    assert_eq!(rt; polled(&solo, &mut shed), Poll::Ready(Ok(())));
+    assert_eq!(rt; polled(&solo, &mut shed), Poll::Ready(Err(Error::Inner(7))));
+    let mut second = shed.call(5);
+    assert_eq!(rt;
+        stepped(&solo, &mut second),
+        Poll::Ready(Err(Error::Overloaded))
+    );
+    assert_eq!(rt; log.told(alloc)?.as_str(), "s ready;s error 7;");
+    Ok(())
+}
+
+#[test]
+fn flag_counts_once_and_only_where_it_was_set(rt: HostRuntime) -> Result<(), Fail> {
+    let alloc = rt.alloc();
+    let log = Log::new(alloc)?;
+    let script = Script::new(&log);
+    let solo = task(&rt)?;
+    let mut shed = LoadShed::new(Scripted::new(&script, 's'));
+    assert_eq!(rt; polled(&solo, &mut shed), Poll::Ready(Ok(())));
+    let mut clone = shed.clone()?;
+    let mut other = clone.call(4);
+    let mut first = shed.call(5);
+    let mut second = shed.call(6);
+    assert_eq!(rt;
+        stepped(&solo, &mut other),
+        Poll::Ready(Err(Error::Overloaded))
+    );
+    assert_eq!(rt; stepped(&solo, &mut first), Poll::Ready(Ok(5)));
+    assert_eq!(rt;
+        stepped(&solo, &mut second),
+        Poll::Ready(Err(Error::Overloaded))
+    );
+    assert_eq!(rt;
+        log.told(alloc)?.as_str(),
+        "s ready;s cloned s1;s called 5;s(5) ready;"
+    );
+    Ok(())
+}
+
+#[test]
+fn a_shed_request_is_dropped_at_the_call(rt: HostRuntime) -> Result<(), Fail> {
+    let alloc = rt.alloc();
+    let log = Log::new(alloc)?;
+    let script = Script::new(&log);
+    let mut shed = LoadShed::new(Maker::new(&script, 'm', &script, 's'));
+    let future = shed.call(Place::new(&script, 'p', 1));
+    assert_eq!(rt; log.told(alloc)?.as_str(), "p dropped;");
+    drop(future);
+    drop(shed);
+    assert_eq!(rt; log.told(alloc)?.as_str(), "m dropped;");
+    Ok(())
+}
+
+#[test]
+fn refused_clone_of_the_service_is_handed_on(rt: HostRuntime) -> Result<(), Fail> {
+    let alloc = rt.alloc();
+    let log = Log::new(alloc)?;
+    let script = Script::new(&log);
+    script.clones(0);
+    let shed = LoadShed::new(Scripted::new(&script, 's'));
+    assert!(rt; shed.clone().is_err());
+    assert_eq!(rt; log.told(alloc)?.as_str(), "s refused;");
+    Ok(())
+}
+
+#[test]
+fn errors_have_texts(rt: HostRuntime) -> Result<(), Fail> {
+    let (refused, inner): (Error<u8>, Error<u8>) = (Error::Overloaded, Error::Inner(7));
+    assert_eq!(rt;
+        format!(in rt.alloc(); "{refused}, {inner}, {}", Overloaded::new())?.as_str(),
+        "service overloaded, 7, service overloaded"
+    );
+    assert_eq!(rt; Overloaded::default(), Overloaded::new());
+    assert_eq!(rt; LoadShedLayer::default(), LoadShedLayer::new());
+    Ok(())
+}

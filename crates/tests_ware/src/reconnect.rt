@@ -1,0 +1,185 @@
+//! `tower::reconnect`: each poll, clone of the target, connect and drop.
+
+use std::test::Fail;
+use tests_support::log::Log;
+use tests_support::script::Mood::{Broken, Busy, Willing};
+use tests_support::script::Reply;
+use tests_support::service::{Maker, Place, Scripted};
+use tests_support::story::{Act, Stage, Story, driven};
+use tower_base::drive::Event;
+use tower_ware::reconnect::{Error, Reconnect};
+
+fn run(rt: &HostRuntime, stage: &Stage<'_>, events: Vec<Event<u8, Act>>) -> Result<Story, Fail> {
+    let maker = Maker::new(&stage.script, 'm', &stage.made, 's');
+    let service = Reconnect::new(maker, Place::new(&stage.script, 'p', 0));
+    driven(rt, stage, service, events)
+}
+
+#[test]
+fn one_poll_makes_so_many_links_and_is_then_pending(rt: HostRuntime) -> Result<(), Fail> {
+    let log = Log::new(rt.alloc())?;
+    let stage = Stage::new(&log);
+    stage.made.moods(&[Broken(1)]);
+    let story = run(&rt, &stage, vec![in rt.alloc(); Event::Poll]?)?;
+    assert_eq!(rt; story.entries.as_str(), "pending;");
+    assert_eq!(rt; story.told.as_str().split("m called 0;").count(), 23);
+    assert_eq!(rt; story.told.as_str().split(" error 1;").count(), 22);
+    Ok(())
+}
+
+#[test]
+fn failed_connect_is_the_answer_of_the_next_call(rt: HostRuntime) -> Result<(), Fail> {
+    let log = Log::new(rt.alloc())?;
+    let stage = Stage::new(&log);
+    stage
+        .script
+        .replies(&[Reply::Give(0, Err(5)), Reply::Echo(0)]);
+    let events = vec![in rt.alloc();
+        Event::Poll,
+        Event::Call(1),
+        Event::Future(0),
+        Event::Poll,
+        Event::Call(2),
+        Event::Future(1),
+    ]?;
+    let story = run(&rt, &stage, events)?;
+    assert_eq!(rt;
+        story.entries.as_str(),
+        "ready;call 0;0 error 5;ready;call 1;1 ok 2;"
+    );
+    assert_eq!(rt;
+        story.told.as_str(),
+        "m ready;p cloned p1;m called 0;p1 dropped;m(0) ready;m(0) dropped;\
+         m ready;p cloned p2;m called 0;p2 dropped;m(0) ready;m(0) dropped;s3 ready;s3 called 2;s3(2) ready;\
+         m dropped;s3 dropped;p dropped;s3(2) dropped;"
+    );
+    Ok(())
+}
+
+#[test]
+fn later_failure_takes_the_place_of_an_older_one(rt: HostRuntime) -> Result<(), Fail> {
+    let log = Log::new(rt.alloc())?;
+    let stage = Stage::new(&log);
+    stage
+        .script
+        .replies(&[Reply::Give(0, Err(5)), Reply::Give(0, Err(6))]);
+    let events = vec![in rt.alloc(); Event::Poll, Event::Poll, Event::Call(1), Event::Future(0)]?;
+    let story = run(&rt, &stage, events)?;
+    assert_eq!(rt; story.entries.as_str(), "ready;ready;call 0;0 error 6;");
+    assert_eq!(rt; story.told.as_str().split("m called 0;").count(), 3);
+    Ok(())
+}
+
+#[test]
+fn kept_error_comes_before_the_link_made_since(rt: HostRuntime) -> Result<(), Fail> {
+    let log = Log::new(rt.alloc())?;
+    let stage = Stage::new(&log);
+    stage
+        .script
+        .replies(&[Reply::Give(0, Err(5)), Reply::Echo(0)]);
+    let events = vec![in rt.alloc();
+        Event::Poll,
+        Event::Poll,
+        Event::Call(1),
+        Event::Poll,
+        Event::Call(2),
+        Event::Future(0),
+        Event::Future(1),
+    ]?;
+    let story = run(&rt, &stage, events)?;
+    assert_eq!(rt;
+        story.entries.as_str(),
+        "ready;ready;call 0;ready;call 1;0 error 5;1 ok 2;"
+    );
+    assert_eq!(rt; story.told.as_str().split("m called 0;").count(), 3);
+    assert_eq!(rt; story.told.as_str().split("s3 called").count(), 2);
+    Ok(())
+}
+
+// The target is cloned only once the maker is ready.
+#[test]
+fn maker_that_waits_or_fails_leaves_it_idle(rt: HostRuntime) -> Result<(), Fail> {
+    let log = Log::new(rt.alloc())?;
+    let stage = Stage::new(&log);
+    stage.script.moods(&[Busy, Broken(8), Willing]);
+    stage.script.clones(0);
+    let events = vec![in rt.alloc();
+        Event::Poll,
+        Event::Poll,
+        Event::Poll,
+        Event::Turn(Act::Clones(255)),
+        Event::Poll,
+        Event::Call(3),
+        Event::Future(0),
+    ]?;
+    let story = run(&rt, &stage, events)?;
+    assert_eq!(rt;
+        story.entries.as_str(),
+        "pending;error 8;error out of memory;at 0;ready;call 0;0 ok 3;"
+    );
+    assert_eq!(rt;
+        story.told.as_str(),
+        "m pending;m error 8;m ready;p refused;\
+         m ready;p cloned p1;m called 0;p1 dropped;m(0) ready;m(0) dropped;s2 ready;s2 called 3;s2(3) ready;\
+         m dropped;s2 dropped;p dropped;s2(3) dropped;"
+    );
+    Ok(())
+}
+
+#[test]
+fn a_connect_that_waits_is_polled_again(rt: HostRuntime) -> Result<(), Fail> {
+    let log = Log::new(rt.alloc())?;
+    let stage = Stage::new(&log);
+    stage.script.replies(&[Reply::Echo(1)]);
+    stage.made.replies(&[Reply::Fail(1)]);
+    let events = vec![in rt.alloc();
+        Event::Poll,
+        Event::Poll,
+        Event::Call(4),
+        Event::Future(0),
+        Event::Future(0),
+    ]?;
+    let story = run(&rt, &stage, events)?;
+    assert_eq!(rt;
+        story.entries.as_str(),
+        "pending;ready;call 0;0 pending;0 error 4;"
+    );
+    assert_eq!(rt;
+        story.told.as_str(),
+        "m ready;p cloned p1;m called 0;p1 dropped;m(0) pending;m(0) ready;m(0) dropped;s2 ready;\
+         s2 called 4;s2(4) pending;s2(4) ready;m dropped;s2 dropped;p dropped;s2(4) dropped;"
+    );
+    Ok(())
+}
+
+#[test]
+fn link_that_fails_is_made_anew(rt: HostRuntime) -> Result<(), Fail> {
+    let log = Log::new(rt.alloc())?;
+    let stage = Stage::new(&log);
+    stage.made.moods(&[Busy, Broken(3), Willing]);
+    let maker = Maker::new(&stage.script, 'm', &stage.made, 's');
+    let service = Reconnect::with_connection(
+        Scripted::new(&stage.made, 'a'),
+        maker,
+        Place::new(&stage.script, 'p', 0),
+    );
+    let events = vec![in rt.alloc(); Event::Poll, Event::Poll, Event::Call(4), Event::Future(0)]?;
+    let story = driven(&rt, &stage, service, events)?;
+    assert_eq!(rt; story.entries.as_str(), "pending;ready;call 0;0 ok 4;");
+    assert_eq!(rt;
+        story.told.as_str(),
+        "a pending;a error 3;a dropped;\
+         m ready;p cloned p1;m called 0;p1 dropped;m(0) ready;m(0) dropped;s2 ready;s2 called 4;s2(4) ready;\
+         m dropped;s2 dropped;p dropped;s2(4) dropped;"
+    );
+    Ok(())
+}
+
+#[test]
+fn errors_have_texts(rt: HostRuntime) -> Result<(), Fail> {
+    let errors: [Error<u8, u8>; 3] = [Error::Inner(1), Error::Make(2), Error::Memory];
+    let [inner, make, memory] = errors;
+    let text = format!(in rt.alloc(); "{inner}, {make}, {memory}")?;
+    assert_eq!(rt; text.as_str(), "1, 2, out of memory");
+    Ok(())
+}

@@ -1,0 +1,154 @@
+//! `tower::steer`: which services are asked and called, and in which order.
+ghost use Rattle.std.specs.Prelude.{◌<◌, length};
+
+use std::fmt::Display;
+use std::test::Fail;
+use tests_support::log::Log;
+use tests_support::script::Mood::{Broken, Busy, Willing};
+use tests_support::service::Scripted;
+use tests_support::story::{Act, Stage, Story, driven};
+use tower_base::drive::Event;
+use tower_base::service::Service;
+use tower_ware::steer::{PickerFn, Steer};
+
+// So many services under one steer, which always picks the same: `a` by the script, `b`, `c` and so on by the other.
+fn run(
+    rt: &HostRuntime,
+    stage: &Stage<'_>,
+    count: u8,
+    pick: usize,
+    events: Vec<Event<u8, Act>>,
+) -> Result<Story, Fail> {
+    let (alloc, log) = (rt.alloc(), stage.log);
+    let mut services = vec![in alloc; Scripted::new(&stage.script, 'a')]?;
+    for number in 1..count {
+        let letter = if number == 1 { 'b' } else { 'c' };
+        services
+            .push(Scripted::new(&stage.made, letter))
+            .map_err(|_| "no room")?;
+    }
+    let f = |request: &u8, services: &[Scripted<'_>]| -> usize
+        ensures { 0 < length services.now → result < length services.now }
+    {
+        let count = services.len();
+        log.note(format_args!("picked for {request} of {count}"));
+        if pick < count { pick } else { 0 }
+    };
+    if services.is_empty() {
+        return Err("no services".into());
+    }
+    let steer = Steer::new(alloc, services, PickerFn::new(f))?;
+    driven(rt, stage, steer, events)
+}
+
+#[test]
+fn picked_service_is_called_and_asked_again(rt: HostRuntime) -> Result<(), Fail> {
+    let log = Log::new(rt.alloc())?;
+    let stage = Stage::new(&log);
+    let events = vec![in rt.alloc();
+        Event::Poll,
+        Event::Call(5),
+        Event::Future(0),
+        Event::Poll,
+        Event::Poll,
+    ]?;
+    let story = run(&rt, &stage, 2, 1, events)?;
+    assert_eq!(rt; story.entries.as_str(), "ready;call 0;0 ok 5;ready;ready;");
+    assert_eq!(rt;
+        story.told.as_str(),
+        "a ready;b ready;picked for 5 of 2;b called 5;b(5) ready;b ready;\
+         a dropped;b dropped;b(5) dropped;"
+    );
+    Ok(())
+}
+
+#[test]
+fn all_of_many_services_are_asked(rt: HostRuntime) -> Result<(), Fail> {
+    let log = Log::new(rt.alloc())?;
+    let stage = Stage::new(&log);
+    let story = run(&rt, &stage, 65, 0, vec![in rt.alloc(); Event::Poll]?)?;
+    assert_eq!(rt; story.entries.as_str(), "ready;");
+    assert_eq!(rt; story.told.as_str().split("c ready;").count(), 64);
+    Ok(())
+}
+
+#[test]
+fn service_that_fails_stays_in_front(rt: HostRuntime) -> Result<(), Fail> {
+    let log = Log::new(rt.alloc())?;
+    let stage = Stage::new(&log);
+    stage.made.moods(&[Broken(7), Willing]);
+    let events = vec![in rt.alloc(); Event::Poll, Event::Poll]?;
+    let story = run(&rt, &stage, 3, 0, events)?;
+    assert_eq!(rt; story.entries.as_str(), "error 7;ready;");
+    assert_eq!(rt;
+        story.told.as_str(),
+        "a ready;b error 7;b ready;c ready;a dropped;b dropped;c dropped;"
+    );
+    Ok(())
+}
+
+#[test]
+fn one_service_that_waits_holds_all_up(rt: HostRuntime) -> Result<(), Fail> {
+    let log = Log::new(rt.alloc())?;
+    let stage = Stage::new(&log);
+    stage.made.moods(&[Busy]);
+    let events = vec![in rt.alloc(); Event::Poll, Event::Call(0), Event::Poll]?;
+    let story = run(&rt, &stage, 3, 0, events)?;
+    assert_eq!(rt; story.entries.as_str(), "pending;skipped;pending;");
+    assert_eq!(rt;
+        story.told.as_str(),
+        "a ready;b pending;b pending;a dropped;b dropped;c dropped;"
+    );
+    Ok(())
+}
+
+// A poll of the service, and a run of a clone, which asks each of its services anew.
+fn polled_beside_clones<S: Service<u8> + Clone>(
+    rt: &HostRuntime,
+    stage: &Stage<'_>,
+    service: S,
+) -> Result<(Story, Story, bool), Fail>
+where
+    S::Response: Display,
+    S::Error: Display,
+    requires sound { S.sound service }
+    requires clones { (x y : S) → S.is_clone x y → S.sound x → S.sound y }
+{
+    let clone = service.clone()?;
+    let first = driven(rt, stage, clone, vec![in rt.alloc(); Event::Poll]?)?;
+    stage.script.clones(0);
+    let is_refused = service.clone().is_err();
+    let second = driven(rt, stage, service, vec![in rt.alloc(); Event::Poll]?)?;
+    Ok((first, second, is_refused))
+}
+
+fn beside_clones(rt: &HostRuntime, stage: &Stage<'_>) -> Result<(Story, Story, bool), Fail> {
+    let alloc = rt.alloc();
+    let services = vec![in alloc;
+        Scripted::new(&stage.script, 'a'),
+        Scripted::new(&stage.script, 'b'),
+    ]?;
+    let f = |_request: &u8, services: &[Scripted<'_>]| -> usize
+        ensures { 0 < length services.now → result < length services.now }
+    { services.len().saturating_sub(1) };
+    let steer = Steer::new(alloc, services, PickerFn::new(f))?;
+    let polled = polled_beside_clones(rt, stage, steer)?;
+    Ok(polled)
+}
+
+#[test]
+fn clone_asks_each_service_anew(rt: HostRuntime) -> Result<(), Fail> {
+    let log = Log::new(rt.alloc())?;
+    let stage = Stage::new(&log);
+    let (first, second, is_refused) = beside_clones(&rt, &stage)?;
+    assert!(rt; is_refused);
+    assert_eq!(rt;
+        first.told.as_str(),
+        "a cloned a1;b cloned b2;a1 ready;b2 ready;a1 dropped;b2 dropped;"
+    );
+    assert_eq!(rt;
+        second.told.as_str(),
+        "a refused;a ready;b ready;a dropped;b dropped;"
+    );
+    Ok(())
+}

@@ -1,0 +1,182 @@
+//! `tower::timeout`: deadlines, readings and what is passed on.
+
+use std::test::Fail;
+use tests_support::clock::Hand;
+use tests_support::log::Log;
+use tests_support::script::Mood::{Broken, Busy, Willing};
+use tests_support::script::Reply;
+use tests_support::service::Scripted;
+use tests_support::story::{Act, Stage, Story, driven};
+use tower_base::drive::Event;
+use tower_base::layer::Layer;
+use tower_ware::timeout::error::Elapsed;
+use tower_ware::timeout::{Error, Timeout, TimeoutLayer};
+
+fn run(
+    rt: &HostRuntime,
+    stage: &Stage<'_>,
+    duration: u64,
+    events: Vec<Event<u8, Act>>,
+) -> Result<Story, Fail> {
+    let inner = Scripted::new(&stage.script, 's');
+    let service = Timeout::new(inner, duration, Hand::new(stage.log, &stage.moment));
+    driven(rt, stage, service, events)
+}
+
+#[test]
+fn pending_before_the_deadline_and_an_error_at_it(rt: HostRuntime) -> Result<(), Fail> {
+    let log = Log::new(rt.alloc())?;
+    let stage = Stage::new(&log);
+    stage.script.replies(&[Reply::Never]);
+    let events = vec![in rt.alloc();
+        Event::Poll,
+        Event::Call(1),
+        Event::Turn(Act::At(9)),
+        Event::Future(0),
+        Event::Turn(Act::At(10)),
+        Event::Future(0),
+    ]?;
+    let story = run(&rt, &stage, 10, events)?;
+    assert_eq!(rt;
+        story.entries.as_str(),
+        "ready;call 0;at 9;0 pending;at 10;0 error request timed out;"
+    );
+    assert_eq!(rt;
+        story.told.as_str(),
+        "s ready;s called 1;clock read 0;clock shared;s(1) pending;clock read 9;\
+         s(1) pending;clock read 10;s dropped;clock dropped;s(1) dropped;clock dropped;"
+    );
+    Ok(())
+}
+
+#[test]
+fn response_at_the_deadline_wins(rt: HostRuntime) -> Result<(), Fail> {
+    let log = Log::new(rt.alloc())?;
+    let stage = Stage::new(&log);
+    stage.script.replies(&[Reply::Gated(Ok(7))]);
+    let events = vec![in rt.alloc();
+        Event::Poll,
+        Event::Call(1),
+        Event::Future(0),
+        Event::Turn(Act::At(10)),
+        Event::Turn(Act::Open(0)),
+        Event::Future(0),
+    ]?;
+    let story = run(&rt, &stage, 10, events)?;
+    assert_eq!(rt;
+        story.entries.as_str(),
+        "ready;call 0;0 pending;at 10;at 10;0 ok 7;"
+    );
+    assert_eq!(rt;
+        story.told.as_str(),
+        "s ready;s called 1;clock read 0;clock shared;s(1) pending;clock read 0;s(1) ready;\
+         s dropped;clock dropped;s(1) dropped;clock dropped;"
+    );
+    Ok(())
+}
+
+#[test]
+fn deadline_past_the_last_moment_never_comes(rt: HostRuntime) -> Result<(), Fail> {
+    let log = Log::new(rt.alloc())?;
+    let stage = Stage::new(&log);
+    stage.script.replies(&[Reply::Never]);
+    let events = vec![in rt.alloc();
+        Event::Turn(Act::At(u64::MAX)),
+        Event::Poll,
+        Event::Call(1),
+        Event::Future(0),
+    ]?;
+    let story = run(&rt, &stage, u64::MAX, events)?;
+    assert_eq!(rt;
+        story.entries.as_str(),
+        "at 18446744073709551615;ready;call 0;0 pending;"
+    );
+    Ok(())
+}
+
+#[test]
+fn readiness_and_errors_are_passed_on_without_a_reading(rt: HostRuntime) -> Result<(), Fail> {
+    let log = Log::new(rt.alloc())?;
+    let stage = Stage::new(&log);
+    stage.script.moods(&[Busy, Broken(7), Willing]);
+    stage.script.replies(&[Reply::Fail(0)]);
+    let events = vec![in rt.alloc();
+        Event::Poll,
+        Event::Poll,
+        Event::Poll,
+        Event::Call(1),
+        Event::Future(0),
+    ]?;
+    let story = run(&rt, &stage, 0, events)?;
+    assert_eq!(rt;
+        story.entries.as_str(),
+        "pending;error 7;ready;call 0;0 error 1;"
+    );
+    assert_eq!(rt;
+        story.told.as_str(),
+        "s pending;s error 7;s ready;s called 1;clock read 0;clock shared;s(1) ready;\
+         s dropped;clock dropped;s(1) dropped;clock dropped;"
+    );
+    Ok(())
+}
+
+#[test]
+fn layer_and_clones_share_the_clock_and_read_nothing(rt: HostRuntime) -> Result<(), Fail> {
+    let alloc = rt.alloc();
+    let log = Log::new(alloc)?;
+    let stage = Stage::new(&log);
+    let layer = TimeoutLayer::new(5, Hand::new(&log, &stage.moment)).clone()?;
+    assert_eq!(rt; log.told(alloc)?.as_str(), "clock shared;clock dropped;");
+    let service = layer.layer(Scripted::new(&stage.script, 's'))?;
+    assert_eq!(rt; log.told(alloc)?.as_str(), "clock shared;");
+    stage.script.clones(1);
+    let clone = service.clone()?;
+    assert_eq!(rt; log.told(alloc)?.as_str(), "s cloned s1;clock shared;");
+    assert!(rt; service.clone().is_err());
+    assert_eq!(rt; log.told(alloc)?.as_str(), "s refused;");
+    drop(service.into_inner());
+    assert_eq!(rt; log.told(alloc)?.as_str(), "clock dropped;s dropped;");
+    stage.script.replies(&[Reply::Never]);
+    let events = vec![in alloc;
+        Event::Poll,
+        Event::Call(1),
+        Event::Turn(Act::At(4)),
+        Event::Future(0),
+        Event::Turn(Act::At(5)),
+        Event::Future(0),
+    ]?;
+    let story = driven(&rt, &stage, clone, events)?;
+    assert_eq!(rt;
+        story.entries.as_str(),
+        "ready;call 0;at 4;0 pending;at 5;0 error request timed out;"
+    );
+    Ok(())
+}
+
+#[test]
+fn inner_service_is_lent(rt: HostRuntime) -> Result<(), Fail> {
+    let alloc = rt.alloc();
+    let log = Log::new(alloc)?;
+    let stage = Stage::new(&log);
+    let clock = Hand::new(&log, &stage.moment);
+    let mut service = Timeout::new(Scripted::new(&stage.script, 'a'), 5, clock);
+    *service.get_mut() = Scripted::new(&stage.script, 'b');
+    drop(service.get_ref().clone()?);
+    assert_eq!(rt;
+        log.told(alloc)?.as_str(),
+        "a dropped;b cloned b1;b1 dropped;"
+    );
+    Ok(())
+}
+
+#[test]
+fn errors_have_texts(rt: HostRuntime) -> Result<(), Fail> {
+    let alloc = rt.alloc();
+    let (inner, elapsed): (Error<u8>, Error<u8>) = (Error::Inner(3), Error::Elapsed);
+    assert_eq!(rt;
+        format!(in alloc; "{inner}, {elapsed}, {}", Elapsed::new())?.as_str(),
+        "3, request timed out, request timed out"
+    );
+    assert_eq!(rt; Elapsed::new(), Elapsed::default());
+    Ok(())
+}

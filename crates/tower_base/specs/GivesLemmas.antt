@@ -1,0 +1,55 @@
+-- What one poll of a future or stream says of what it may give or yield.
+use Rattle.std.specs.Prelude.{ℕ, suc, zero, List, [], ◌∷◌, Option, Some, None, IfSome}
+use Rattle.futures.specs.declared.task.Poll.{Poll}
+use Rattle.futures.specs.declared.task.Poll.TheVariants.{Ready, Pending}
+use Rattle.futures.specs.Poll.{IfReady, OnPending}
+use Rattle.futures.specs.Runs.{After, Within}
+use Rattle.tower_base.specs.Gives.{GivesAfter, MayGive, GivesOnly, Yields, MayYield}
+
+module _ {F A : Type 0} (stepped : F → Poll A → F → Type 0) where
+  -- an answer is an output that the future may give
+  pub gives_value : (f : F) (a : Poll A) (g : F) → stepped f a g → IfReady a (MayGive stepped f)
+  unfolding MayGive
+  gives_value f (Ready x) g s = (0, (g, s))
+  gives_value f Pending g s = tt
+
+  -- after a pending poll the future may give no more than before it
+  pub gives_same : (f : F) (a : Poll A) (g : F) → stepped f a g → OnPending a ((x : A) → MayGive stepped g x → MayGive stepped f x)
+  unfolding MayGive
+  gives_same f (Ready x) g s = tt
+  gives_same f Pending g s = λ x h. (suc h.0, (g, s, h.1))
+
+module _ {F A : Type 0} (gives : F → A → Type 0) where
+  given_after : (n : ℕ) (f : F) (x : A) → GivesAfter (GivesOnly gives) n f x → gives f x
+  given_after zero f x h = h.1.0
+  given_after (suc n) f x h = h.1.1 x (given_after n h.0 x h.2)
+
+  -- a future of which only its outputs are known may give only those outputs
+  pub gives_only : (f : F) (x : A) → MayGive (GivesOnly gives) f x → gives f x
+  unfolding MayGive
+  gives_only f x h = given_after h.0 f x h.1
+
+module _ {F A : Type 0} (flowed : F → Poll (Option A) → F → Type 0) where
+  -- an answer is one that the stream may yield next
+  pub yields_value : (f : F) (a : Poll (Option A)) (g : F) → flowed f a g → IfReady a (MayYield flowed f [])
+  unfolding MayYield
+  yields_value f (Ready o) g s = (0, (g, s, tt))
+  yields_value f Pending g s = tt
+
+  -- what comes after an item came after it before
+  pub yields_rest : (f : F) (a : Poll (Option A)) (g : F) → flowed f a g
+      → IfReady a (λ o. IfSome o (λ x. After (MayYield flowed f) x (MayYield flowed g)))
+  unfolding MayYield
+  yields_rest f (Ready (Some x)) g s = λ xs last h. (0, (g, s, h))
+  yields_rest f (Ready None) g s = tt
+  yields_rest f Pending g s = tt
+
+  later : (f g : F) → flowed f Pending g → (xs : List A) (last : Option A) → Yields flowed xs last g → Yields flowed xs last f
+  later f g s [] last h = (suc h.0, (g, s, h.1))
+  later f g s (x ∷ xs) last h = (suc h.0, (g, s, h.1))
+
+  -- after a pending poll the stream may yield no more than before it
+  pub yields_same : (f : F) (a : Poll (Option A)) (g : F) → flowed f a g → OnPending a (Within (MayYield flowed f) (MayYield flowed g))
+  unfolding MayYield
+  yields_same f (Ready o) g s = tt
+  yields_same f Pending g s = λ xs last h. later f g s xs last h

@@ -1,0 +1,214 @@
+//! A list of values in one order. A value keeps its key, also once it is taken out of the order.
+ghost use Rattle.std.specs.Prelude.{◌≡◌, ◌+◌, ◌<◌, ◌≤◌, ◌^◌, true, ◌∷◌, ◌++◌, [], Some, None, OnOk, OnSome, IfNone, IsOk, length};
+ghost use Rattle.slab.specs.Slab.{get, slab_len, HasRoomFor, Updates};
+ghost use Rattle.tower_base.specs.Order.{has, without, first_or, is_linked};
+ghost use Rattle.tower_base.specs.Cells.{place_of, value_of};
+ghost use Rattle.tower_base.specs.Ends.{left_slab, left_ends, pushed_slab, pushed_ends};
+
+mod cells;
+mod touches;
+
+use cells::{Cells, Entry, Place};
+use std::alloc::{AllocError, Global};
+use std::marker::Model;
+
+// The ends of the order, and its length.
+#[derive(Drop)]
+struct Ends {
+    first: Option<usize>,
+    last: Option<usize>,
+    len: usize,
+}
+
+/// Values under keys of their own, some of them in one order.
+#[derive(Drop)]
+pub struct Links<T> {
+    cells: Cells<T>,
+    ends: Ends,
+}
+
+impl<T> Model for Links<T> {
+    ghost use Rattle.std.specs.Prelude.{List, ℕ};
+    ghost use Rattle.tower_base.specs.Links.{LinksView, links_code};
+
+    ghost Value = { LinksView T };
+
+    ghost coded = { links_code T.code };
+
+    ghost use Rattle.tower_base.specs.Cells.{values_of};
+    ghost use Rattle.tower_base.specs.Ends.{order_of, IsSound};
+
+    ghost view = { λ l. record {
+      order = order_of l.cells.slab l.ends;
+      entries = values_of l.cells.slab;
+      touches = l.cells.touches.count;
+    } };
+
+    ghost invariant = { λ l. IsSound l.cells.slab l.ends };
+}
+
+// The last entry so far names the one at `key`, which is the last now.
+fn arrive<T>(cells: &mut Cells<T>, ends: &mut Ends, key: usize)
+    requires { ends.old.len + 1 < 2 ^ 64 }
+    ensures slab { cells.new.slab ≡ pushed_slab cells.old.slab key ends.old }
+    ensures ends { ends.new ≡ pushed_ends key ends.old }
+    ensures touches { cells.new.touches.count ≤ cells.old.touches.count + 1 }
+{
+    match ends.last {
+        Some(last) => cells.set_next(last, Some(key)),
+        None => ends.first = Some(key),
+    }
+    ends.last = Some(key);
+    ends.len += 1;
+}
+
+// The entries on both sides of one that stood there name each other.
+fn leave<T>(cells: &mut Cells<T>, ends: &mut Ends, place: Option<Place>) -> bool
+    requires { is_linked place ≡ true → 0 < ends.old.len }
+    ensures linked { result ≡ is_linked place }
+    ensures slab { cells.new.slab ≡ left_slab cells.old.slab place }
+    ensures ends { ends.new ≡ left_ends place ends.old }
+    ensures touches { cells.new.touches.count ≤ cells.old.touches.count + 2 }
+{
+    let Some(Place::Linked(previous, next)) = place else {
+        return false;
+    };
+    match previous {
+        Some(key) => cells.set_next(key, next),
+        None => ends.first = next,
+    }
+    match next {
+        Some(key) => cells.set_previous(key, previous),
+        None => ends.last = previous,
+    }
+    ends.len -= 1;
+    true
+}
+
+impl<T> Links<T> {
+    ghost use Rattle.std.specs.Borrow.{sem};
+    ghost use Rattle.std.specs.Prelude.{option_copied};
+    ghost use Rattle.tower_base.specs.LinksLends.{ends_looked};
+
+    /// An empty list, which allocates nothing until the first `reserve`.
+    pub fn new(alloc: Global) -> Links<T>
+        ensures order { result.order ≡ [] }
+        ensures entries { result.entries.slots ≡ [] }
+        ensures capacity { result.entries.capacity ≡ 0 }
+        ensures touches { result.touches ≡ 0 }
+    {
+        Links {
+            cells: Cells::new(alloc),
+            ends: Ends {
+                first: None,
+                last: None,
+                len: 0,
+            },
+        }
+    }
+
+    /// Makes room for `additional` more values.
+    pub fn reserve(&mut self, additional: usize) -> Result<(), AllocError>
+        ensures room { OnOk result (HasRoomFor self.new.entries additional) }
+        ensures succeeds { HasRoomFor self.old.entries additional → IsOk result }
+        ensures order { self.new.order ≡ self.old.order }
+        ensures capacity { self.old.entries.capacity ≤ self.new.entries.capacity }
+        ensures rest_kept { self.new.entries ≡ record self.old.entries { capacity = self.new.entries.capacity } }
+        ensures touches { self.new.touches ≡ self.old.touches }
+    {
+        self.cells.reserve(additional)
+    }
+
+    /// Puts a value behind the last, under the key that it returns.
+    pub fn push_back(&mut self, value: T) -> usize
+        requires { HasRoomFor self.old.entries 1 }
+        ensures was_vacant { get self.old.entries result ≡ None }
+        ensures order { self.new.order ≡ self.old.order ++ result ∷ [] }
+        ensures entries { Updates self.old.entries self.new.entries result (Some value) }
+        ensures len { slab_len self.new.entries ≡ slab_len self.old.entries + 1 }
+        ensures capacity { self.new.entries.capacity ≡ self.old.entries.capacity }
+        ensures touches { self.new.touches ≤ self.old.touches + 2 }
+    {
+        let _capacity = self.cells.capacity();
+        let key = self
+            .cells
+            .insert(value, Place::Linked(self.ends.last, None));
+        arrive(&mut self.cells, &mut self.ends, key);
+        key
+    }
+
+    /// The key of the first value in the order. It reaches no entry.
+    pub fn front(&self) -> Option<usize>
+        ensures { result ≡ first_or self.now.order None }
+    {
+        self.ends.first
+    }
+
+    /// How many values are in the order. It reaches no entry.
+    pub fn len(&self) -> usize
+        ensures { result ≡ length self.now.order }
+    {
+        self.ends.len
+    }
+
+    /// The value under the key, in the order or not.
+    pub fn get(&mut self, key: usize) -> Option<&T>
+        ensures* rests { sem 𝓛 (ends_looked T.row self.entry) }
+        ensures value { option_copied result ≡ get self.old.entries key }
+    {
+        self.cells.get(key)
+    }
+
+    /// Whether the value under the key is in the order.
+    pub fn is_linked(&mut self, key: usize) -> bool
+        ensures linked { result ≡ has self.old.order key }
+        ensures order { self.new.order ≡ self.old.order }
+        ensures entries { self.new.entries ≡ self.old.entries }
+        ensures touches { self.new.touches ≤ self.old.touches + 1 }
+    {
+        let place = self.cells.place(key);
+        stands_linked(place)
+    }
+
+    /// Takes a value out of the order. It stays under its key. It tells whether it was in the order.
+    pub fn unlink(&mut self, key: usize) -> bool
+        ensures linked { result ≡ has self.old.order key }
+        ensures order { self.new.order ≡ without self.old.order key }
+        ensures entries { self.new.entries ≡ self.old.entries }
+        ensures touches { self.new.touches ≤ self.old.touches + 3 }
+    {
+        let place = self.cells.put(key, Place::Outside);
+        leave(&mut self.cells, &mut self.ends, place)
+    }
+
+    /// Removes a value and frees its key, whether it is in the order or not.
+    pub fn remove(&mut self, key: usize) -> Option<T>
+        ensures value { result ≡ get self.old.entries key }
+        ensures order { self.new.order ≡ without self.old.order key }
+        ensures entries { Updates self.old.entries self.new.entries key None }
+        ensures len { OnSome result (slab_len self.new.entries + 1 ≡ slab_len self.old.entries) }
+        ensures absent { IfNone result (self.new.entries ≡ self.old.entries) }
+        ensures capacity { self.new.entries.capacity ≡ self.old.entries.capacity }
+        ensures touches { self.new.touches ≤ self.old.touches + 3 }
+    {
+        let (place, value) = parts(self.cells.remove(key));
+        leave(&mut self.cells, &mut self.ends, place);
+        value
+    }
+}
+
+fn stands_linked(place: Option<Place>) -> bool
+    ensures { result ≡ is_linked place }
+{
+    matches!(place, Some(Place::Linked(_, _)))
+}
+
+fn parts<T>(entry: Option<Entry<T>>) -> (Option<Place>, Option<T>)
+    ensures place { result.0 ≡ place_of entry }
+    ensures value { result.1 ≡ value_of entry }
+{
+    match entry {
+        Some(Entry { value, place }) => (Some(place), Some(value)),
+        None => (None, None),
+    }
+}

@@ -1,0 +1,161 @@
+//! The slab, and the only calls that reach one of its entries. Each reaches one entry at most, and counts one touch.
+ghost use Rattle.std.specs.Prelude.{◌≡◌, ◌+◌, ◌≤◌, ◌<◌, [], Some, None, OnOk, IsOk, OnSome, IfNone};
+ghost use Rattle.slab.specs.Slab.{get, slab_len, HasRoomFor, Updates};
+ghost use Rattle.tower_base.specs.Cells.{place_at, entry, with_place};
+ghost use Rattle.tower_base.specs.Order.{with_next, with_previous};
+
+use crate::links::touches::Touches;
+use slab::Slab;
+use std::alloc::{AllocError, Global};
+use std::mem;
+
+/// Where an entry stands: between two others in the order, or outside it.
+#[derive(Clone, Copy, Debug)]
+pub enum Place {
+    Linked(Option<usize>, Option<usize>),
+    Outside,
+}
+
+/// A value, and where it stands.
+#[derive(Drop)]
+pub struct Entry<T> {
+    pub value: T,
+    pub place: Place,
+}
+
+/// The entries. They are reached through these calls alone.
+#[derive(Drop)]
+pub struct Cells<T> {
+    slab: Slab<Entry<T>>,
+    touches: Touches,
+}
+
+impl<T> Cells<T> {
+    ghost use Rattle.std.specs.Borrow.{sem};
+    ghost use Rattle.std.specs.Prelude.{option_copied};
+    ghost use Rattle.tower_base.specs.Cells.{value_at};
+    ghost use Rattle.tower_base.specs.CellsLends.{ends_touched};
+
+    pub fn new(alloc: Global) -> Cells<T>
+        ensures slots { result.slab.slots ≡ [] }
+        ensures first_key { result.slab.vacant_key ≡ 0 }
+        ensures capacity { result.slab.capacity ≡ 0 }
+        ensures touches { result.touches.count ≡ 0 }
+    {
+        Cells {
+            slab: Slab::new(alloc),
+            touches: Touches::new(),
+        }
+    }
+
+    /// Reaches no entry.
+    pub fn reserve(&mut self, additional: usize) -> Result<(), AllocError>
+        ensures room { OnOk result (HasRoomFor self.new.slab additional) }
+        ensures succeeds { HasRoomFor self.old.slab additional → IsOk result }
+        ensures had_room { HasRoomFor self.old.slab additional → self.new.slab ≡ self.old.slab }
+        ensures capacity { self.old.slab.capacity ≤ self.new.slab.capacity }
+        ensures rest_kept { self.new.slab ≡ record self.old.slab { capacity = self.new.slab.capacity } }
+        ensures touches { self.new.touches.count ≡ self.old.touches.count }
+    {
+        self.slab.reserve(additional)
+    }
+
+    /// How many values fit with no allocation. Reaches no entry.
+    pub fn capacity(&self) -> usize
+        ensures { result ≡ self.now.slab.capacity }
+    {
+        self.slab.capacity()
+    }
+
+    pub fn insert(&mut self, value: T, place: Place) -> usize
+        requires { HasRoomFor self.old.slab 1 }
+        ensures key { result ≡ self.old.slab.vacant_key }
+        ensures was_vacant { get self.old.slab result ≡ None }
+        ensures updates { Updates self.old.slab self.new.slab result (Some (entry value place)) }
+        ensures len { slab_len self.new.slab ≡ slab_len self.old.slab + 1 }
+        ensures key_in_range { result < self.new.slab.capacity }
+        ensures capacity { self.new.slab.capacity ≡ self.old.slab.capacity }
+        ensures touches { self.new.touches.count ≡ self.old.touches.count + 1 }
+    {
+        self.touches.tick();
+        self.slab.insert_reserved(Entry { value, place })
+    }
+
+    /// Where the entry stands.
+    pub fn place(&mut self, key: usize) -> Option<Place>
+        ensures place { result ≡ place_at self.old.slab key }
+        ensures same { self.new.slab ≡ self.old.slab }
+        ensures touches { self.new.touches.count ≡ self.old.touches.count + 1 }
+    {
+        self.touches.tick();
+        match self.slab.get(key) {
+            Some(entry) => Some(entry.place),
+            None => None,
+        }
+    }
+
+    /// The value under the key, if there is one.
+    pub fn get(&mut self, key: usize) -> Option<&T>
+        ensures* rests { sem 𝓛 (ends_touched T.row self.entry) }
+        ensures value { option_copied result ≡ value_at self.old.slab key }
+    {
+        self.touches.tick();
+        match self.slab.get(key) {
+            Some(entry) => Some(&entry.value),
+            None => None,
+        }
+    }
+
+    /// Puts the entry at another place, and returns where it stood.
+    pub fn put(&mut self, key: usize, place: Place) -> Option<Place>
+        ensures place { result ≡ place_at self.old.slab key }
+        ensures slab { self.new.slab ≡ with_place self.old.slab key (λ _. place) }
+        ensures touches { self.new.touches.count ≡ self.old.touches.count + 1 }
+    {
+        self.touches.tick();
+        match self.slab.get_mut(key) {
+            Some(entry) => Some(mem::replace(&mut entry.place, place)),
+            None => None,
+        }
+    }
+
+    /// A linked entry names another key after it.
+    pub fn set_next(&mut self, key: usize, next: Option<usize>)
+        ensures slab { self.new.slab ≡ with_place self.old.slab key (with_next next) }
+        ensures touches { self.new.touches.count ≡ self.old.touches.count + 1 }
+    {
+        self.touches.tick();
+        if let Some(entry) = self.slab.get_mut(key) {
+            entry.place = match entry.place {
+                Place::Linked(previous, _) => Place::Linked(previous, next),
+                Place::Outside => Place::Outside,
+            };
+        }
+    }
+
+    /// A linked entry names another key before it.
+    pub fn set_previous(&mut self, key: usize, previous: Option<usize>)
+        ensures slab { self.new.slab ≡ with_place self.old.slab key (with_previous previous) }
+        ensures touches { self.new.touches.count ≡ self.old.touches.count + 1 }
+    {
+        self.touches.tick();
+        if let Some(entry) = self.slab.get_mut(key) {
+            entry.place = match entry.place {
+                Place::Linked(_, next) => Place::Linked(previous, next),
+                Place::Outside => Place::Outside,
+            };
+        }
+    }
+
+    pub fn remove(&mut self, key: usize) -> Option<Entry<T>>
+        ensures value { result ≡ get self.old.slab key }
+        ensures updates { Updates self.old.slab self.new.slab key None }
+        ensures len { OnSome result (slab_len self.new.slab + 1 ≡ slab_len self.old.slab) }
+        ensures absent { IfNone result (self.new.slab ≡ self.old.slab) }
+        ensures capacity { self.new.slab.capacity ≡ self.old.slab.capacity }
+        ensures touches { self.new.touches.count ≡ self.old.touches.count + 1 }
+    {
+        self.touches.tick();
+        self.slab.try_remove(key)
+    }
+}

@@ -1,4 +1,0 @@
-pub mod Backwards
-pub mod Bags
-pub mod Calms
-pub mod Orders

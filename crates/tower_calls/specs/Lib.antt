@@ -1,5 +1,0 @@
-pub mod Bag
-pub mod Calling
-pub mod Line
-pub mod Order
-pub mod Queue

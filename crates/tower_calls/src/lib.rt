@@ -1,4 +1,0 @@
-//! Streams of calls.
-#![tactic(auto)]
-
-pub mod util;

@@ -1,0 +1,12 @@
+use Rattle.std.proofs.Common.{refl, arith}
+use Rattle.tower_limit.proofs.LineMoves.{counts}
+use Rattle.tower_limit.proofs.limit.concurrency.line_core.LineCore.free.Goals as goal
+
+pub returns : goal.returns
+returns c = record {
+  same = refl;
+  goes = λ line s. (line, counts _ _ _ _ line s _ refl c.args.self.now.full, s);
+  excused = tt;
+  room = omega arith;
+  few = omega arith;
+}

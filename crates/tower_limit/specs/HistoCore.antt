@@ -1,0 +1,56 @@
+-- Which plain histograms a `HistoCore` stands for.
+use Rattle.std.specs.Prelude.{◌≡◌, ◌<◌, ℕ, zero, suc, ◌+◌, ◌≢◌, nat_eq, if◌then◌else◌, List, [], ◌∷◌}
+use Rattle.std.specs.Option.{unwrap_or}
+use Rattle.std.specs.Ordering.{nat_cmp}
+use Rattle.std.specs.BTreeMap.{get}
+use Rattle.tower_limit.specs.Histogram.{Histogram, blank, read_at, most}
+use Rattle.tower_limit.specs.declared.hedge.rotating_histogram.histo_core.HistoCore.{HistoCore}
+use Rattle.tower_limit.specs.declared.hedge.rotating_histogram.steps.HistoReply.{HistoReply}
+use Rattle.tower_limit.specs.declared.hedge.rotating_histogram.steps.HistoReply.TheVariants.{Done, Memory, Full}
+use Rattle.tower_limit.specs.declared.hedge.rotating_histogram.tally.Tally.{Tally}
+
+-- how often a number is in a list
+abbrev pub times : ℕ → List ℕ → ℕ
+times v [] = 0
+times v (x ∷ rest) = (if nat_eq x v then 1 else 0) + times v rest
+
+-- how often a tally has a number
+abbrev pub tallied : Tally → ℕ → ℕ
+tallied tally v = unwrap_or (get nat_cmp tally.counts v) 0
+
+-- the number k so many times, and then these
+abbrev pub repeated : ℕ → ℕ → List ℕ → List ℕ
+repeated zero k more = more
+repeated (suc n) k more = k ∷ repeated n k more
+
+-- the numbers of a tally's entries, ascending
+abbrev pub flat : List (ℕ × ℕ) → List ℕ
+flat [] = []
+flat (e ∷ rest) = repeated e.1 e.0 (flat rest)
+
+-- one number more is tallied; else nothing changes
+abbrev pub Adds : Tally → ℕ → HistoReply → Tally → Type 0
+Adds old millis Done new = (old.total < most) × ((v : ℕ) → tallied new v ≡ (if nat_eq millis v then 1 else 0) + tallied old v)
+Adds old millis Memory new = (old.total < most) × ((v : ℕ) → tallied new v ≡ tallied old v)
+Adds old millis Full new = (old.total ≡ most) × ((v : ℕ) → tallied new v ≡ tallied old v)
+Adds old millis reply new = ⊥
+
+-- Of what is read in the present and in the next period, each tally has each number as often as the list. What is later isn't there.
+pub record Stands (moment duration number : ℕ) (first second : Tally) (h : Histogram) : Type 0 where
+  pub made : h.made ≡ moment
+  pub period : h.period ≡ duration
+  pub present : h.present ≡ number
+  pub read : (v : ℕ) → times v (read_at number h.points) ≡ tallied first v
+  pub written : (v : ℕ) → times v (read_at (number + 1) h.points) ≡ tallied second v
+  pub latest : (later : ℕ) → number + 1 < later → read_at later h.points ≡ []
+
+abbrev pub StandsFor : HistoCore → Histogram → Type 0
+StandsFor core h = Stands core.made core.period core.present core.read core.written h
+
+-- what is made at some moment for some period
+abbrev pub Opens : HistoCore → Type 0
+Opens core = (moment : ℕ) × (period : ℕ) × (period ≢ 0) × StandsFor core (blank moment period)
+
+-- where the old core stands for a histogram, the new one stands for that histogram changed in this way
+abbrev pub Changes : (Histogram → Histogram) → HistoCore → HistoCore → Type 0
+Changes change old new = (h : Histogram) → StandsFor old h → StandsFor new (change h)

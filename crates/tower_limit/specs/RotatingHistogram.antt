@@ -1,0 +1,55 @@
+-- What a `RotatingHistogram` does at its latch.
+use Rattle.std.specs.Prelude.{◌≡◌, ℕ, List, [], ◌∷◌}
+use Rattle.std.specs.Int.{div_ceil}
+use Rattle.tower_base.specs.declared.service.Clock.{Ghosts as ClockOf}
+use Rattle.tower_base.specs.declared.service.Fraction.{Fraction}
+use Rattle.tower_limit.specs.declared.hedge.rotating_histogram.steps.HistoStep.{HistoStep}
+use Rattle.tower_limit.specs.declared.hedge.rotating_histogram.steps.HistoStep.TheVariants.{Record, Seed, Points, Quantile}
+use Rattle.tower_limit.specs.declared.hedge.rotating_histogram.steps.HistoReply.{HistoReply}
+use Rattle.tower_limit.specs.declared.hedge.rotating_histogram.steps.HistoReply.TheVariants.{Count, Millis}
+
+-- a `RotatingHistogram`
+pub record RotatingHistogramView (L C : Type 0) : Type 0 where
+  pub latch : L
+  pub clock : C
+
+-- nanoseconds as milliseconds, rounded up
+abbrev pub millis_of : ℕ → ℕ
+millis_of nanos = div_ceil nanos 1000000
+
+module _ {L C : Type 0} (gave : L → HistoStep → HistoReply → Type 0) (c : ClockOf C) where
+  -- a latency in nanoseconds: one reading, and one step at that moment, whatever the reply
+  pub record Recorded (old : RotatingHistogramView L C) (latency : ℕ) (new : RotatingHistogramView L C) : Type 0 where
+    pub read : c.read old.clock new.clock
+    pub reply : HistoReply
+    pub gave_reply : gave old.latch (Record (c.reading new.clock) (millis_of latency)) reply
+    pub same : new.latch ≡ old.latch
+
+  -- a latency in milliseconds that is read at once: likewise
+  pub record Seeded (old : RotatingHistogramView L C) (millis : ℕ) (new : RotatingHistogramView L C) : Type 0 where
+    pub read : c.read old.clock new.clock
+    pub reply : HistoReply
+    pub gave_reply : gave old.latch (Seed (c.reading new.clock) millis) reply
+    pub same : new.latch ≡ old.latch
+
+  -- these latencies in milliseconds, one after another
+  abbrev pub SeededAll : RotatingHistogramView L C → List ℕ → RotatingHistogramView L C → Type 0
+  SeededAll old [] new = new ≡ old
+  SeededAll old (millis ∷ rest) new = (mid : RotatingHistogramView L C) × Seeded old millis mid × SeededAll mid rest new
+
+  -- how many points are read: one reading, and the reply to one step
+  pub record Counted (old : RotatingHistogramView L C) (answer : ℕ) (new : RotatingHistogramView L C) : Type 0 where
+    pub read : c.read old.clock new.clock
+    pub gave_count : gave old.latch (Points (c.reading new.clock)) (Count answer)
+    pub same : new.latch ≡ old.latch
+
+  -- a quantile in milliseconds: likewise
+  pub record Ranked (old : RotatingHistogramView L C) (part : Fraction) (answer : ℕ) (new : RotatingHistogramView L C) : Type 0 where
+    pub read : c.read old.clock new.clock
+    pub gave_millis : gave old.latch (Quantile (c.reading new.clock) part) (Millis answer)
+    pub same : new.latch ≡ old.latch
+
+  -- a clone: what its latch gives, the first one gives
+  pub record IsClone (old copy : RotatingHistogramView L C) : Type 0 where
+    pub latch : (s : HistoStep) (r : HistoReply) → gave copy.latch s r → gave old.latch s r
+    pub clock : c.shared old.clock copy.clock

@@ -1,0 +1,130 @@
+//! How long responses took lately: the Rust's `tower::hedge::rotating_histogram`.
+ghost use Rattle.std.specs.Prelude.{◌≡◌, ◌≢◌, IfOk, IsTrue, ◌↔◌};
+ghost use Rattle.tower_limit.specs.RotatingHistogram.{RotatingHistogramView, Recorded, Seeded, SeededAll, Counted, Ranked, IsClone, millis_of};
+
+mod histo_core;
+mod steps;
+mod tally;
+
+use crate::hedge::Record;
+pub use histo_core::HistoCore;
+use std::alloc::{AllocError, Global};
+use std::marker::Model;
+use std::sync::Wait;
+pub use steps::{HistoReply, HistoStep};
+use tower_base::latch::{Guarded, Latch};
+use tower_base::service::{Clock, Fraction};
+
+/// How long responses took in the period before this one: the Rust's
+/// `tower::hedge::rotating_histogram::RotatingHistogram`. Its clones share one core.
+///
+/// A recorded latency is read in the period after. One that finds no memory, or a period that is full,
+/// is left out. Latencies are kept by the millisecond.
+#[derive(Drop)]
+pub struct RotatingHistogram<L: Latch<HistoCore>, C> {
+    latch: L,
+    clock: C,
+}
+
+impl<L: Latch<HistoCore>, C> Model for RotatingHistogram<L, C> {
+    ghost Value = { RotatingHistogramView L C };
+
+    ghost view = { λ h. record { latch = h.latch; clock = h.clock } };
+}
+
+impl<R: Wait + Copy, C: Clock> RotatingHistogram<Guarded<HistoCore, R>, C> {
+    /// The period is in nanoseconds. It asks for what `fits` tests. The clock is read once, and is
+    /// dropped where there is no memory for the core.
+    pub fn new(rt: R, alloc: Global, period: u64, mut clock: C) -> Result<Self, AllocError>
+        requires { period ≢ 0 }
+        ensures { IfOk result (λ histogram. C.read clock histogram.clock) }
+    {
+        let core = HistoCore::new(alloc, period, clock.now());
+        let latch = Guarded::new(rt, alloc, core)?;
+        Ok(RotatingHistogram { latch, clock })
+    }
+
+    /// The period that `new` asks for: a positive one.
+    pub fn fits(period: u64) -> bool
+        ensures { IsTrue result ↔ (period ≢ 0) }
+    {
+        HistoCore::fits(period)
+    }
+}
+
+impl<L: Latch<HistoCore>, C: Clock> RotatingHistogram<L, C> {
+    /// A histogram over a latch of the caller's. It makes no reading.
+    pub fn with_latch(latch: L, clock: C) -> RotatingHistogram<L, C>
+        ensures { result ≡ record { latch = latch; clock = clock } }
+    {
+        RotatingHistogram { latch, clock }
+    }
+
+    /// A latency in milliseconds that is read in the present period.
+    pub fn seed(&mut self, millis: u64)
+        ensures { Seeded L.gave C.Clock self.old millis self.new }
+    {
+        let moment = self.clock.now();
+        let _reply = self.latch.step(HistoStep::Seed(moment, millis));
+    }
+
+    /// Latencies in milliseconds that are read in the present period, one after another.
+    pub fn seed_all(&mut self, latencies: &[u64])
+        ensures { SeededAll L.gave C.Clock self.old latencies.now self.new }
+    {
+        for millis in latencies {
+            self.seed(*millis);
+        }
+    }
+
+    /// How many latencies are read in the present period.
+    pub fn points(&mut self) -> u64
+        ensures { Counted L.gave C.Clock self.old result self.new }
+    {
+        let moment = self.clock.now();
+        match self.latch.step(HistoStep::Points(moment)) {
+            HistoReply::Count(count) => count,
+            _ => unreachable!(),
+        }
+    }
+
+    /// The milliseconds that this part of the latencies of the present period is at or below: 0 where
+    /// there are none.
+    pub fn quantile(&mut self, part: Fraction) -> u64
+        ensures { Ranked L.gave C.Clock self.old part result self.new }
+    {
+        let moment = self.clock.now();
+        match self.latch.step(HistoStep::Quantile(moment, part)) {
+            HistoReply::Millis(millis) => millis,
+            _ => unreachable!(),
+        }
+    }
+}
+
+impl<L: Latch<HistoCore>, C: Clock> Record for RotatingHistogram<L, C> {
+    ghost recorded = { Recorded L.gave C.Clock };
+
+    fn record(&mut self, latency: u64) {
+        let moment = self.clock.now();
+        let _reply = self.latch.step(HistoStep::Record(moment, millis(latency)));
+    }
+}
+
+/// A clone shares the core and the clock.
+impl<L: Latch<HistoCore>, C: Clock> Clone for RotatingHistogram<L, C> {
+    ghost is_clone = { IsClone L.gave C.Clock };
+
+    fn clone(&self) -> Result<RotatingHistogram<L, C>, AllocError> {
+        let latch = self.latch.share()?;
+        Ok(RotatingHistogram {
+            latch,
+            clock: self.clock.share(),
+        })
+    }
+}
+
+fn millis(nanos: u64) -> u64
+    ensures { result ≡ millis_of nanos }
+{
+    nanos.div_ceil(1_000_000)
+}

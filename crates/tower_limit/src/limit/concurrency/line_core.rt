@@ -1,0 +1,179 @@
+//! Who holds a permit, and who waits for one.
+ghost use Rattle.std.specs.Prelude.{◌≡◌, ◌<◌, ◌≤◌, ◌+◌, length};
+ghost use Rattle.slab.specs.Slab.{slab_len};
+ghost use Rattle.tower_base.specs.Order.{Apart};
+ghost use Rattle.tower_limit.specs.Waiters.{Apart-prop, IsPresent, outside};
+
+use std::alloc::Global;
+use tower_base::latch::Core;
+use tower_base::links::Links;
+
+/// What may be asked of the line of permits.
+#[derive(Clone, Copy, Debug, PartialEq, Eq)]
+pub enum LineStep {
+    /// Asks for a permit, or for a place in the line.
+    Join,
+    /// Asks whether the permit of this key is there. The key ends once it was granted.
+    Look(u64),
+    /// Gives the place of this key up, granted or not.
+    Cancel(u64),
+    /// Gives a permit back.
+    Release,
+    /// Asks how many permits are free.
+    Free,
+}
+
+/// What the line answers.
+#[derive(Clone, Copy, Debug, PartialEq, Eq)]
+pub enum LineReply {
+    /// The asker holds a permit.
+    Granted,
+    /// The asker waits under this key, which no other waiter has.
+    Waiting(u64),
+    /// The holder or the waiter has left the line.
+    Left,
+    /// So many permits are free.
+    Count(usize),
+    /// No waiter has this key, or nobody holds a permit. The line is as it was.
+    Unknown,
+    /// There is no room for a further waiter, or no further key. The line is as it was.
+    Memory,
+}
+
+/// The line of permits: the number of holders, and those who wait.
+///
+/// Who has no permit is linked in the order of asking. Who was granted one, and hasn't seen it, stands
+/// outside the order. No step searches.
+#[derive(Drop)]
+pub struct LineCore {
+    max: usize,
+    held: usize,
+    granted: usize,
+    waiters: Links<()>,
+    ghost fits: { held + granted ≤ max },
+    // Nobody waits in the order while a permit is free.
+    ghost full: { 0 < length waiters.order → held + granted ≡ max },
+    ghost apart: { Apart waiters.order } by { Apart-prop waiters.order },
+    ghost present: { IsPresent waiters },
+    ghost count: { length (outside waiters) ≡ granted },
+    ghost places: { slab_len waiters.entries ≡ granted + length waiters.order },
+}
+
+impl LineCore {
+    ghost use Rattle.tower_limit.specs.Line.{blank};
+    ghost use Rattle.tower_limit.specs.LineCore.{Follows, StandsFor};
+
+    /// A line of so many permits, all free. Any number will do, 0 too.
+    pub fn new(alloc: Global, max: usize) -> LineCore
+        ensures { StandsFor result (blank max) }
+    {
+        LineCore {
+            max,
+            held: 0,
+            granted: 0,
+            waiters: Links::new(alloc),
+        }
+    }
+
+    fn join(&mut self) -> LineReply
+        ensures { Follows self.old LineStep.Join result self.new }
+    {
+        if self.held + self.granted < self.max {
+            self.held += 1;
+            return LineReply::Granted;
+        }
+        let Ok(()) = self.waiters.reserve(1) else {
+            return LineReply::Memory;
+        };
+        LineReply::Waiting(self.waiters.push_back(()) as u64)
+    }
+
+    #[inline(never)]
+    fn look(&mut self, key: u64) -> LineReply
+        ensures { Follows self.old (LineStep.Look key) result self.new }
+    {
+        if self.waiters.is_linked(key as usize) {
+            return LineReply::Waiting(key);
+        }
+        let Some(()) = self.waiters.remove(key as usize) else {
+            return LineReply::Unknown;
+        };
+        self.granted -= 1;
+        self.held += 1;
+        LineReply::Granted
+    }
+
+    #[inline(never)]
+    fn cancel(&mut self, key: u64) -> LineReply
+        ensures { Follows self.old (LineStep.Cancel key) result self.new }
+    {
+        let waiting = self.waiters.len();
+        let Some(()) = self.waiters.remove(key as usize) else {
+            return LineReply::Unknown;
+        };
+        if self.waiters.len() < waiting {
+            return LineReply::Left;
+        }
+        self.granted -= 1;
+        if let Some(next) = self.waiters.front() {
+            self.waiters.unlink(next);
+            self.granted += 1;
+        }
+        LineReply::Left
+    }
+
+    fn release(&mut self) -> LineReply
+        ensures { Follows self.old LineStep.Release result self.new }
+    {
+        if self.held == 0 {
+            return LineReply::Unknown;
+        }
+        self.held -= 1;
+        if let Some(first) = self.waiters.front() {
+            self.waiters.unlink(first);
+            self.granted += 1;
+        }
+        LineReply::Left
+    }
+
+    fn free(&self) -> usize
+        ensures { Follows self.now LineStep.Free (LineReply.Count result) self.now }
+    {
+        self.max - (self.held + self.granted)
+    }
+}
+
+impl Core for LineCore {
+    type Step = LineStep;
+
+    type Reply = LineReply;
+
+    ghost use Rattle.tower_base.specs.Latch.{StepsAs};
+    ghost use Rattle.tower_limit.specs.Line.{LineSteps, is_waiting};
+    ghost use Rattle.tower_limit.specs.LineCore.{Opens, StandsFor, touches};
+
+    ghost opens = { Opens };
+
+    ghost steps = { StepsAs StandsFor LineSteps };
+
+    ghost is_wait = { is_waiting };
+
+    /// It reaches at most six entries.
+    #[inline(always)]
+    fn step(&mut self, step: LineStep) -> LineReply
+        ensures steps { StepsAs StandsFor LineSteps self.old step result self.new }
+        ensures touches { touches self.new ≤ touches self.old + 6 }
+    {
+        match step {
+            LineStep::Join => self.join(),
+            LineStep::Look(key) => self.look(key),
+            LineStep::Cancel(key) => self.cancel(key),
+            LineStep::Release => self.release(),
+            LineStep::Free => LineReply::Count(self.free()),
+        }
+    }
+
+    fn waits(reply: &LineReply) -> bool {
+        matches!(reply, LineReply::Waiting(_))
+    }
+}

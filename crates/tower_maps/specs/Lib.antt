@@ -1,4 +1,0 @@
-pub mod Answers
-pub mod MapFutureLends
-pub mod Maps
-pub mod Parts

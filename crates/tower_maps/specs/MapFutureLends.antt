@@ -1,9 +1,0 @@
--- What `MapFuture` lends.
-use Rattle.std.specs.Borrow.{Lends, MutBor, Fml}
-use denote.RattleType.{RattleType}
-use Rattle.tower_maps.specs.Parts.{Mapped}
-use Rattle.tower_maps.specs.contracts.map_future.MapFuture.{the_row}
-
--- t ends with the last value behind r as its inner service
-abbrev pub LendsInner : (S F : RattleType) → MutBor (Mapped S.Denot F.Denot) → MutBor S.Denot → Fml
-LendsInner S F t r = Lends (the_row S F) S t r (λ w. record t.now { inner = w })

@@ -1,0 +1,81 @@
+-- The machine of `hedge::delay`.
+use Rattle.std.specs.Prelude.{◌≡◌, ℕ, ⊤, ◌+◌, Result, Err}
+use Rattle.futures.specs.declared.task.Poll.{Poll}
+use Rattle.futures.specs.declared.task.Poll.TheVariants.{Ready, Pending}
+use Rattle.tower_base.specs.Answers.{answered}
+use Rattle.tower_base.specs.Sleep.{SleepView, Stepped as SleepStepped}
+use Rattle.tower_base.specs.declared.service.Clock.{Ghosts as ClockOf}
+use Rattle.tower_base.specs.declared.service.Service.{Ghosts as ServiceOf}
+use Rattle.tower_retry.specs.declared.hedge.delay.error.Error.{Error}
+use Rattle.tower_retry.specs.declared.hedge.delay.error.Error.TheVariants.{Inner, Memory}
+use Rattle.tower_retry.specs.declared.hedge.delay.policy.Policy.{Ghosts as PolicyOf}
+use Rattle.tower_retry.specs.declared.hedge.delay.state.State.{State}
+use Rattle.tower_retry.specs.declared.hedge.delay.state.State.TheVariants.{Delaying, InFlight, NoClone}
+use Rattle.tower_util.specs.Oneshot.{Stepped as OneshotStepped}
+use Rattle.tower_util.specs.declared.util.oneshot.Oneshot.{Oneshot}
+use Rattle.tower_util.specs.declared.util.oneshot.State.{State as OneshotState}
+use Rattle.tower_util.specs.declared.util.oneshot.State.TheVariants.{NotReady}
+
+-- a `Delay`
+pub record DelayView (P S C : Type 0) : Type 0 where
+  pub policy : P
+  pub service : S
+  pub clock : C
+
+module _ {P S C Q O : Type 0} (p : PolicyOf P Q) (is_clone : S → S → Type 0) (c : ClockOf C) where
+  -- A future's first value: the delay is from one reading on, and then a clone gets the request. There is none where the clone was refused.
+  abbrev pub Begins : DelayView P S C → Q → ℕ → State (SleepView C) S Q O → Type 0
+  Begins old request delay (Delaying sleep service kept) = ((clock : C) × c.shared old.clock clock × c.read clock sleep.clock)
+      × (sleep.deadline ≡ c.reading sleep.clock + delay) × is_clone old.service service × (kept ≡ request)
+  Begins old request delay (InFlight oneshot) = ⊥
+  Begins old request delay NoClone = ⊤
+
+  -- a call: the policy is asked for the delay
+  pub record Called (old : DelayView P S C) (request : Q) (future : State (SleepView C) S Q O) (new : DelayView P S C) : Type 0 where
+    pub delay : ℕ
+    pub delayed : p.delayed old.policy request delay new.policy
+    pub begins : Begins old request delay future
+    pub same : new ≡ record old { policy = new.policy }
+
+module _ {S C Q A E F : Type 0} (s : ServiceOf S Q A E F) (f : F → Poll (Result A E) → F → Type 0) (c : ClockOf C) where
+  -- one poll of the call, which is a `Oneshot`
+  pub record InFlightStepped (old : OneshotState S Q F) (answer : Poll (Result A (Error E))) (new : State (SleepView C) S Q (Oneshot S Q A E F)) : Type 0 where
+    pub inner : Poll (Result A E)
+    pub left : Oneshot S Q A E F
+    pub stepped : OneshotStepped s f old inner left.state
+    pub answers : answer ≡ answered Inner inner
+    pub after : new ≡ InFlight left
+
+  -- the call begins
+  abbrev pub Begun : State (SleepView C) S Q (Oneshot S Q A E F) → Poll (Result A (Error E)) → State (SleepView C) S Q (Oneshot S Q A E F) → Type 0
+  Begun (Delaying sleep service request) answer new = InFlightStepped (NotReady service request) answer new
+  Begun old answer new = ⊥
+
+  -- what follows a poll of the delay: after its end the clone is called with the request, in the same poll
+  abbrev pub AfterDelay : Poll (Unit {0}) → SleepView C → S → Q → Poll (Result A (Error E)) → State (SleepView C) S Q (Oneshot S Q A E F) → Type 0
+  AfterDelay Pending sleep service request answer new = (answer ≡ Pending) × (new ≡ Delaying sleep service request)
+  AfterDelay (Ready x) sleep service request answer new = InFlightStepped (NotReady service request) answer new
+
+  -- a poll of the future
+  abbrev pub Stepped : State (SleepView C) S Q (Oneshot S Q A E F) → Poll (Result A (Error E)) → State (SleepView C) S Q (Oneshot S Q A E F) → Type 0
+  Stepped (Delaying sleep service request) answer new =
+      (slept : Poll (Unit {0})) × (left : SleepView C) × SleepStepped c sleep slept left × AfterDelay slept left service request answer new
+  Stepped (InFlight oneshot) answer new = InFlightStepped oneshot.state answer new
+  Stepped NoClone answer new = (answer ≡ Ready (Err Memory)) × (new ≡ NoClone)
+
+-- the delay goes on, and the clone is sound
+abbrev pub Waits : {S C Q O : Type 0} → (S → Type 0) → State (SleepView C) S Q O → Type 0
+Waits sound (Delaying sleep service request) = sound service
+Waits sound old = ⊥
+
+-- what a future may be polled with: a sound clone, or a call that may be polled
+abbrev pub CanPoll : {S C Q O : Type 0} → (S → Type 0) → (O → Type 0) → State (SleepView C) S Q O → Type 0
+CanPoll sound can_poll (Delaying sleep service request) = sound service
+CanPoll sound can_poll (InFlight oneshot) = can_poll oneshot
+CanPoll sound can_poll NoClone = ⊤
+
+-- The sources that a future waits for: those of the call. In the delay a pending poll wakes its own waker, whatever source is meant.
+abbrev pub Needs : {S C Q O : Type 0} → (O → ℕ → Type 0) → State (SleepView C) S Q O → ℕ → Type 0
+Needs needs (Delaying sleep service request) = λ source. ⊤
+Needs needs (InFlight oneshot) = needs oneshot
+Needs needs NoClone = λ source. ⊥

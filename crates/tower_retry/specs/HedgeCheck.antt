@@ -1,0 +1,21 @@
+-- The future of the filter before a second request.
+use Rattle.std.specs.Prelude.{◌≡◌, ℕ, ⊤, Result, Ok}
+use Rattle.std.specs.declared.convert.Infallible.{Infallible}
+use Rattle.futures.specs.declared.task.Poll.{Poll}
+use Rattle.futures.specs.declared.task.Poll.TheVariants.{Ready, Pending}
+use Rattle.tower_retry.specs.declared.hedge.check.CheckState.{CheckState}
+use Rattle.tower_retry.specs.declared.hedge.check.CheckState.TheVariants.{Passed, Given, Waiting}
+
+-- a poll: the request that passed is given away, and one that may not be made again waits at every poll
+abbrev pub CheckStepped : {Q N : Type 0} → CheckState Q N → Poll (Result Q Infallible) → CheckState Q N → Type 0
+CheckStepped (Passed request) answer new = (answer ≡ Ready (Ok request)) × (new ≡ Given)
+CheckStepped (Waiting never) answer (Waiting left) = answer ≡ Pending
+CheckStepped old answer new = ⊥
+
+abbrev pub CanPoll : {Q N : Type 0} → CheckState Q N → Type 0
+CanPoll Given = ⊥
+CanPoll old = ⊤
+
+abbrev pub Needs : {Q N : Type 0} → (N → ℕ → Type 0) → CheckState Q N → ℕ → Type 0
+Needs needs (Waiting never) = needs never
+Needs needs old = λ source. ⊥

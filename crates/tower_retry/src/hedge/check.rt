@@ -1,0 +1,83 @@
+//! The future of the filter before a second request.
+ghost use Rattle.std.specs.Prelude.{◌≡◌, ⊤, ℕ};
+ghost use Rattle.futures.specs.Poll.{OnPending, IfReady};
+ghost use Rattle.futures.specs.declared.future.made.pending.Pending.{Pending};
+ghost use Rattle.futures.specs.Task.{Covers, Keeps};
+ghost use Rattle.tower_base.specs.Gives.{MayGive};
+ghost use Rattle.tower_retry.specs.HedgeCheck.{CanPoll, CheckStepped, Needs};
+ghost use Rattle.tower_retry.specs.declared.hedge.check.CheckState.{CheckState};
+
+use futures::future::{Future, Pending};
+use futures::task::{Context, Poll};
+use std::convert::Infallible;
+use std::marker::Model;
+use std::mem;
+use tower_base::service::Steps;
+
+/// The request at once, or nothing ever.
+#[derive(Drop)]
+pub struct CheckFuture<Request> {
+    state: CheckState<Request, Pending<()>>,
+}
+
+/// The request until it is given away, or what is never ready.
+#[derive(Drop)]
+pub(crate) enum CheckState<Request, N> {
+    Passed(Request),
+    Given,
+    Waiting(N),
+}
+
+impl<Request> Model for CheckFuture<Request> {
+    ghost Value = { CheckState Request (Pending (Unit {0})) };
+
+    ghost view = { λ f. f.state };
+}
+
+impl<Request> CheckFuture<Request> {
+    pub(crate) fn new(state: CheckState<Request, Pending<()>>) -> CheckFuture<Request>
+        ensures { result ≡ state }
+    {
+        CheckFuture { state }
+    }
+}
+
+impl<Request: Drop> Future for CheckFuture<Request> {
+    type Output = Result<Request, Infallible>;
+
+    ghost can_poll = { CanPoll };
+
+    ghost gives = { MayGive CheckStepped };
+
+    ghost needs = { Needs ⟦<Pending<()> as Future>⟧.needs };
+
+    #[tactic(auto, using(tower_base::specs::GivesLemmas::gives_value, tower_base::specs::GivesLemmas::gives_same))]
+    fn poll(&mut self, cx: &mut Context<'_>) -> Poll<Self::Output>
+        requires { CanPoll self.old }
+        ensures step { CheckStepped self.old result self.new }
+        ensures value { IfReady result (MayGive CheckStepped self.old) }
+        ensures again { OnPending result (CanPoll self.new) }
+        ensures same { OnPending result ((x : _) → MayGive CheckStepped self.new x → MayGive CheckStepped self.old x) }
+        ensures registered { OnPending result (Covers cx.new (Needs ⟦<Pending<()> as Future>⟧.needs self.new)) }
+        ensures kept { Keeps cx.old cx.new }
+    {
+        self.step(cx)
+    }
+}
+
+impl<Request: Drop> Steps for CheckFuture<Request> {
+    ghost stepped = { CheckStepped };
+
+    fn step(&mut self, cx: &mut Context<'_>) -> Poll<Self::Output> {
+        if let CheckState::Waiting(never) = &mut self.state {
+            let Poll::Pending = never.step(cx) else {
+                unreachable!()
+            };
+            return Poll::Pending;
+        }
+        let CheckState::Passed(request) = mem::replace(&mut self.state, CheckState::Given) else {
+            unreachable!()
+        };
+        Poll::Ready(Ok(request))
+    }
+}

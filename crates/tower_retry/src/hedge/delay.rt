@@ -1,0 +1,87 @@
+//! Calls that wait: the Rust's `tower::hedge::delay`.
+ghost use Rattle.std.specs.Prelude.{◌≡◌, ⊤, Ok};
+ghost use Rattle.futures.specs.declared.task.Poll.TheVariants.{Ready};
+ghost use Rattle.tower_retry.specs.Delay.{DelayView, Called};
+
+mod error;
+mod future;
+mod policy;
+mod state;
+
+pub use error::Error;
+pub use future::ResponseFuture;
+use futures::task::{Context, Poll};
+pub use policy::Policy;
+use state::State;
+use std::marker::Model;
+use tower_base::service::{Clock, Service, Sleep};
+use tower_util::util::Oneshot;
+
+/// Makes each call later, by a clone of its service: the Rust's `tower::hedge::delay::Delay`.
+///
+/// It is always ready: the clone's readiness is polled after the delay. The clock is handed in.
+#[derive(Drop)]
+pub struct Delay<P, S, C> {
+    policy: P,
+    service: S,
+    clock: C,
+}
+
+impl<P, S, C> Model for Delay<P, S, C> {
+    ghost Value = { DelayView P S C };
+
+    ghost view = { λ d. record { policy = d.policy; service = d.service; clock = d.clock } };
+}
+
+impl<P, S, C> Delay<P, S, C> {
+    /// The policy says how long each call waits. Nothing is read of the clock here.
+    pub fn new(policy: P, service: S, clock: C) -> Delay<P, S, C>
+        ensures { result ≡ record { policy = policy; service = service; clock = clock } }
+    {
+        Delay {
+            policy,
+            service,
+            clock,
+        }
+    }
+}
+
+impl<Request, P, S, C> Service<Request> for Delay<P, S, C>
+where
+    Request: Drop,
+    P: Policy<Request>,
+    S: Service<Request> + Clone,
+    C: Clock,
+{
+    type Response = S::Response;
+
+    type Error = Error<S::Error>;
+
+    type Future = ResponseFuture<Request, S, Oneshot<S, Request>, C>;
+
+    // A clone of a sound service is sound.
+    ghost sound = { λ d. P.sound d.policy × S.sound d.service × ((x y : S) → S.is_clone x y → S.sound x → S.sound y) };
+
+    ghost ready = { λ _. ⊤ };
+
+    ghost polled = { λ old answer new. (answer ≡ Ready (Ok tt)) × (new ≡ old) };
+
+    ghost called = { Called P.Policy S.is_clone C.Clock };
+
+    ghost readies = { λ _ _ _. tt };
+
+    fn poll_ready(&mut self, _cx: &mut Context<'_>) -> Poll<Result<(), Self::Error>> {
+        Poll::Ready(Ok(()))
+    }
+
+    /// The delay begins here. Where no clone of the service is had for want of memory, nothing is
+    /// called, and the answer is `Memory`.
+    fn call(&mut self, request: Request) -> Self::Future {
+        let delay = self.policy.delay(&request);
+        let sleep = Sleep::new(self.clock.share(), delay);
+        match self.service.clone() {
+            Ok(service) => ResponseFuture::new(State::Delaying(sleep, service, request)),
+            Err(_) => ResponseFuture::new(State::NoClone),
+        }
+    }
+}

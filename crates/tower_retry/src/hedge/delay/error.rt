@@ -1,0 +1,14 @@
+//! Why there is no response.
+use std::fmt::Display;
+
+/// The error of a `Delay`, in place of the Rust's boxed one.
+#[derive(Debug, Drop, PartialEq, Eq, thiserror::Error)]
+#[error_bound(E: Display)]
+pub enum Error<E> {
+    /// The service's own error.
+    #[error(transparent)]
+    Inner(E),
+    /// There was no memory for a clone of the service at the call.
+    #[error("out of memory")]
+    Memory,
+}

@@ -1,0 +1,14 @@
+//! Why there is no response.
+use std::fmt::Display;
+
+/// The error of a `Hedge`, in place of the Rust's boxed one.
+#[derive(Debug, Drop, PartialEq, Eq, thiserror::Error)]
+#[error_bound(E: Display)]
+pub enum Error<E> {
+    /// The inner service's own error, of the first call or of the second.
+    #[error(transparent)]
+    Inner(E),
+    /// There was no memory for a clone of the service, which the second call needs.
+    #[error("out of memory")]
+    Memory,
+}

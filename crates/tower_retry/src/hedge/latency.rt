@@ -1,0 +1,89 @@
+//! How long responses take: the Rust's `tower::hedge::latency`.
+ghost use Rattle.std.specs.Prelude.{◌≡◌};
+ghost use Rattle.tower_retry.specs.Latency.{LatencyView, Polled, Called, IsClone};
+
+mod future;
+
+pub use future::ResponseFuture;
+use futures::task::{Context, Poll};
+use std::alloc::AllocError;
+use std::marker::Model;
+use tower_base::service::{Clock, Service};
+pub use tower_limit::hedge::Record;
+
+/// Records how long each response takes: the Rust's `tower::hedge::latency::Latency`.
+///
+/// The time of a response begins before the inner call, and ends with its `Ok`. Responses that are
+/// errors aren't recorded. The clock is handed in.
+#[derive(Drop)]
+pub struct Latency<R, S, C> {
+    rec: R,
+    service: S,
+    clock: C,
+}
+
+impl<R, S, C> Model for Latency<R, S, C> {
+    ghost Value = { LatencyView R S C };
+
+    ghost view = { λ l. record { rec = l.rec; service = l.service; clock = l.clock } };
+}
+
+impl<R, S, C> Latency<R, S, C> {
+    /// Each call takes a clone of `rec`. Nothing is read of the clock here.
+    pub fn new(rec: R, service: S, clock: C) -> Latency<R, S, C>
+        ensures { result ≡ record { rec = rec; service = service; clock = clock } }
+    {
+        Latency {
+            rec,
+            service,
+            clock,
+        }
+    }
+}
+
+impl<Request, R, S, C> Service<Request> for Latency<R, S, C>
+where
+    R: Record + Clone,
+    S: Service<Request>,
+    C: Clock,
+{
+    type Response = S::Response;
+
+    type Error = S::Error;
+
+    type Future = ResponseFuture<R, S::Future, C>;
+
+    // A clone of a sound recorder is sound.
+    ghost sound = { λ l. R.sound l.rec × S.sound l.service × ((x y : R) → R.is_clone x y → R.sound x → R.sound y) };
+
+    ghost ready = { λ l. S.ready l.service };
+
+    ghost polled = { Polled S.Service };
+
+    ghost called = { Called S.Service R.is_clone C.Clock };
+
+    ghost readies = { λ old new p. S.readies old.service new.service p.polled };
+
+    fn poll_ready(&mut self, cx: &mut Context<'_>) -> Poll<Result<(), Self::Error>> {
+        self.service.poll_ready(cx)
+    }
+
+    /// Where no clone of the recorder is had for want of memory, the response isn't recorded.
+    fn call(&mut self, request: Request) -> Self::Future {
+        let start = self.clock.now();
+        let rec = self.rec.clone().ok();
+        let inner = self.service.call(request);
+        ResponseFuture::new(start, rec, inner, self.clock.share())
+    }
+}
+
+/// A clone shares the clock.
+impl<R: Clone + Drop, S: Clone + Drop, C: Clock> Clone for Latency<R, S, C> {
+    ghost is_clone = { IsClone R.is_clone S.is_clone C.Clock };
+
+    fn clone(&self) -> Result<Latency<R, S, C>, AllocError> {
+        let rec = self.rec.clone()?;
+        let service = self.service.clone()?;
+        Ok(Latency::new(rec, service, self.clock.share()))
+    }
+}

@@ -1,0 +1,91 @@
+//! The response of a `Latency`.
+ghost use Rattle.std.specs.Prelude.{◌≡◌, Option, IfSome};
+ghost use Rattle.futures.specs.Poll.{OnPending, IfReady};
+ghost use Rattle.futures.specs.Task.{Covers, Keeps};
+ghost use Rattle.tower_base.specs.Gives.{MayGive};
+ghost use Rattle.tower_retry.specs.Latency.{ResponseFutureView, Stepped};
+
+use crate::hedge::latency::Record;
+use futures::future::Future;
+use futures::task::{Context, Poll};
+use std::marker::Model;
+use tower_base::service::{Clock, Steps};
+
+/// A response, which is recorded if it is `Ok`: the Rust's `tower::hedge::latency::ResponseFuture`.
+#[derive(Drop)]
+pub struct ResponseFuture<R, F, C> {
+    start: u64,
+    // None where there was no memory for a clone
+    rec: Option<R>,
+    inner: F,
+    clock: C,
+}
+
+impl<R, F, C> Model for ResponseFuture<R, F, C> {
+    ghost Value = { ResponseFutureView R F C };
+
+    ghost view = { λ f. record { start = f.start; rec = f.rec; inner = f.inner; clock = f.clock } };
+}
+
+impl<R, F, C> ResponseFuture<R, F, C> {
+    pub(crate) fn new(start: u64, rec: Option<R>, inner: F, clock: C) -> ResponseFuture<R, F, C>
+        ensures { result ≡ record { start = start; rec = rec; inner = inner; clock = clock } }
+    {
+        ResponseFuture {
+            start,
+            rec,
+            inner,
+            clock,
+        }
+    }
+}
+
+impl<T, E, R, F, C> Future for ResponseFuture<R, F, C>
+where
+    R: Record,
+    F: Steps<Output = Result<T, E>>,
+    C: Clock,
+{
+    type Output = Result<T, E>;
+
+    ghost can_poll = { λ v. F.can_poll v.inner × IfSome v.rec R.sound };
+
+    ghost gives = { MayGive (Stepped F.Steps.own R.Record C.Clock) };
+
+    ghost needs = { λ v. F.needs v.inner };
+
+    #[tactic(auto, using(tower_base::specs::GivesLemmas::gives_value, tower_base::specs::GivesLemmas::gives_same))]
+    fn poll(&mut self, cx: &mut Context<'_>) -> Poll<Self::Output>
+        requires { F.can_poll self.old.inner × IfSome self.old.rec R.sound }
+        ensures step { Stepped F.Steps.own R.Record C.Clock self.old result self.new }
+        ensures value { IfReady result (MayGive (Stepped F.Steps.own R.Record C.Clock) self.old) }
+        ensures again { OnPending result (F.can_poll self.new.inner × IfSome self.new.rec R.sound) }
+        ensures same { OnPending result ((x : _) → MayGive (Stepped F.Steps.own R.Record C.Clock) self.new x → MayGive (Stepped F.Steps.own R.Record C.Clock) self.old x) }
+        ensures registered { OnPending result (Covers cx.new (F.needs self.new.inner)) }
+        ensures kept { Keeps cx.old cx.new }
+    {
+        self.step(cx)
+    }
+}
+
+impl<T, E, R, F, C> Steps for ResponseFuture<R, F, C>
+where
+    R: Record,
+    F: Steps<Output = Result<T, E>>,
+    C: Clock,
+{
+    ghost stepped = { Stepped F.Steps.own R.Record C.Clock };
+
+    fn step(&mut self, cx: &mut Context<'_>) -> Poll<Self::Output> {
+        match self.inner.step(cx) {
+            Poll::Ready(Ok(response)) => {
+                if let Some(rec) = &mut self.rec {
+                    rec.record(self.clock.now().saturating_sub(self.start));
+                }
+                Poll::Ready(Ok(response))
+            }
+            Poll::Ready(Err(error)) => Poll::Ready(Err(error)),
+            Poll::Pending => Poll::Pending,
+        }
+    }
+}

@@ -1,0 +1,150 @@
+//! How hedges are made.
+ghost use Rattle.std.specs.Prelude.{◌≡◌, ◌≢◌, IfOk, []};
+ghost use Rattle.tower_retry.specs.HedgeMade.{Made, MadeAt, MadeFrom};
+
+use crate::hedge::Hedge;
+use crate::hedge::delay::Delay;
+use crate::hedge::flat::Flat;
+use crate::hedge::latency::Latency;
+use crate::hedge::policies::{DelayPolicy, SelectPolicy};
+use crate::hedge::predicate::PolicyPredicate;
+use crate::hedge::rotating_histogram::{HistoCore, RotatingHistogram};
+use crate::hedge::select::Select;
+use std::alloc::{AllocError, Global};
+use std::sync::Wait;
+use tower_base::latch::{Guarded, Latch};
+use tower_base::service::{Clock, Fraction};
+use tower_ware::filter::AsyncFilter;
+
+impl<S, P, R, C> Hedge<S, P, Guarded<HistoCore, R>, C>
+where
+    S: Clone + Drop,
+    P: Clone + Drop,
+    R: Wait + Copy,
+    C: Clock,
+{
+    /// A second request is made where `min_data_points` latencies at least are known, after the time
+    /// that the part `percentile` of them took. They are those of one period, in nanoseconds, which has
+    /// to be positive: `RotatingHistogram::fits` tests it. The clock is read once.
+    ///
+    /// For want of memory it answers an error, and drops what it was handed.
+    pub fn new(
+        rt: R,
+        alloc: Global,
+        service: S,
+        policy: P,
+        min_data_points: u64,
+        percentile: Fraction,
+        period: u64,
+        mut clock: C,
+    ) -> Result<Self, AllocError>
+        requires { period ≢ 0 }
+        ensures { IfOk result (λ hedge. MadeAt S.is_clone P.is_clone ⟦<Guarded<HistoCore, R> as Latch<HistoCore>>⟧.gave C.Clock [] service policy min_data_points percentile clock hedge) }
+    {
+        let core = HistoCore::new(alloc, period, clock.now());
+        let latch = Guarded::new(rt, alloc, core)?;
+        Hedge::with_latch(latch, service, policy, min_data_points, percentile, clock)
+    }
+
+    /// As `new`, with latencies in milliseconds that are read in the first period. The clock is read
+    /// once, and then once for each of them.
+    pub fn new_with_mock_latencies(
+        rt: R,
+        alloc: Global,
+        service: S,
+        policy: P,
+        min_data_points: u64,
+        percentile: Fraction,
+        period: u64,
+        mut clock: C,
+        latencies_ms: &[u64],
+    ) -> Result<Self, AllocError>
+        requires { period ≢ 0 }
+        ensures { IfOk result (λ hedge. MadeAt S.is_clone P.is_clone ⟦<Guarded<HistoCore, R> as Latch<HistoCore>>⟧.gave C.Clock latencies_ms.now service policy min_data_points percentile clock hedge) }
+    {
+        let core = HistoCore::new(alloc, period, clock.now());
+        let latch = Guarded::new(rt, alloc, core)?;
+        Hedge::with_latch_and_mock_latencies(
+            latch,
+            service,
+            policy,
+            min_data_points,
+            percentile,
+            clock,
+            latencies_ms,
+        )
+    }
+}
+
+impl<S, P, L, C> Hedge<S, P, L, C>
+where
+    S: Clone + Drop,
+    P: Clone + Drop,
+    L: Latch<HistoCore>,
+    C: Clock,
+{
+    /// As `new`, over a latch of the caller's. It makes no reading.
+    pub fn with_latch(
+        latch: L,
+        service: S,
+        policy: P,
+        min_data_points: u64,
+        percentile: Fraction,
+        clock: C,
+    ) -> Result<Self, AllocError>
+        ensures { IfOk result (λ hedge. MadeFrom S.is_clone P.is_clone L.gave C.Clock [] latch service policy min_data_points percentile clock hedge) }
+    {
+        let histogram = RotatingHistogram::with_latch(latch, clock.share());
+        Hedge::with_histogram(
+            histogram,
+            service,
+            policy,
+            min_data_points,
+            percentile,
+            clock,
+        )
+    }
+
+    /// As `new_with_mock_latencies`, over a latch of the caller's. It makes one reading for each latency.
+    pub fn with_latch_and_mock_latencies(
+        latch: L,
+        service: S,
+        policy: P,
+        min_data_points: u64,
+        percentile: Fraction,
+        clock: C,
+        latencies_ms: &[u64],
+    ) -> Result<Self, AllocError>
+        ensures { IfOk result (λ hedge. MadeFrom S.is_clone P.is_clone L.gave C.Clock latencies_ms.now latch service policy min_data_points percentile clock hedge) }
+    {
+        let mut histogram = RotatingHistogram::with_latch(latch, clock.share());
+        histogram.seed_all(latencies_ms);
+        Hedge::with_histogram(
+            histogram,
+            service,
+            policy,
+            min_data_points,
+            percentile,
+            clock,
+        )
+    }
+
+    fn with_histogram(
+        histogram: RotatingHistogram<L, C>,
+        service: S,
+        policy: P,
+        min_data_points: u64,
+        percentile: Fraction,
+        clock: C,
+    ) -> Result<Self, AllocError>
+        ensures { IfOk result (λ hedge. Made S.is_clone P.is_clone L.gave C.Clock histogram service policy min_data_points percentile clock hedge) }
+    {
+        let first = Latency::new(histogram.clone()?, service.clone()?, clock.share());
+        let second = Latency::new(histogram.clone()?, service, clock.share());
+        let filtered = AsyncFilter::new(second, PolicyPredicate::new(policy.clone()?));
+        let delay_policy = DelayPolicy::new(histogram.clone()?, percentile);
+        let delayed = Delay::new(delay_policy, filtered, clock.share());
+        let select_policy = SelectPolicy::new(policy, histogram, min_data_points);
+        Ok(Flat::of(Select::new(select_policy, first, delayed)))
+    }
+}

@@ -1,0 +1,97 @@
+//! How long a second request waits, and whether there is one.
+ghost use Rattle.std.specs.Prelude.{◌≡◌};
+ghost use Rattle.tower_retry.specs.HedgePolicies.{DelayPolicyView, Delayed, SelectPolicyView, Copied};
+
+use crate::hedge::policy::Policy;
+use crate::hedge::rotating_histogram::{HistoCore, RotatingHistogram};
+use crate::hedge::{delay, select};
+use std::marker::Model;
+use tower_base::latch::Latch;
+use tower_base::service::{Clock, Fraction};
+
+/// The delay of a second request is a quantile of the latencies: the Rust's `tower::hedge::DelayPolicy`.
+#[derive(Drop)]
+pub struct DelayPolicy<L: Latch<HistoCore>, C> {
+    histogram: RotatingHistogram<L, C>,
+    percentile: Fraction,
+}
+
+impl<L: Latch<HistoCore>, C> Model for DelayPolicy<L, C> {
+    ghost Value = { DelayPolicyView L C };
+
+    ghost view = { λ p. record { histogram = p.histogram; percentile = p.percentile } };
+}
+
+impl<L: Latch<HistoCore>, C> DelayPolicy<L, C> {
+    pub(crate) fn new(histogram: RotatingHistogram<L, C>, percentile: Fraction) -> DelayPolicy<L, C>
+        ensures { result ≡ record { histogram = histogram; percentile = percentile } }
+    {
+        DelayPolicy {
+            histogram,
+            percentile,
+        }
+    }
+}
+
+impl<Request, L: Latch<HistoCore>, C: Clock> delay::Policy<Request> for DelayPolicy<L, C> {
+    ghost delayed = { Delayed L.gave C.Clock };
+
+    fn delay(&mut self, _request: &Request) -> u64 {
+        let millis = self.histogram.quantile(self.percentile);
+        millis.saturating_mul(1_000_000)
+    }
+}
+
+/// There is a second request where its policy copies it and enough latencies are known: the Rust's
+/// `tower::hedge::SelectPolicy`.
+#[derive(Drop)]
+pub struct SelectPolicy<P, L: Latch<HistoCore>, C> {
+    policy: P,
+    histogram: RotatingHistogram<L, C>,
+    min_data_points: u64,
+}
+
+impl<P, L: Latch<HistoCore>, C> Model for SelectPolicy<P, L, C> {
+    ghost Value = { SelectPolicyView P L C };
+
+    ghost view = { λ p. record { policy = p.policy; histogram = p.histogram; min_data_points = p.min_data_points } };
+}
+
+impl<P, L: Latch<HistoCore>, C> SelectPolicy<P, L, C> {
+    pub(crate) fn new(
+        policy: P,
+        histogram: RotatingHistogram<L, C>,
+        min_data_points: u64,
+    ) -> SelectPolicy<P, L, C>
+        ensures { result ≡ record { policy = policy; histogram = histogram; min_data_points = min_data_points } }
+    {
+        SelectPolicy {
+            policy,
+            histogram,
+            min_data_points,
+        }
+    }
+}
+
+impl<Request, P, L, C> select::Policy<Request> for SelectPolicy<P, L, C>
+where
+    Request: Drop,
+    P: Policy<Request>,
+    L: Latch<HistoCore>,
+    C: Clock,
+{
+    ghost sound = { λ p. P.sound p.policy };
+
+    ghost cloned = { Copied P.Policy L.gave C.Clock };
+
+    /// Nothing is read of the clock where the policy gives no copy.
+    fn clone_request(&mut self, request: &Request) -> Option<Request> {
+        let Some(copy) = self.policy.clone_request(request) else {
+            return None;
+        };
+        if self.histogram.points() < self.min_data_points {
+            return None;
+        }
+        Some(copy)
+    }
+}

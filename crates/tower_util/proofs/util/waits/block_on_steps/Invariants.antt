@@ -1,0 +1,10 @@
+use Rattle.tower_base.specs.Gives.{MayGive}
+use Rattle.tower_util.proofs.util.waits.block_on_steps.Given as goal
+
+abbrev pub invariant-loop : goal.invariant-loop
+invariant-loop g l = record {
+  can_next : (goal.iterator-loop g).can_next l.iterator';
+  is_finite : (goal.iterator-loop g).is_finite l.iterator';
+  can_poll : g.F.Future.can_poll l.future;
+  gives : (x : _) → MayGive g.F.Steps.stepped l.future x → MayGive g.F.Steps.stepped l.fn.future x;
+}

@@ -1,0 +1,50 @@
+-- The maps: services that change requests, answers or futures by a closure f. What each answers, by the inner answer. Pending stays pending.
+--
+--   `MapRequest`    ready: inner                    inside: f(request)   response: inner
+--   `MapResponse`   ready: inner                    inside: request      response: Ok(v) to Ok(f(v)), an error as it was
+--   `MapErr`        ready: Err(e) to Err(f(e))      inside: request      response: Err(e) to Err(f(e)), Ok as it was
+--   `MapResult`     ready: Err(e) to Err(From(e))   inside: request      response: f(inner)
+--   `Then`          ready: Err(e) to Err(From(e))   inside: request      response: the output of the future f(inner)
+--   `AndThen`       ready: Err(e) to Err(From(e))   inside: request      response: Ok(v) to the output of the future f(v), Err(e) to Err(From(e))
+--   `MapFuture`     ready: Err(e) to Err(From(e))   inside: request      response: the output of the future f(inner future)
+--
+-- `given x y` says that the closure, given x, may answer y. The responses of `Then` and `AndThen` are in Chain.
+use Rattle.std.specs.Prelude.{◌≡◌, Result}
+use Rattle.futures.specs.declared.task.Poll.{Poll}
+use Rattle.tower_base.specs.Answers.{Lifts, Sides, Same, Readies}
+
+-- what a map shows, and its future: what it wraps, and the closure
+pub record MapView (S F : Type 0) : Type 0 where
+  pub inner : S
+  pub f : F
+
+-- what a map's layer shows
+pub record MapLayerView (F : Type 0) : Type 0 where
+  pub f : F
+
+-- `MapResponse`: `Ok(v)` to `Ok(f(v))`, an error as it was
+abbrev pub MapsResponse : {A B E : Type 0} → (A → B → Type 0) → Poll (Result A E) → Poll (Result B E) → Type 0
+MapsResponse given = Lifts (Sides given Same)
+
+-- `MapErr`: `Err(e)` to `Err(f(e))`, a response as it was
+abbrev pub MapsErr : {A E U : Type 0} → (E → U → Type 0) → Poll (Result A E) → Poll (Result A U) → Type 0
+MapsErr given = Lifts (Sides Same given)
+
+-- `MapResult`: the result to `f(result)`
+abbrev pub MapsResult : {A B : Type 0} → (A → B → Type 0) → Poll A → Poll B → Type 0
+MapsResult given = Lifts given
+
+-- a poll of readiness: one of the inner service, whose error is turned by the relation
+module _ {S F E U : Type 0} (polled : S → Poll (Result (Unit {0}) E) → S → Type 0) (turned : F → E → U → Type 0) where
+  abbrev pub Polled : MapView S F → Poll (Result (Unit {0}) U) → MapView S F → Type 0
+  Polled old answer new = (inner : Poll (Result (Unit {0}) E)) × polled old.inner inner new.inner × (new.f ≡ old.f) × Readies (turned old.f) inner answer
+
+-- a call: one of the inner service, which is ready, and the closure goes into the future
+module _ {S Q T F : Type 0} (ready : S → Type 0) (called : S → Q → T → S → Type 0) where
+  abbrev pub Called : MapView S F → Q → MapView T F → MapView S F → Type 0
+  Called old request future new = ready old.inner × called old.inner request future.inner new.inner × (future.f ≡ old.f) × (new.f ≡ old.f)
+
+-- a poll of a future: one of the inner future, whose answer is changed by the relation
+module _ {T F A B : Type 0} (stepped : T → Poll A → T → Type 0) (changed : F → Poll A → Poll B → Type 0) where
+  abbrev pub Stepped : MapView T F → Poll B → MapView T F → Type 0
+  Stepped old answer new = (inner : Poll A) × stepped old.inner inner new.inner × (new.f ≡ old.f) × changed old.f inner answer

@@ -1,0 +1,4 @@
+-- What `ServiceFn` shows.
+
+pub record ServiceFnView (T : Type 0) : Type 0 where
+  pub f : T

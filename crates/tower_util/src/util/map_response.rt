@@ -1,0 +1,157 @@
+//! A closure over the responses.
+ghost use Rattle.std.specs.Prelude.{◌≡◌};
+ghost use Rattle.futures.specs.Poll.{IfReady, OnPending};
+ghost use Rattle.futures.specs.Task.{Covers, Keeps};
+ghost use Rattle.tower_base.specs.Gives.{MayGive};
+ghost use Rattle.tower_util.specs.Maps.{MapView, MapLayerView, MapsResponse, Called, Stepped};
+
+use futures::future::Future;
+use futures::ready;
+use futures::task::{Context, Poll};
+use std::alloc::AllocError;
+use std::marker::Model;
+use tower_base::layer::Layer;
+use tower_base::service::{Service, Steps};
+
+/// Changes each response by a closure: the Rust's `tower::util::MapResponse`.
+#[derive(Clone, Drop)]
+pub struct MapResponse<S, F> {
+    inner: S,
+    f: F,
+}
+
+impl<S, F> Model for MapResponse<S, F> {
+    ghost Value = { MapView S F };
+
+    ghost view = { λ m. record { inner = m.inner; f = m.f } };
+}
+
+impl<S, F> MapResponse<S, F> {
+    /// The closure isn't called here.
+    pub fn new(inner: S, f: F) -> MapResponse<S, F>
+        ensures { result ≡ record { inner = inner; f = f } }
+    {
+        MapResponse { inner, f }
+    }
+
+    /// Its layer.
+    pub fn layer(f: F) -> MapResponseLayer<F>
+        ensures { result ≡ record { f = f } }
+    {
+        MapResponseLayer::new(f)
+    }
+}
+
+impl<S, F, Request, T> Service<Request> for MapResponse<S, F>
+where
+    S: Service<Request>,
+    F: Fn(S::Response) -> T + Copy,
+    T: Drop,
+{
+    type Response = T;
+
+    type Error = S::Error;
+
+    type Future = MapResponseFuture<S::Future, F>;
+
+    ghost sound = { λ m. S.sound m.inner × F.IsAlwaysCallable m.f };
+
+    ghost ready = { λ m. S.ready m.inner };
+
+    ghost polled = { λ old answer new. S.polled old.inner answer new.inner × (new.f ≡ old.f) };
+
+    ghost called = { Called S.ready S.called };
+
+    ghost readies = { λ old new polled. S.readies old.inner new.inner polled.0 };
+
+    fn poll_ready(&mut self, cx: &mut Context<'_>) -> Poll<Result<(), S::Error>> {
+        self.inner.poll_ready(cx)
+    }
+
+    fn call(&mut self, request: Request) -> MapResponseFuture<S::Future, F> {
+        MapResponseFuture {
+            inner: self.inner.call(request),
+            f: self.f,
+        }
+    }
+}
+
+/// The response of a `MapResponse`: the Rust's `tower::util::future::MapResponseFuture`.
+#[derive(Drop)]
+pub struct MapResponseFuture<F, N> {
+    inner: F,
+    f: N,
+}
+
+impl<F, N> Model for MapResponseFuture<F, N> {
+    ghost Value = { MapView F N };
+
+    ghost view = { λ t. record { inner = t.inner; f = t.f } };
+}
+
+impl<F: Steps<Output = Result<A, E>>, N: Fn(A) -> B + Copy, A, B, E> Future
+    for MapResponseFuture<F, N> {
+    type Output = Result<B, E>;
+
+    ghost can_poll = { λ t. F.can_poll t.inner × N.IsAlwaysCallable t.f };
+
+    ghost gives = { MayGive (Stepped F.stepped (λ f. MapsResponse (N.post f))) };
+
+    ghost needs = { λ t. F.needs t.inner };
+
+    #[tactic(auto, using(tower_base::specs::GivesLemmas::gives_value, tower_base::specs::GivesLemmas::gives_same))]
+    fn poll(&mut self, cx: &mut Context<'_>) -> Poll<Result<B, E>>
+        requires { ⟦<MapResponseFuture<F, N> as Future>⟧.can_poll self.old }
+        ensures step { Stepped F.stepped (λ f. MapsResponse (N.post f)) self.old result self.new }
+        ensures value { IfReady result (⟦<MapResponseFuture<F, N> as Future>⟧.gives self.old) }
+        ensures again { OnPending result (⟦<MapResponseFuture<F, N> as Future>⟧.can_poll self.new) }
+        ensures same { OnPending result ((x : _) → ⟦<MapResponseFuture<F, N> as Future>⟧.gives self.new x → ⟦<MapResponseFuture<F, N> as Future>⟧.gives self.old x) }
+        ensures registered { OnPending result (Covers cx.new (⟦<MapResponseFuture<F, N> as Future>⟧.needs self.new)) }
+        ensures kept { Keeps cx.old cx.new }
+    {
+        self.step(cx)
+    }
+}
+
+impl<F: Steps<Output = Result<A, E>>, N: Fn(A) -> B + Copy, A, B, E> Steps
+    for MapResponseFuture<F, N> {
+    ghost stepped = { Stepped F.stepped (λ f. MapsResponse (N.post f)) };
+
+    fn step(&mut self, cx: &mut Context<'_>) -> Poll<Result<B, E>> {
+        match ready!(self.inner.step(cx)) {
+            Ok(response) => Poll::Ready(Ok((self.f)(response))),
+            Err(error) => Poll::Ready(Err(error)),
+        }
+    }
+}
+
+/// Makes a `MapResponse` of a service: the Rust's `tower::util::MapResponseLayer`.
+#[derive(Clone, Drop)]
+pub struct MapResponseLayer<F> {
+    f: F,
+}
+
+impl<F> Model for MapResponseLayer<F> {
+    ghost Value = { MapLayerView F };
+
+    ghost view = { λ l. record { f = l.f } };
+}
+
+impl<F> MapResponseLayer<F> {
+    /// Each service that it wraps gets a copy of the closure.
+    pub fn new(f: F) -> MapResponseLayer<F>
+        ensures { result ≡ record { f = f } }
+    {
+        MapResponseLayer { f }
+    }
+}
+
+impl<S, F: Copy> Layer<S> for MapResponseLayer<F> {
+    type Service = MapResponse<S, F>;
+
+    ghost made = { λ layer service made. made ≡ record { inner = service; f = layer.f } };
+
+    fn layer(&self, service: S) -> Result<MapResponse<S, F>, AllocError> {
+        Ok(MapResponse::new(service, self.f))
+    }
+}

@@ -1,0 +1,158 @@
+//! A closure over the whole results.
+ghost use Rattle.std.specs.Prelude.{◌≡◌};
+ghost use Rattle.futures.specs.Poll.{IfReady, OnPending};
+ghost use Rattle.futures.specs.Task.{Covers, Keeps};
+ghost use Rattle.tower_base.specs.Gives.{MayGive};
+ghost use Rattle.tower_util.specs.Maps.{MapView, MapLayerView, MapsResult, Polled, Called, Stepped};
+ghost use Rattle.tower_util.specs.MapsReady.{polled_ready};
+
+use futures::future::Future;
+use futures::ready;
+use futures::task::{Context, Poll};
+use std::alloc::AllocError;
+use std::marker::Model;
+use tower_base::layer::Layer;
+use tower_base::service::{Service, Steps};
+
+/// Changes each result by a closure. An error of readiness is only converted: the Rust's `tower::util::MapResult`.
+#[derive(Clone, Drop)]
+pub struct MapResult<S, F> {
+    inner: S,
+    f: F,
+}
+
+impl<S, F> Model for MapResult<S, F> {
+    ghost Value = { MapView S F };
+
+    ghost view = { λ m. record { inner = m.inner; f = m.f } };
+}
+
+impl<S, F> MapResult<S, F> {
+    /// The closure isn't called here.
+    pub fn new(inner: S, f: F) -> MapResult<S, F>
+        ensures { result ≡ record { inner = inner; f = f } }
+    {
+        MapResult { inner, f }
+    }
+
+    /// Its layer.
+    pub fn layer(f: F) -> MapResultLayer<F>
+        ensures { result ≡ record { f = f } }
+    {
+        MapResultLayer::new(f)
+    }
+}
+
+impl<S, F, Request, T, U> Service<Request> for MapResult<S, F>
+where
+    S: Service<Request>,
+    F: Fn(Result<S::Response, S::Error>) -> Result<T, U> + Copy,
+    T: Drop,
+    U: From<S::Error> + Drop,
+{
+    type Response = T;
+
+    type Error = U;
+
+    type Future = MapResultFuture<S::Future, F>;
+
+    ghost sound = { λ m. S.sound m.inner × F.IsAlwaysCallable m.f };
+
+    ghost ready = { λ m. S.ready m.inner };
+
+    ghost polled = { Polled S.polled (λ _. U.from_gives) };
+
+    ghost called = { Called S.ready S.called };
+
+    ghost readies = { polled_ready S.polled (λ _. U.from_gives) S.ready S.readies };
+
+    fn poll_ready(&mut self, cx: &mut Context<'_>) -> Poll<Result<(), U>> {
+        match ready!(self.inner.poll_ready(cx)) {
+            Ok(()) => Poll::Ready(Ok(())),
+            Err(error) => Poll::Ready(Err(U::from(error))),
+        }
+    }
+
+    fn call(&mut self, request: Request) -> MapResultFuture<S::Future, F> {
+        MapResultFuture {
+            inner: self.inner.call(request),
+            f: self.f,
+        }
+    }
+}
+
+/// The response of a `MapResult`: the Rust's `tower::util::future::MapResultFuture`.
+#[derive(Drop)]
+pub struct MapResultFuture<F, N> {
+    inner: F,
+    f: N,
+}
+
+impl<F, N> Model for MapResultFuture<F, N> {
+    ghost Value = { MapView F N };
+
+    ghost view = { λ t. record { inner = t.inner; f = t.f } };
+}
+
+impl<F: Steps<Output = A>, N: Fn(A) -> B + Copy, A, B> Future for MapResultFuture<F, N> {
+    type Output = B;
+
+    ghost can_poll = { λ t. F.can_poll t.inner × N.IsAlwaysCallable t.f };
+
+    ghost gives = { MayGive (Stepped F.stepped (λ f. MapsResult (N.post f))) };
+
+    ghost needs = { λ t. F.needs t.inner };
+
+    #[tactic(auto, using(tower_base::specs::GivesLemmas::gives_value, tower_base::specs::GivesLemmas::gives_same))]
+    fn poll(&mut self, cx: &mut Context<'_>) -> Poll<B>
+        requires { ⟦<MapResultFuture<F, N> as Future>⟧.can_poll self.old }
+        ensures step { Stepped F.stepped (λ f. MapsResult (N.post f)) self.old result self.new }
+        ensures value { IfReady result (⟦<MapResultFuture<F, N> as Future>⟧.gives self.old) }
+        ensures again { OnPending result (⟦<MapResultFuture<F, N> as Future>⟧.can_poll self.new) }
+        ensures same { OnPending result ((x : _) → ⟦<MapResultFuture<F, N> as Future>⟧.gives self.new x → ⟦<MapResultFuture<F, N> as Future>⟧.gives self.old x) }
+        ensures registered { OnPending result (Covers cx.new (⟦<MapResultFuture<F, N> as Future>⟧.needs self.new)) }
+        ensures kept { Keeps cx.old cx.new }
+    {
+        self.step(cx)
+    }
+}
+
+impl<F: Steps<Output = A>, N: Fn(A) -> B + Copy, A, B> Steps for MapResultFuture<F, N> {
+    ghost stepped = { Stepped F.stepped (λ f. MapsResult (N.post f)) };
+
+    fn step(&mut self, cx: &mut Context<'_>) -> Poll<B> {
+        let result = ready!(self.inner.step(cx));
+        Poll::Ready((self.f)(result))
+    }
+}
+
+/// Makes a `MapResult` of a service: the Rust's `tower::util::MapResultLayer`.
+#[derive(Clone, Drop)]
+pub struct MapResultLayer<F> {
+    f: F,
+}
+
+impl<F> Model for MapResultLayer<F> {
+    ghost Value = { MapLayerView F };
+
+    ghost view = { λ l. record { f = l.f } };
+}
+
+impl<F> MapResultLayer<F> {
+    /// Each service that it wraps gets a copy of the closure.
+    pub fn new(f: F) -> MapResultLayer<F>
+        ensures { result ≡ record { f = f } }
+    {
+        MapResultLayer { f }
+    }
+}
+
+impl<S, F: Copy> Layer<S> for MapResultLayer<F> {
+    type Service = MapResult<S, F>;
+
+    ghost made = { λ layer service made. made ≡ record { inner = service; f = layer.f } };
+
+    fn layer(&self, service: S) -> Result<MapResult<S, F>, AllocError> {
+        Ok(MapResult::new(service, self.f))
+    }
+}

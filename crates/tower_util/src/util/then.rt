@@ -1,0 +1,181 @@
+//! A second future for each result.
+ghost use Rattle.std.specs.Prelude.{◌≡◌};
+ghost use Rattle.futures.specs.Poll.{IfReady, OnPending};
+ghost use Rattle.futures.specs.Task.{Covers, Keeps};
+ghost use Rattle.tower_base.specs.Gives.{MayGive};
+ghost use Rattle.tower_util.specs.Chain.{Called, ThenStepped};
+ghost use Rattle.tower_util.specs.Maps.{MapView, MapLayerView, Polled};
+ghost use Rattle.tower_util.specs.MapsReady.{polled_ready};
+ghost use Rattle.tower_util.specs.declared.util.chain.Chain.{Chain as Stages};
+ghost use Rattle.tower_util.specs.declared.util.chain.Chain.TheVariants.{First, Second};
+
+use crate::util::chain::Chain;
+use futures::future::Future;
+use futures::ready;
+use futures::task::{Context, Poll};
+use std::alloc::AllocError;
+use std::marker::Model;
+use tower_base::layer::Layer;
+use tower_base::service::{Service, Steps};
+
+/// Goes on from each result with a future that a closure makes of it. An error of readiness is only converted: the Rust's `tower::util::Then`.
+#[derive(Clone, Drop)]
+pub struct Then<S, F> {
+    inner: S,
+    f: F,
+}
+
+impl<S, F> Model for Then<S, F> {
+    ghost Value = { MapView S F };
+
+    ghost view = { λ m. record { inner = m.inner; f = m.f } };
+}
+
+impl<S, F> Then<S, F> {
+    /// The closure isn't called here.
+    pub fn new(inner: S, f: F) -> Then<S, F>
+        ensures { result ≡ record { inner = inner; f = f } }
+    {
+        Then { inner, f }
+    }
+
+    /// Its layer.
+    pub fn layer(f: F) -> ThenLayer<F>
+        ensures { result ≡ record { f = f } }
+    {
+        ThenLayer::new(f)
+    }
+}
+
+impl<S, F, Request, A, E, T, U, Fut> Service<Request> for Then<S, F>
+where
+    S: Service<Request, Response = A, Error = E>,
+    F: Fn(Result<A, E>) -> Fut + Copy,
+    Fut: Steps<Output = Result<T, U>>,
+    T: Drop,
+    U: From<E> + Drop,
+{
+    type Response = T;
+
+    type Error = U;
+
+    type Future = ThenFuture<S::Future, Fut, F>;
+
+    // What the closure gives may be polled.
+    ghost sound = { λ m. S.sound m.inner × F.IsAlwaysCallable m.f × ((x : _) (future : Fut) → F.post m.f x future → Fut.can_poll future) };
+
+    ghost ready = { λ m. S.ready m.inner };
+
+    ghost polled = { Polled S.polled (λ _. U.from_gives) };
+
+    ghost called = { Called S.ready S.called };
+
+    ghost readies = { polled_ready S.polled (λ _. U.from_gives) S.ready S.readies };
+
+    fn poll_ready(&mut self, cx: &mut Context<'_>) -> Poll<Result<(), U>> {
+        match ready!(self.inner.poll_ready(cx)) {
+            Ok(()) => Poll::Ready(Ok(())),
+            Err(error) => Poll::Ready(Err(U::from(error))),
+        }
+    }
+
+    fn call(&mut self, request: Request) -> ThenFuture<S::Future, Fut, F> {
+        ThenFuture {
+            state: Chain::First(self.inner.call(request), self.f),
+        }
+    }
+}
+
+/// The response of a `Then`: the Rust's `tower::util::future::ThenFuture`.
+#[derive(Drop)]
+pub struct ThenFuture<F1, F2, N> {
+    state: Chain<F1, F2, N>,
+}
+
+impl<F1, F2, N> Model for ThenFuture<F1, F2, N> {
+    ghost Value = { Stages F1 F2 N };
+
+    ghost view = { λ t. t.state };
+}
+
+impl<F1, F2, N, A> Future for ThenFuture<F1, F2, N>
+where
+    F1: Steps<Output = A>,
+    F2: Steps,
+    N: Fn(A) -> F2 + Copy,
+{
+    type Output = F2::Output;
+
+    ghost can_poll = { elim [
+      | First inner f ↦ F1.can_poll inner × N.IsAlwaysCallable f × ((x : A) (second : F2) → N.post f x second → F2.can_poll second)
+      | Second inner ↦ F2.can_poll inner
+    ] };
+
+    ghost gives = { MayGive (ThenStepped F1.stepped N.post F2.stepped) };
+
+    ghost needs = { elim [ First inner f ↦ F1.needs inner | Second inner ↦ F2.needs inner ] };
+
+    #[tactic(auto, using(tower_base::specs::GivesLemmas::gives_value, tower_base::specs::GivesLemmas::gives_same))]
+    fn poll(&mut self, cx: &mut Context<'_>) -> Poll<F2::Output>
+        requires { ⟦<ThenFuture<F1, F2, N> as Future>⟧.can_poll self.old }
+        ensures step { ThenStepped F1.stepped N.post F2.stepped self.old result self.new }
+        ensures value { IfReady result (⟦<ThenFuture<F1, F2, N> as Future>⟧.gives self.old) }
+        ensures again { OnPending result (⟦<ThenFuture<F1, F2, N> as Future>⟧.can_poll self.new) }
+        ensures same { OnPending result ((x : _) → ⟦<ThenFuture<F1, F2, N> as Future>⟧.gives self.new x → ⟦<ThenFuture<F1, F2, N> as Future>⟧.gives self.old x) }
+        ensures registered { OnPending result (Covers cx.new (⟦<ThenFuture<F1, F2, N> as Future>⟧.needs self.new)) }
+        ensures kept { Keeps cx.old cx.new }
+    {
+        self.step(cx)
+    }
+}
+
+impl<F1, F2, N, A> Steps for ThenFuture<F1, F2, N>
+where
+    F1: Steps<Output = A>,
+    F2: Steps,
+    N: Fn(A) -> F2 + Copy,
+{
+    ghost stepped = { ThenStepped F1.stepped N.post F2.stepped };
+
+    fn step(&mut self, cx: &mut Context<'_>) -> Poll<F2::Output> {
+        if let Chain::First(first, f) = &mut self.state {
+            let result = ready!(first.step(cx));
+            self.state = Chain::Second(f(result));
+        }
+        let Chain::Second(second) = &mut self.state else {
+            unreachable!()
+        };
+        second.step(cx)
+    }
+}
+
+/// Makes a `Then` of a service: the Rust's `tower::util::ThenLayer`.
+#[derive(Clone, Drop)]
+pub struct ThenLayer<F> {
+    f: F,
+}
+
+impl<F> Model for ThenLayer<F> {
+    ghost Value = { MapLayerView F };
+
+    ghost view = { λ l. record { f = l.f } };
+}
+
+impl<F> ThenLayer<F> {
+    /// Each service that it wraps gets a copy of the closure.
+    pub fn new(f: F) -> ThenLayer<F>
+        ensures { result ≡ record { f = f } }
+    {
+        ThenLayer { f }
+    }
+}
+
+impl<S, F: Copy> Layer<S> for ThenLayer<F> {
+    type Service = Then<S, F>;
+
+    ghost made = { λ layer service made. made ≡ record { inner = service; f = layer.f } };
+
+    fn layer(&self, service: S) -> Result<Then<S, F>, AllocError> {
+        Ok(Then::new(service, self.f))
+    }
+}

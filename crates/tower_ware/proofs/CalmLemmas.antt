@@ -1,0 +1,89 @@
+-- Where readiness never fails, each poll is one without a readiness error.
+use Rattle.std.proofs.Common.{ℕ, zero, suc, Bool, true, false, List, [], ◌∷◌, inl, inr, ⊎_elim, Option, Some, None, Result, Ok, Err}
+use Rattle.futures.specs.declared.task.Poll.{Poll}
+use Rattle.futures.specs.declared.task.Poll.TheVariants.{Ready, Pending}
+use Rattle.tower_base.specs.Gives.{MayYield, NextAfter, Yields}
+use Rattle.tower_base.specs.Passes.{Goes}
+use Rattle.tower_base.specs.declared.service.Flow.{Ghosts as FlowOf}
+use Rattle.tower_base.specs.declared.service.Service.{Ghosts as ServiceOf}
+use Rattle.tower_ware.specs.CallAll.{AfterAsk, AfterFlow, AfterReady, Called, CallerView, Flowed, GoesOn, Pass}
+use Rattle.tower_ware.specs.Order.{IsCalm, unfailing}
+use Rattle.tower_ware.specs.declared.util.call_all.drive.Drive.{Ghosts as DriveOf}
+use Rattle.tower_ware.specs.declared.util.call_all.error.Error.{Error}
+
+goes_map : {V A : Type 0} (p q : V → Option A → V → Type 0) → ((v w : V) → p v None w → q v None w) → (n : ℕ) (v w : V) → Goes p n v w → Goes q n v w
+unfolding Goes
+goes_map p q h zero v w went = went
+goes_map p q h (suc n) v w went = (went.0, goes_map p q h n v went.0 went.1, h went.0 w went.2)
+
+module _ {F A : Type 0} (p q : F → Poll (Option A) → F → Type 0) (h : (f g : F) (a : Poll (Option A)) → p f a g → q f a g) where
+  next_map : (n : ℕ) (f : F) (o : Option A) (P R : F → Type 0) → ((g : F) → P g → R g) → NextAfter p n f o P → NextAfter q n f o R
+  next_map zero f o P R k x = (x.0, h f x.0 (Ready o) x.1, k x.0 x.2)
+  next_map (suc n) f o P R k x = (x.0, h f x.0 Pending x.1, next_map n x.0 o P R k x.2)
+
+  yields_map : (xs : List A) (last : Option A) (f : F) → Yields p xs last f → Yields q xs last f
+  yields_map [] last f x = (x.0, next_map x.0 f last (λ g. Unit {0}) (λ g. Unit {0}) (λ g u. u) x.1)
+  yields_map (y ∷ ys) last f x = (x.0, next_map x.0 f (Some y) (Yields p ys last) (Yields q ys last) (λ g r. yields_map ys last g r) x.1)
+
+  pub may_yield_map : (f : F) (xs : List A) (last : Option A) → MayYield p f xs last → MayYield q f xs last
+  unfolding MayYield
+  may_yield_map f xs last x = yields_map xs last f x
+
+module _ {V Q D N A E R : Type 0} (sv : ServiceOf V R A E N) (fl : FlowOf Q R) (dr : DriveOf D (Result A E) N)
+    (never : (v w : V) (e : E) → ¬ sv.polled v (Ready (Err e)) w) where
+  abbrev Outcome : Type 0
+  Outcome = Option (Poll (Option (Result A (Error E))))
+
+  calm : (v w : V) (r : Poll (Result (Unit {0}) E)) → sv.polled v r w → IsCalm r
+  calm v w (Ready (Err e)) p = never v w e p
+  calm v w (Ready (Ok u)) p = tt
+  calm v w Pending p = tt
+
+  after_calm : (s : CallerView V Q D R) (q : R) (w : V) (r : Poll (Result (Unit {0}) E)) (o : Outcome) (t : CallerView V Q D R)
+      → AfterReady sv fl dr s q w r o t → AfterReady (unfailing sv) fl dr s q w r o t
+  after_calm s q w Pending o t h = h
+  after_calm s q w (Ready (Err e)) o t h = h
+  after_calm s q w (Ready (Ok u)) o t h = h
+
+  calls_calm : (s : CallerView V Q D R) (q : R) (o : Outcome) (t : CallerView V Q D R)
+      → Called sv fl dr s q o t → Called (unfailing sv) fl dr s q o t
+  calls_calm s q o t h = (
+    h.0,
+    h.1,
+    ⊎_elim inl
+        (λ a. inr (a.0, a.1, a.2, a.3, (a.4, calm a.0 a.1 a.2 a.4), after_calm (record s { queue = h.0 }) q a.1 a.2 o t a.5)) h.2,
+  )
+
+  flow_calm : (s : CallerView V Q D R) (p : Poll (Option R)) (o : Outcome) (t : CallerView V Q D R)
+      → AfterFlow sv fl dr s p o t → AfterFlow (unfailing sv) fl dr s p o t
+  flow_calm s Pending o t h = h
+  flow_calm s (Ready None) o t h = h
+  flow_calm s (Ready (Some q)) o t h = calls_calm s q o t h
+
+  goes_calm : (b : Bool) (k : Option R) (s : CallerView V Q D R) (o : Outcome) (t : CallerView V Q D R)
+      → GoesOn sv fl dr b k s o t → GoesOn (unfailing sv) fl dr b k s o t
+  goes_calm true k s o t h = h
+  goes_calm false (Some q) s o t h = calls_calm (record s { kept = None }) q o t h
+  goes_calm false None s o t h = (h.0, h.1, h.2, flow_calm (record s { requests = h.1 }) h.0 o t h.3)
+
+  ask_calm : (s : CallerView V Q D R) (p : Poll (Option (Result A E))) (o : Outcome) (t : CallerView V Q D R)
+      → AfterAsk sv fl dr s p o t → AfterAsk (unfailing sv) fl dr s p o t
+  ask_calm s (Ready (Some x)) o t h = h
+  ask_calm s (Ready None) o t h = goes_calm s.ended s.kept s o t h
+  ask_calm s Pending o t h = goes_calm s.ended s.kept s o t h
+
+  pass_calm : (s : CallerView V Q D R) (o : Outcome) (t : CallerView V Q D R)
+      → Pass sv fl dr s o t → Pass (unfailing sv) fl dr s o t
+  pass_calm s o t h = (h.0, h.1, h.2, ask_calm (record s { queue = h.1 }) h.0 o t h.3)
+
+  pub flows_calm : (s t : CallerView V Q D R) (a : Poll (Option (Result A (Error E)))) → Flowed sv fl dr s a t
+      → Flowed (unfailing sv) fl dr s a t
+  flows_calm s t a h = record {
+    passes = record {
+      count = h.passes.count;
+      last = h.passes.last;
+      went = goes_map (Pass sv fl dr) (Pass (unfailing sv) fl dr)
+          (λ v w p. pass_calm v None w p) h.passes.count s h.passes.last h.passes.went;
+      ends = ⊎_elim (λ x. inl (x.0, pass_calm h.passes.last (Some a) t x.1)) inr h.passes.ends;
+    };
+  }

@@ -1,0 +1,17 @@
+use Rattle.std.proofs.Common.{◌≡◌, All, ◌<◌, ◌≤◌, ℕ, length, slice_index_or}
+use Rattle.std.specs.VecDeque.{deque_capacity, deque_len}
+use Rattle.futures.specs.Task.{Keeps}
+use Rattle.tower_ware.specs.Line.{MayAsk, SlotAsked}
+use Rattle.tower_ware.proofs.util.call_all.line.ask_each.Given as goal
+
+abbrev pub invariant-loop-i : goal.invariant-loop-i
+invariant-loop-i g l = record {
+  size : length l.slots.items ≡ length l.fn.slots.items;
+  count : deque_len l.slots ≡ l.i-end;
+  done : (k : ℕ) (d : _) → k < l.i → k < length l.fn.slots.items
+      → SlotAsked g.F.Steps (slice_index_or l.fn.slots.items k d) (slice_index_or l.slots.items k d);
+  todo : (k : ℕ) (d : _) → l.i ≤ k → slice_index_or l.slots.items k d ≡ slice_index_or l.fn.slots.items k d;
+  again : All (MayAsk g.F.Future.can_poll) l.slots.items;
+  room : deque_capacity l.slots ≡ deque_capacity l.fn.slots;
+  kept : Keeps l.fn.cx l.cx;
+}

@@ -1,0 +1,22 @@
+-- A queue of calls.
+use Rattle.std.specs.Prelude.{◌≡◌, ℕ, ◌<◌, List, [], ◌∷◌, ◌++◌, length}
+
+-- calls without a yielded answer, in call order, in a list that has room for so many
+pub record Queue (X : Type 0) : Type 0 where
+  pub calls : List X
+  pub room : ℕ
+
+module _ {X : Type 0} where
+  abbrev pub Empty : Queue X → Type 0
+  Empty queue = queue.calls ≡ []
+
+  abbrev pub HasRoom : Queue X → Type 0
+  HasRoom queue = length queue.calls < queue.room
+
+  -- room was made, or was refused
+  abbrev pub Grown : Queue X → Queue X → Type 0
+  Grown old new = new.calls ≡ old.calls
+
+  -- a call was put in as the last
+  abbrev pub Pushed : {F : Type 0} → (F → X) → Queue X → F → Queue X → Type 0
+  Pushed enter old future new = (new.calls ≡ old.calls ++ enter future ∷ []) × (new.room ≡ old.room)

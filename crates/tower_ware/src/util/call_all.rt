@@ -1,0 +1,29 @@
+//! Streams that call a service with each request of a stream: the Rust's `tower::util::call_all`.
+ghost use Rattle.tower_ware.specs.CallAll.{CallAllFlowed, CallAllUnorderedFlowed};
+ghost use Rattle.tower_ware.specs.Order.{Calms, InAnyOrder, InOrder};
+
+mod bag;
+mod caller;
+mod drive;
+mod error;
+mod line;
+mod ordered;
+mod slot;
+mod unordered;
+
+pub use error::Error;
+pub use ordered::CallAll;
+use tower_base::service::{Flow, Service};
+pub use unordered::CallAllUnordered;
+
+/// The order of calls. Where a stream comes to its end and no readiness answered an error, its items but for
+/// `Memory` are one answer for each request: of a `CallAll` in the order of the requests, of a `CallAllUnordered` in
+/// any order. The service ran through these calls one after another, each at a ready value, in the order of the
+/// requests, that of the kept request first. This holds of streams from `new` and from `unordered`. Where no readiness
+/// of the service can answer an error, each run is of this kind.
+pub fn law<Svc: Service<S::Item>, S: Flow>()
+    ensures ordered { (service : _) (requests : S) (kept : _) → InOrder Svc.Service S.Flow.own Svc.Future.Steps.own Svc.Future.can_poll service requests kept }
+    ensures unordered { (service : _) (requests : S) (kept : _) → InAnyOrder Svc.Service S.Flow.own Svc.Future.Steps.own Svc.Future.can_poll service requests kept }
+    ensures calm { Calms Svc.Service S.Flow.own Svc.Future.Steps.own Svc.Future.can_poll (λ s. CallAllFlowed s S.Flow.own Svc.Future.Steps.own Svc.Future.can_poll) }
+    ensures calm_unordered { Calms Svc.Service S.Flow.own Svc.Future.Steps.own Svc.Future.can_poll (λ s. CallAllUnorderedFlowed s S.Flow.own Svc.Future.Steps.own Svc.Future.can_poll) }
+{}

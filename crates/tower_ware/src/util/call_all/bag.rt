@@ -1,0 +1,87 @@
+//! The queue of an unordered stream.
+ghost use Rattle.std.specs.Prelude.{◌≡◌, [], All, MatchOption};
+ghost use Rattle.std.specs.Vec.{vec_capacity};
+ghost use Rattle.futures.specs.Task.{IsArmed, Keeps};
+ghost use Rattle.tower_ware.specs.Bag.{BagAsked, EachAsked};
+ghost use Rattle.tower_ware.specs.Queue.{Empty, Grown, HasRoom, Pushed, Queue};
+
+use crate::util::call_all::drive::Drive;
+use futures::task::{Context, Poll};
+use std::alloc::{AllocError, Global};
+use std::marker::Model;
+use tower_base::service::Steps;
+
+/// Calls whose answers come in any order: the Rust's `FuturesUnordered`.
+#[derive(Drop)]
+pub struct Bag<F> {
+    futures: Vec<F>,
+}
+
+impl<F> Model for Bag<F> {
+    ghost Value = { Queue F };
+
+    ghost view = { λ b. record { calls = b.futures.items; room = vec_capacity b.futures } };
+}
+
+impl<F> Bag<F> {
+    pub fn new(alloc: Global) -> Bag<F>
+        ensures { Empty result }
+    {
+        Bag {
+            futures: Vec::new(alloc),
+        }
+    }
+}
+
+// The futures are polled up to the first that answers, which leaves.
+fn ask_each<T: Drop, F: Steps<Output = T>>(futures: &mut Vec<F>, cx: &mut Context<'_>) -> Option<T>
+    requires { All F.can_poll futures.old.items }
+    ensures asked { EachAsked F.Steps.own futures.old.items result futures.new.items }
+    ensures again { All F.can_poll futures.new.items }
+    ensures room { vec_capacity futures.new ≡ vec_capacity futures.old }
+    ensures armed { MatchOption result (¬ (futures.old.items ≡ []) → IsArmed cx.new) (λ _. Unit {0}) }
+    ensures kept { Keeps cx.old cx.new }
+{
+    for i in 0..futures.len() {
+        if let Poll::Ready(answer) = futures[i].step(cx) {
+            let _ = futures.remove(i);
+            return Some(answer);
+        }
+    }
+    None
+}
+
+impl<T: Drop, F: Steps<Output = T>> Drive<T, F> for Bag<F> {
+    ghost sound = { λ b. All F.can_poll b.calls };
+
+    ghost has_room = { HasRoom };
+
+    ghost empty = { Empty };
+
+    ghost asked = { BagAsked F.Steps.own };
+
+    ghost grown = { Grown };
+
+    ghost pushed = { Pushed (λ future. future) };
+
+    fn poll(&mut self, cx: &mut Context<'_>) -> Poll<Option<T>> {
+        let is_empty = self.futures.is_empty();
+        match ask_each(&mut self.futures, cx) {
+            Some(answer) => Poll::Ready(Some(answer)),
+            None if is_empty => Poll::Ready(None),
+            None => Poll::Pending,
+        }
+    }
+
+    fn is_empty(&self) -> bool {
+        self.futures.is_empty()
+    }
+
+    fn reserve(&mut self) -> Result<(), AllocError> {
+        self.futures.reserve(1)
+    }
+
+    fn push(&mut self, future: F) {
+        self.futures.push_reserved(future);
+    }
+}

@@ -1,0 +1,152 @@
+//! Calls whose answers are yielded in the order of the requests.
+ghost use Rattle.std.specs.Prelude.{◌≡◌, [], All, IfSome, IsSome, IsTrue, OnSome, ◌↔◌, None, Some, false};
+ghost use Rattle.futures.specs.Poll.{IfReady, OnPending};
+ghost use Rattle.futures.specs.Runs.{After, Within};
+ghost use Rattle.futures.specs.Task.{Covers, Keeps};
+ghost use Rattle.tower_base.specs.Gives.{MayYield};
+ghost use Rattle.tower_ware.specs.CallAll.{CallAllFlowed, CallerView, CanFlow, New, view_of};
+ghost use Rattle.tower_ware.specs.Line.{MayAsk};
+ghost use Rattle.tower_ware.specs.declared.util.call_all.slot.Slot.{Slot};
+ghost use Rattle.tower_ware.specs.Queue.{Empty, Queue};
+
+use crate::util::call_all::bag::Bag;
+use crate::util::call_all::caller::Caller;
+use crate::util::call_all::error::Error;
+use crate::util::call_all::line::Line;
+use crate::util::call_all::unordered::CallAllUnordered;
+use futures::stream::Stream;
+use futures::task::{Context, Poll};
+use std::alloc::Global;
+use std::marker::Model;
+use tower_base::service::{Flow, Service};
+
+/// Calls a service with each request of a stream and yields the answers in the order of the requests: the Rust's
+/// `tower::util::CallAll`.
+///
+/// An error of the service's readiness is yielded at once and ends the requests; the calls that were made still
+/// answer. After `Memory` the stream goes on. A poll makes 64 passes at most, and is then pending with its own task
+/// woken.
+///
+/// `F`, `T` and `R` are the service's future, its answer and the request.
+#[derive(Drop)]
+pub struct CallAll<Svc, S, F, T, R> {
+    caller: Caller<Svc, S, Line<F, T>, R>,
+}
+
+impl<Svc, S, F, T, R> Model for CallAll<Svc, S, F, T, R> {
+    ghost Value = { CallerView Svc S (Queue (Slot F T)) R };
+
+    ghost view = { λ c. view_of c.caller };
+}
+
+impl<Svc: Service<S::Item>, S: Flow> CallAll<
+    Svc,
+    S,
+    Svc::Future,
+    Result<Svc::Response, Svc::Error>,
+    S::Item,
+> {
+    /// It has no room for calls yet.
+    pub fn new(
+        alloc: Global,
+        service: Svc,
+        requests: S,
+    ) -> CallAll<Svc, S, Svc::Future, Result<Svc::Response, Svc::Error>, S::Item>
+        ensures { New (Some service) requests None result }
+    {
+        CallAll {
+            caller: Caller::new(Some(service), requests, Line::new(alloc), None),
+        }
+    }
+}
+
+impl<Svc: Drop, S: Drop, F: Drop, T: Drop, R: Drop> CallAll<Svc, S, F, T, R> {
+    /// The service wasn't taken.
+    pub fn has_service(&self) -> bool
+        ensures { IsTrue result ↔ IsSome self.now.service }
+    {
+        self.caller.service.is_some()
+    }
+
+    /// Takes the service out. No poll may follow. It asks for the service still there, which `has_service` tests.
+    pub fn take_service(&mut self) -> Svc
+        requires { IsSome self.old.service }
+        ensures service { self.old.service ≡ Some result }
+        ensures same { self.new ≡ record self.old { service = None } }
+    {
+        let Some(service) = self.caller.service.take() else {
+            unreachable!()
+        };
+        service
+    }
+
+    /// The service, and all else is dropped. It asks for the service still there, which `has_service` tests.
+    pub fn into_inner(mut self) -> Svc
+        requires { IsSome self.service }
+        ensures { self.service ≡ Some result }
+    {
+        self.take_service()
+    }
+
+    /// No call is without a yielded answer, and the requests haven't ended.
+    pub fn can_unorder(&self) -> bool
+        ensures { IsTrue result ↔ (Empty self.now.queue × (self.now.ended ≡ false)) }
+    {
+        self.caller.queue.is_clear() && !self.caller.ended
+    }
+
+    /// The same calls, yielded as they answer. A request that was taken and not called yet is handed over. It asks
+    /// for no call without a yielded answer and for requests that haven't ended, which `can_unorder` tests.
+    pub fn unordered(self) -> CallAllUnordered<Svc, S, F, R>
+        requires none { Empty self.queue }
+        requires goes { self.ended ≡ false }
+        ensures { New self.service self.requests self.kept result }
+    {
+        let bag = Bag::new(self.caller.queue.allocator());
+        CallAllUnordered::from_parts(
+            self.caller.service,
+            self.caller.requests,
+            bag,
+            self.caller.kept,
+        )
+    }
+}
+
+impl<Svc: Service<S::Item>, S: Flow> Stream
+    for CallAll<Svc, S, Svc::Future, Result<Svc::Response, Svc::Error>, S::Item>
+where
+    S::Item: Drop,
+{
+    type Item = Result<Svc::Response, Error<Svc::Error>>;
+
+    ghost can_poll = { CanFlow Svc.sound (λ q. All (MayAsk Svc.Future.can_poll) q.calls) S.can_poll };
+
+    ghost yields = { MayYield (CallAllFlowed Svc.Service S.Flow.own Svc.Future.Steps.own Svc.Future.can_poll) };
+
+    #[tactic(auto, using(tower_base::specs::GivesLemmas::yields_value, tower_base::specs::GivesLemmas::yields_rest, tower_base::specs::GivesLemmas::yields_same))]
+    fn poll_next(&mut self, cx: &mut Context<'_>) -> Poll<Option<Self::Item>>
+        requires { CanFlow Svc.sound (λ q. All (MayAsk Svc.Future.can_poll) q.calls) S.can_poll self.old }
+        ensures flow { CallAllFlowed Svc.Service S.Flow.own Svc.Future.Steps.own Svc.Future.can_poll self.old result self.new }
+        ensures value { IfReady result (MayYield (CallAllFlowed Svc.Service S.Flow.own Svc.Future.Steps.own Svc.Future.can_poll) self.old []) }
+        ensures rest { IfReady result (λ o. IfSome o (λ x. After (MayYield (CallAllFlowed Svc.Service S.Flow.own Svc.Future.Steps.own Svc.Future.can_poll) self.old) x (MayYield (CallAllFlowed Svc.Service S.Flow.own Svc.Future.Steps.own Svc.Future.can_poll) self.new))) }
+        ensures goes { IfReady result (λ o. OnSome o (CanFlow Svc.sound (λ q. All (MayAsk Svc.Future.can_poll) q.calls) S.can_poll self.new)) }
+        ensures again { OnPending result (CanFlow Svc.sound (λ q. All (MayAsk Svc.Future.can_poll) q.calls) S.can_poll self.new) }
+        ensures same { OnPending result (Within (MayYield (CallAllFlowed Svc.Service S.Flow.own Svc.Future.Steps.own Svc.Future.can_poll) self.old) (MayYield (CallAllFlowed Svc.Service S.Flow.own Svc.Future.Steps.own Svc.Future.can_poll) self.new)) }
+        ensures registered { OnPending result (Covers cx.new (λ _. ⊥)) }
+        ensures kept { Keeps cx.old cx.new }
+    {
+        self.flow(cx)
+    }
+}
+
+impl<Svc: Service<S::Item>, S: Flow> Flow
+    for CallAll<Svc, S, Svc::Future, Result<Svc::Response, Svc::Error>, S::Item>
+where
+    S::Item: Drop,
+{
+    ghost flowed = { CallAllFlowed Svc.Service S.Flow.own Svc.Future.Steps.own Svc.Future.can_poll };
+
+    fn flow(&mut self, cx: &mut Context<'_>) -> Poll<Option<Self::Item>> {
+        self.caller.passes(cx)
+    }
+}

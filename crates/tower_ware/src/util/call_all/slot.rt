@@ -1,0 +1,29 @@
+//! A call without a yielded answer.
+ghost use Rattle.futures.specs.Task.{Keeps};
+ghost use Rattle.tower_ware.specs.Line.{MayAsk, SlotAsked};
+
+use futures::task::{Context, Poll};
+use tower_base::service::Steps;
+
+/// The future of a call, or the answer that it gave.
+#[derive(Drop)]
+pub enum Slot<F, T> {
+    Waiting(F),
+    Answered(T),
+}
+
+impl<T: Drop, F: Steps<Output = T>> Slot<F, T> {
+    // Polls the future, unless it has answered.
+    pub fn ask(&mut self, cx: &mut Context<'_>)
+        requires { MayAsk F.can_poll self.old }
+        ensures asked { SlotAsked F.Steps.own self.old self.new }
+        ensures again { MayAsk F.can_poll self.new }
+        ensures kept { Keeps cx.old cx.new }
+    {
+        if let Slot::Waiting(future) = self {
+            if let Poll::Ready(answer) = future.step(cx) {
+                *self = Slot::Answered(answer);
+            }
+        }
+    }
+}

@@ -1,0 +1,14 @@
+#!/usr/bin/env bash
+# Each link of a document names a file or folder that is there. It prints those that don't.
+set -u
+cd "$(dirname "${BASH_SOURCE[0]}")/.." || exit 1
+broken=0
+for page in *.md docs/*.md; do
+    while read -r link; do
+        if [ ! -e "$(dirname "$page")/$link" ]; then
+            echo "$page: $link"
+            broken=1
+        fi
+    done < <(grep -oE '\]\([^)#: ]+' "$page" | sed 's/^](//')
+done
+exit "$broken"
