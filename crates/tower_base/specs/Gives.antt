@@ -1,4 +1,4 @@
--- What a future may give by its polls, and what a stream may yield.
+-- What a future may give by its polls, what a stream may yield, and what a party that is polled again and again may answer.
 use Rattle.std.specs.Prelude.{ℕ, suc, zero, List, [], ◌∷◌, Option, Some}
 use Rattle.futures.specs.declared.task.Poll.{Poll}
 use Rattle.futures.specs.declared.task.Poll.TheVariants.{Ready, Pending}
@@ -31,3 +31,13 @@ module _ {F A : Type 0} (flowed : F → Poll (Option A) → F → Type 0) where
 
   unfoldable pub MayYield : F → List A → Option A → Type 0
   MayYield f xs last = Yields xs last f
+
+module _ {D A : Type 0} (polled : D → A → D → Type 0) where
+  -- so many polls have whatever answers, and the next one has this one
+  abbrev pub AnswersAfter : ℕ → D → A → Type 0
+  AnswersAfter zero d a = (e : D) × polled d a e
+  AnswersAfter (suc n) d a = (other : A) × (e : D) × polled d other e × AnswersAfter n e a
+
+  -- some number of polls of whatever answers, and then this one
+  unfoldable pub MayAnswer : D → A → Type 0
+  MayAnswer d a = (n : ℕ) × AnswersAfter n d a

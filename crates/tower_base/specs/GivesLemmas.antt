@@ -1,10 +1,10 @@
--- What one poll of a future or stream says of what it may give or yield.
+-- What one poll of a future, stream or other party says of what it may give, yield or answer.
 use Rattle.std.specs.Prelude.{ℕ, suc, zero, List, [], ◌∷◌, Option, Some, None, IfSome}
 use Rattle.futures.specs.declared.task.Poll.{Poll}
 use Rattle.futures.specs.declared.task.Poll.TheVariants.{Ready, Pending}
 use Rattle.futures.specs.Poll.{IfReady, OnPending}
 use Rattle.futures.specs.Runs.{After, Within}
-use Rattle.tower_base.specs.Gives.{GivesAfter, MayGive, GivesOnly, Yields, MayYield}
+use Rattle.tower_base.specs.Gives.{GivesAfter, MayGive, GivesOnly, Yields, MayYield, AnswersAfter, MayAnswer}
 
 module _ {F A : Type 0} (stepped : F → Poll A → F → Type 0) where
   -- an answer is an output that the future may give
@@ -53,3 +53,24 @@ module _ {F A : Type 0} (flowed : F → Poll (Option A) → F → Type 0) where
   unfolding MayYield
   yields_same f (Ready o) g s = tt
   yields_same f Pending g s = λ xs last h. later f g s xs last h
+
+module _ {D A : Type 0} (polled : D → A → D → Type 0) where
+  -- an answer is one that may come
+  pub answers_now : (d : D) (a : A) (e : D) → polled d a e → MayAnswer polled d a
+  unfolding MayAnswer
+  answers_now d a e s = (0, (e, s))
+
+  -- what may come after a poll might have come before it
+  pub answers_later : (d : D) (other : A) (e : D) → polled d other e → (a : A) → MayAnswer polled e a → MayAnswer polled d a
+  unfolding MayAnswer
+  answers_later d other e s a h = (suc h.0, (other, e, s, h.1))
+
+  module _ (I : D → Type 0) (P : A → Type 0) (step : (d : D) (a : A) (e : D) → I d → polled d a e → P a × I e) where
+    kept_after : (n : ℕ) (d : D) (a : A) → I d → AnswersAfter polled n d a → P a
+    kept_after zero d a i h = (step d a h.0 i h.1).0
+    kept_after (suc n) d a i h = kept_after n h.1 a (step d h.0 h.1 i h.2).1 h.3
+
+    -- where each poll keeps I and its answer has P, whatever may come has P
+    pub answers_kept : (d : D) (a : A) → I d → MayAnswer polled d a → P a
+    unfolding MayAnswer
+    answers_kept d a i h = kept_after h.0 d a i h.1

@@ -2,6 +2,7 @@ pub mod Answers
 pub mod AnswersLemmas
 pub mod Cells
 pub mod CellsLends
+pub mod Draw
 pub mod Drive
 pub mod Driver
 pub mod Ends

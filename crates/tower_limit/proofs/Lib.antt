@@ -1,3 +1,4 @@
+pub mod Counts
 pub mod HistoCoreLemmas
 pub mod HistogramLemmas
 pub mod KeysLemmas

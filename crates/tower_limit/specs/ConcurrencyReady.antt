@@ -1,5 +1,5 @@
 -- After a poll that answers `Ok` there is a permit, and the inner service is ready.
-use Rattle.std.specs.Prelude.{◌≡◌, Result, Ok, Err, IsSome, refl}
+use Rattle.std.specs.Prelude.{Result, Ok, Err, IsSome, refl}
 use Rattle.std.specs.declared.alloc.AllocError.{AllocError}
 use Rattle.futures.specs.declared.task.Poll.{Poll}
 use Rattle.futures.specs.declared.task.Poll.TheVariants.{Ready, Pending}

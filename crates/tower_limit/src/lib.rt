@@ -1,5 +1,7 @@
-//! Limits on calls, and latencies.
+//! Limits on calls, discovery, load, and latencies.
 #![tactic(auto)]
 
+pub mod discover;
 pub mod hedge;
 pub mod limit;
+pub mod load;

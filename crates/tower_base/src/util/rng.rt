@@ -1,7 +1,11 @@
 //! Random words.
-ghost use Rattle.std.specs.Prelude.{◌≡◌, ◌<◌, ◌+◌, ◌-◌, ◌%◌, ℕ};
+ghost use Rattle.std.specs.Prelude.{◌≡◌, ◌<◌, ◌≤◌, ◌+◌, ◌-◌, ◌%◌, ℕ};
+ghost use Rattle.tower_base.specs.Draw.{Drawn, IsPair};
 ghost use Rattle.tower_base.specs.Rng.{New, HasherRngView, Word};
 
+mod laws;
+
+pub use laws::law;
 use std::alloc::AllocError;
 use std::hash::{BuildHasher, BuildHasherDefault, FoldHasher};
 use std::marker::Model;
@@ -87,5 +91,20 @@ impl<H: BuildHasher + Drop> Rng for HasherRng<H> {
     }
 }
 
-#[cfg(test)]
-mod tests;
+/// Two distinct indexes below the length, by two words: the Rust's `tower::util::rng::sample_floyd2`, which is
+/// private there. It asks for a length of 2 at least.
+///
+/// The first word is brought below `length - 1` and the second below `length`. Where both are the same number,
+/// the last index stands in place of the first.
+pub fn sample_floyd2<R: Rng>(rng: &mut R, length: u64) -> [u64; 2]
+    requires { 2 ≤ length }
+    ensures drawn { Drawn R.drew rng.old length result rng.new }
+    ensures apart { IsPair length result }
+{
+    let a = rng.next_range(0..length - 1);
+    let b = rng.next_range(0..length);
+    if a == b {
+        return [length - 1, b];
+    }
+    [a, b]
+}

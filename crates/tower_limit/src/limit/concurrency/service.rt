@@ -7,6 +7,7 @@ use crate::limit::concurrency::error::{Error, outward};
 use crate::limit::concurrency::future::ResponseFuture;
 use crate::limit::concurrency::line_core::LineCore;
 use crate::limit::concurrency::semaphore::{Permit, PollSemaphore, Semaphore};
+use crate::load::Load;
 use futures::task::{Context, Poll};
 use std::alloc::{AllocError, Global};
 use std::marker::Model;
@@ -99,6 +100,17 @@ impl<S: Clone, L: Latch<LineCore>> Clone for ConcurrencyLimit<S, L> {
         let inner = self.inner.clone()?;
         let semaphore = self.asking.share()?;
         Ok(ConcurrencyLimit::with_semaphore(inner, semaphore))
+    }
+}
+
+/// The load is that of the inner service.
+impl<S: Load, L: Latch<LineCore>> Load for ConcurrencyLimit<S, L> {
+    type Metric = S::Metric;
+
+    ghost loaded = { λ c metric. S.loaded c.inner metric };
+
+    fn load(&self) -> S::Metric {
+        self.inner.load()
     }
 }
 

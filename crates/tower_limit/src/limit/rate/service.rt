@@ -4,6 +4,7 @@ ghost use Rattle.tower_limit.specs.Rate.{RateLimitView, New, Polled, Called, Sta
 ghost use Rattle.tower_limit.specs.RateReady.{ready_after};
 
 use crate::limit::rate::{Rate, RateCore};
+use crate::load::Load;
 use futures::task::{Context, Poll};
 use std::marker::Model;
 use tower_base::service::{Clock, Service};
@@ -74,6 +75,17 @@ impl<Request, S: Service<Request>, C: Clock> Service<Request> for RateLimit<S, C
     }
 
     ghost readies = { ready_after S.readies };
+}
+
+/// The load is that of the inner service.
+impl<S: Load, C> Load for RateLimit<S, C> {
+    type Metric = S::Metric;
+
+    ghost loaded = { λ l metric. S.loaded l.inner metric };
+
+    fn load(&self) -> S::Metric {
+        self.inner.load()
+    }
 }
 
 impl<S, C> RateLimit<S, C> {

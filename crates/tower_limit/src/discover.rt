@@ -1,0 +1,47 @@
+//! Services that come and go: the Rust's `tower::discover`.
+ghost use Rattle.std.specs.Prelude.{⊤, Option, Result};
+ghost use Rattle.futures.specs.Task.{IsArmed, Keeps};
+ghost use Rattle.futures.specs.Poll.{OnPending};
+ghost use Rattle.futures.specs.declared.task.Poll.{Poll};
+ghost use Rattle.tower_limit.specs.declared.discover.Change.{Change};
+
+mod list;
+
+use futures::task::{Context, Poll};
+pub use list::ServiceList;
+
+/// One change of a set of services by key: the Rust's `tower::discover::Change`.
+#[derive(Clone, Debug, Drop)]
+pub enum Change<K, V> {
+    /// The service stands under this key, in place of an older one.
+    Insert(K, V),
+    /// No service stands under this key any more.
+    Remove(K),
+}
+
+/// Tells which services there are, by one change after another: the Rust's `tower::discover::Discover`, which
+/// there is each fallible stream of changes.
+pub trait Discover: Drop {
+    type Key: Drop;
+
+    type Service: Drop;
+
+    type Error: Drop;
+
+    // What constructors make has it, and every poll keeps it.
+    ghost sound: { Self → Type 0 } = { λ _. ⊤ };
+
+    // A poll may give this answer and leave the second value.
+    ghost discovered: { Self → Poll (Option (Result (Change Self.Key Self.Service) Self.Error)) → Self → Type 0 };
+
+    /// The next change, an error, or the end. An error isn't the end. What has ended needn't be asked again.
+    fn poll_discover(
+        &mut self,
+        cx: &mut Context<'_>,
+    ) -> Poll<Option<Result<Change<Self::Key, Self::Service>, Self::Error>>>
+        requires { sound self.old }
+        ensures discovered { discovered self.old result self.new }
+        ensures sound { sound self.new }
+        ensures armed { OnPending result (IsArmed cx.new) }
+        ensures kept { Keeps cx.old cx.new };
+}

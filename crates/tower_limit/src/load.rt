@@ -1,0 +1,24 @@
+//! How busy a service is: the Rust's `tower::load`.
+
+pub mod completion;
+mod constant;
+mod error;
+pub mod pending_requests;
+
+pub use completion::{CompleteOnResponse, TrackCompletion};
+pub use constant::Constant;
+pub use error::Error;
+pub use pending_requests::{PendingRequests, PendingRequestsDiscover};
+
+/// Tells how busy a service is: the Rust's `tower::load::Load`.
+pub trait Load {
+    /// Of two services the one with the lower metric is less busy.
+    type Metric: PartialOrd + Drop;
+
+    // The load may be told so.
+    ghost loaded: { Self → Self.Metric → Type 0 };
+
+    /// The load now.
+    fn load(&self) -> Self::Metric
+        ensures { loaded self.now result };
+}

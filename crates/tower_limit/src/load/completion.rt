@@ -1,0 +1,125 @@
+//! When a request is no longer pending: the Rust's `tower::load::completion`.
+ghost use Rattle.std.specs.Prelude.{◌≡◌, ⊤, Some, IsSome};
+ghost use Rattle.futures.specs.Poll.{IfReady, OnPending};
+ghost use Rattle.futures.specs.Task.{Covers, Keeps};
+ghost use Rattle.tower_base.specs.Gives.{MayGive};
+ghost use Rattle.tower_limit.specs.Completion.{TrackCompletionFutureView, Stepped};
+
+use futures::future::Future;
+use futures::task::{Context, Poll};
+use std::marker::Model;
+use tower_base::service::Steps;
+
+/// Is given the handle of a request with its response, and so tells how long the request is pending: the Rust's
+/// `tower::load::completion::TrackCompletion`.
+pub trait TrackCompletion<H, V>: Copy {
+    type Output: Drop;
+
+    // What is handed in has it.
+    ghost sound: { Self → Type 0 } = { λ _. ⊤ };
+
+    // A handle and a value may give this output.
+    ghost tracked: { Self → H → V → Self.Output → Type 0 };
+
+    /// The response that goes outside. The request is pending until the handle is dropped.
+    fn track_completion(&self, handle: H, value: V) -> Self::Output
+        requires { sound self.now }
+        ensures { tracked self.now handle value result };
+}
+
+/// A request is pending until its response is there: the Rust's `tower::load::completion::CompleteOnResponse`.
+#[derive(Clone, Copy, Debug, PartialEq, Eq)]
+pub struct CompleteOnResponse;
+
+impl Default for CompleteOnResponse {
+    fn default() -> CompleteOnResponse {
+        CompleteOnResponse
+    }
+}
+
+impl<H: Drop, V: Drop> TrackCompletion<H, V> for CompleteOnResponse {
+    type Output = V;
+
+    ghost tracked = { λ _ handle value output. output ≡ value };
+
+    fn track_completion(&self, handle: H, value: V) -> V {
+        drop(handle);
+        value
+    }
+}
+
+/// A response with the handle of its request: the Rust's `tower::load::completion::TrackCompletionFuture`.
+///
+/// The completion gets the handle with an `Ok`. After an error it is kept until the future is dropped.
+#[derive(Drop)]
+pub struct TrackCompletionFuture<F, C, H> {
+    future: F,
+    completion: C,
+    handle: Option<H>,
+}
+
+impl<F, C, H> Model for TrackCompletionFuture<F, C, H> {
+    ghost Value = { TrackCompletionFutureView F C H };
+
+    ghost view = { λ f. record { future = f.future; completion = f.completion; handle = f.handle } };
+}
+
+impl<F, C, H> TrackCompletionFuture<F, C, H> {
+    pub fn new(completion: C, handle: H, future: F) -> TrackCompletionFuture<F, C, H>
+        ensures { result ≡ record { future = future; completion = completion; handle = Some handle } }
+    {
+        TrackCompletionFuture {
+            future,
+            completion,
+            handle: Some(handle),
+        }
+    }
+}
+
+impl<T, E, F, C, H> Future for TrackCompletionFuture<F, C, H>
+where
+    F: Steps<Output = Result<T, E>>,
+    C: TrackCompletion<H, T>,
+    H: Drop,
+{
+    type Output = Result<C::Output, E>;
+
+    ghost can_poll = { λ v. F.can_poll v.future × C.sound v.completion × IsSome v.handle };
+
+    ghost gives = { MayGive (Stepped C.tracked F.Steps.own) };
+
+    ghost needs = { λ v. F.needs v.future };
+
+    #[tactic(auto, using(tower_base::specs::GivesLemmas::gives_value, tower_base::specs::GivesLemmas::gives_same))]
+    fn poll(&mut self, cx: &mut Context<'_>) -> Poll<Self::Output>
+        requires { F.can_poll self.old.future × C.sound self.old.completion × IsSome self.old.handle }
+        ensures step { Stepped C.tracked F.Steps.own self.old result self.new }
+        ensures value { IfReady result (MayGive (Stepped C.tracked F.Steps.own) self.old) }
+        ensures again { OnPending result (F.can_poll self.new.future × C.sound self.new.completion × IsSome self.new.handle) }
+        ensures same { OnPending result ((x : _) → MayGive (Stepped C.tracked F.Steps.own) self.new x → MayGive (Stepped C.tracked F.Steps.own) self.old x) }
+        ensures registered { OnPending result (Covers cx.new (F.needs self.new.future)) }
+        ensures kept { Keeps cx.old cx.new }
+    {
+        self.step(cx)
+    }
+}
+
+impl<T, E, F, C, H> Steps for TrackCompletionFuture<F, C, H>
+where
+    F: Steps<Output = Result<T, E>>,
+    C: TrackCompletion<H, T>,
+    H: Drop,
+{
+    ghost stepped = { Stepped C.tracked F.Steps.own };
+
+    fn step(&mut self, cx: &mut Context<'_>) -> Poll<Self::Output> {
+        match self.future.step(cx) {
+            Poll::Ready(Ok(value)) => {
+                let handle = self.handle.take().unwrap();
+                Poll::Ready(Ok(self.completion.track_completion(handle, value)))
+            }
+            Poll::Ready(Err(error)) => Poll::Ready(Err(error)),
+            Poll::Pending => Poll::Pending,
+        }
+    }
+}

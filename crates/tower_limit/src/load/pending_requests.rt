@@ -1,0 +1,13 @@
+//! The load as the number of requests that are pending: the Rust's `tower::load::pending_requests`.
+
+mod count;
+mod count_core;
+mod discover;
+mod handle;
+mod service;
+
+pub use count::Count;
+pub use count_core::{CountCore, CountReply, CountStep};
+pub use discover::PendingRequestsDiscover;
+pub use handle::Handle;
+pub use service::PendingRequests;

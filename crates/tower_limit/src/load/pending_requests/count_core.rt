@@ -1,0 +1,92 @@
+//! The core of a count.
+ghost use Rattle.std.specs.Prelude.{false};
+ghost use Rattle.tower_base.specs.Latch.{FollowsMachine, StepsAs};
+ghost use Rattle.tower_limit.specs.Holders.{HolderSteps};
+ghost use Rattle.tower_limit.specs.CountCore.{Opens, StandsFor};
+
+use tower_base::latch::Core;
+
+/// What may be asked of a count.
+#[derive(Clone, Copy, Debug, PartialEq, Eq)]
+pub enum CountStep {
+    /// There is one more holder.
+    Take,
+    /// A holder is gone.
+    Give,
+    /// Asks how many there are.
+    Load,
+}
+
+/// What a count answers.
+#[derive(Clone, Copy, Debug, PartialEq, Eq)]
+pub enum CountReply {
+    /// The holder is counted.
+    Counted,
+    /// There are 2^64 - 1 holders, and this one isn't counted.
+    Full,
+    /// The holder isn't counted any more.
+    Done,
+    /// So many holders there are.
+    Count(usize),
+    /// There is no holder. The count is as it was.
+    Unknown,
+}
+
+/// How many live holders there are.
+#[derive(Drop)]
+pub struct CountCore {
+    count: usize,
+}
+
+impl CountCore {
+    /// Nobody is counted.
+    pub fn new() -> CountCore
+        ensures { Opens result }
+    {
+        CountCore { count: 0 }
+    }
+
+    fn take(&mut self) -> CountReply
+        ensures { FollowsMachine StandsFor HolderSteps self.old CountStep.Take result self.new }
+    {
+        if self.count == usize::MAX {
+            return CountReply::Full;
+        }
+        self.count += 1;
+        CountReply::Counted
+    }
+
+    fn give(&mut self) -> CountReply
+        ensures { FollowsMachine StandsFor HolderSteps self.old CountStep.Give result self.new }
+    {
+        if self.count == 0 {
+            return CountReply::Unknown;
+        }
+        self.count -= 1;
+        CountReply::Done
+    }
+}
+
+impl Core for CountCore {
+    type Step = CountStep;
+
+    type Reply = CountReply;
+
+    ghost opens = { Opens };
+
+    ghost steps = { StepsAs StandsFor HolderSteps };
+
+    ghost is_wait = { λ _. false };
+
+    fn step(&mut self, step: CountStep) -> CountReply {
+        match step {
+            CountStep::Take => self.take(),
+            CountStep::Give => self.give(),
+            CountStep::Load => CountReply::Count(self.count),
+        }
+    }
+
+    fn waits(_reply: &CountReply) -> bool {
+        false
+    }
+}

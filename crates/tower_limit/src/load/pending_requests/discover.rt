@@ -1,0 +1,88 @@
+//! A discovery of services whose pending requests are counted.
+ghost use Rattle.std.specs.Prelude.{◌≡◌};
+ghost use Rattle.tower_limit.specs.PendingRequests.{PendingRequestsDiscoverView, Discovered};
+
+use crate::discover::{Change, Discover};
+use crate::load::completion::CompleteOnResponse;
+use crate::load::error::Error;
+use crate::load::pending_requests::count_core::CountCore;
+use crate::load::pending_requests::service::PendingRequests;
+use futures::task::{Context, Poll};
+use std::alloc::{AllocError, Global};
+use std::marker::Model;
+use std::sync::Wait;
+use tower_base::latch::Guarded;
+
+/// Counts the pending requests of each service that is discovered: the Rust's
+/// `tower::load::pending_requests::PendingRequestsDiscover`.
+#[derive(Drop)]
+pub struct PendingRequestsDiscover<D, R, C = CompleteOnResponse> {
+    rt: R,
+    alloc: Global,
+    discover: D,
+    completion: C,
+    // The count of the next service that is inserted.
+    spare: Option<Guarded<CountCore, R>>,
+}
+
+impl<D, R, C> Model for PendingRequestsDiscover<D, R, C> {
+    ghost Value = { PendingRequestsDiscoverView D C };
+
+    ghost view = { λ p. record { discover = p.discover; completion = p.completion } };
+}
+
+impl<D, R, C> PendingRequestsDiscover<D, R, C> {
+    /// It takes no memory yet.
+    pub fn new(rt: R, alloc: Global, discover: D, completion: C) -> Self
+        ensures { result ≡ record { discover = discover; completion = completion } }
+    {
+        PendingRequestsDiscover {
+            rt,
+            alloc,
+            discover,
+            completion,
+            spare: None,
+        }
+    }
+}
+
+/// The room for a further service's count is made before the inner discovery is asked. Where that is refused,
+/// the answer is `Memory`, nothing was asked, and the next poll tries again.
+impl<D: Discover, R: Wait + Copy, C: Copy> Discover for PendingRequestsDiscover<D, R, C> {
+    type Key = D::Key;
+
+    type Service = PendingRequests<D::Service, Guarded<CountCore, R>, C>;
+
+    type Error = Error<D::Error>;
+
+    ghost sound = { λ p. D.sound p.discover };
+
+    ghost discovered = { Discovered D.discovered };
+
+    fn poll_discover(
+        &mut self,
+        cx: &mut Context<'_>,
+    ) -> Poll<Option<Result<Change<Self::Key, Self::Service>, Self::Error>>> {
+        let latch = match self.spare.take() {
+            Some(latch) => latch,
+            None => match Guarded::new(self.rt, self.alloc, CountCore::new()) {
+                Ok(latch) => latch,
+                Err(AllocError) => return Poll::Ready(Some(Err(Error::Memory))),
+            },
+        };
+        let answer = match self.discover.poll_discover(cx) {
+            Poll::Ready(Some(Ok(Change::Insert(key, service)))) => {
+                let service = PendingRequests::with_latch(service, self.completion, latch);
+                return Poll::Ready(Some(Ok(Change::Insert(key, service))));
+            }
+            Poll::Ready(Some(Ok(Change::Remove(key)))) => {
+                Poll::Ready(Some(Ok(Change::Remove(key))))
+            }
+            Poll::Ready(Some(Err(error))) => Poll::Ready(Some(Err(Error::Inner(error)))),
+            Poll::Ready(None) => Poll::Ready(None),
+            Poll::Pending => Poll::Pending,
+        };
+        self.spare = Some(latch);
+        answer
+    }
+}

@@ -1,0 +1,48 @@
+//! Who is counted.
+ghost use Rattle.std.specs.Prelude.{IfSome};
+ghost use Rattle.tower_limit.specs.PendingRequests.{HandleView, Taken};
+
+use crate::load::pending_requests::count_core::{CountCore, CountReply, CountStep};
+use std::marker::Model;
+use tower_base::latch::Latch;
+
+/// A holder, which counts as a pending request until it is dropped: the Rust's
+/// `tower::load::pending_requests::Handle`.
+///
+/// One for which there was no memory, or with which there would be 2^64 of them, isn't counted.
+pub struct Handle<L: Latch<CountCore>> {
+    share: Option<L>,
+}
+
+impl<L: Latch<CountCore>> Model for Handle<L> {
+    ghost Value = { HandleView L };
+
+    ghost view = { λ h. record { share = h.share } };
+}
+
+impl<L: Latch<CountCore>> Handle<L> {
+    // The share is made before the step.
+    pub(crate) fn take(latch: &L) -> Handle<L>
+        ensures { Taken L.Latch latch.now result }
+    {
+        let Ok(share) = latch.share() else {
+            return Handle { share: None };
+        };
+        match latch.step(CountStep::Take) {
+            CountReply::Counted => Handle { share: Some(share) },
+            _ => Handle { share: None },
+        }
+    }
+}
+
+/// One that is counted goes by one step at its latch.
+impl<L: Latch<CountCore>> Drop for Handle<L> {
+    fn drop(self)
+        ensures { IfSome self.share (λ share. (reply : _) × L.gave share CountStep.Give reply) }
+    {
+        if let Some(share) = &self.share {
+            share.step(CountStep::Give);
+        }
+        let Handle { share: _ } = self;
+    }
+}

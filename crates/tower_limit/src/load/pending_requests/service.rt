@@ -1,0 +1,102 @@
+//! A service whose pending requests are counted.
+ghost use Rattle.std.specs.Prelude.{◌≡◌, IfOk};
+ghost use Rattle.tower_limit.specs.PendingRequests.{PendingRequestsView, New, Loaded, Polled, Called};
+
+use crate::load::Load;
+use crate::load::completion::{CompleteOnResponse, TrackCompletion, TrackCompletionFuture};
+use crate::load::pending_requests::count::Count;
+use crate::load::pending_requests::count_core::{CountCore, CountReply, CountStep};
+use crate::load::pending_requests::handle::Handle;
+use futures::task::{Context, Poll};
+use std::alloc::{AllocError, Global};
+use std::marker::Model;
+use std::sync::Wait;
+use tower_base::latch::{Guarded, Latch};
+use tower_base::service::Service;
+
+/// A service whose load is the number of its pending requests: the Rust's
+/// `tower::load::pending_requests::PendingRequests`.
+///
+/// A request is pending from its call until its completion lets its handle go, or, after an error, until its
+/// future is dropped.
+#[derive(Drop)]
+pub struct PendingRequests<S, L, C = CompleteOnResponse> {
+    service: S,
+    latch: L,
+    completion: C,
+}
+
+impl<S, L, C> Model for PendingRequests<S, L, C> {
+    ghost Value = { PendingRequestsView S L C };
+
+    ghost view = { λ p. record { service = p.service; latch = p.latch; completion = p.completion } };
+}
+
+impl<S: Drop, R: Wait + Copy, C: Drop> PendingRequests<S, Guarded<CountCore, R>, C> {
+    /// No request is pending. For want of memory the service is dropped.
+    pub fn new(rt: R, alloc: Global, service: S, completion: C) -> Result<Self, AllocError>
+        ensures { IfOk result (λ made. New service completion made) }
+    {
+        let latch = Guarded::new(rt, alloc, CountCore::new())?;
+        Ok(PendingRequests::with_latch(service, completion, latch))
+    }
+}
+
+impl<S, L, C> PendingRequests<S, L, C> {
+    /// The requests are counted over a latch of the caller's.
+    pub fn with_latch(service: S, completion: C, latch: L) -> PendingRequests<S, L, C>
+        ensures { result ≡ record { service = service; latch = latch; completion = completion } }
+    {
+        PendingRequests {
+            service,
+            latch,
+            completion,
+        }
+    }
+}
+
+/// The load is told by one step at the latch.
+impl<S, L: Latch<CountCore>, C> Load for PendingRequests<S, L, C> {
+    type Metric = Count;
+
+    ghost loaded = { Loaded L.Latch };
+
+    fn load(&self) -> Count {
+        match self.latch.step(CountStep::Load) {
+            CountReply::Count(number) => Count::new(number),
+            _ => unreachable!(),
+        }
+    }
+}
+
+impl<Request, S, L, C> Service<Request> for PendingRequests<S, L, C>
+where
+    S: Service<Request>,
+    L: Latch<CountCore>,
+    C: TrackCompletion<Handle<L>, S::Response>,
+{
+    type Response = C::Output;
+
+    type Error = S::Error;
+
+    type Future = TrackCompletionFuture<S::Future, C, Handle<L>>;
+
+    ghost sound = { λ p. S.sound p.service × C.sound p.completion };
+
+    ghost ready = { λ p. S.ready p.service };
+
+    ghost polled = { Polled L.Latch S.Service };
+
+    ghost called = { Called L.Latch S.Service };
+
+    ghost readies = { λ old new p. S.readies old.service new.service p.polled };
+
+    fn poll_ready(&mut self, cx: &mut Context<'_>) -> Poll<Result<(), S::Error>> {
+        self.service.poll_ready(cx)
+    }
+
+    fn call(&mut self, request: Request) -> Self::Future {
+        let handle = Handle::take(&self.latch);
+        TrackCompletionFuture::new(self.completion, handle, self.service.call(request))
+    }
+}
