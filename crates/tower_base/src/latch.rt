@@ -5,6 +5,7 @@ ghost use Rattle.tower_base.specs.Latch.{Came};
 ghost use Rattle.futures.specs.Task.{IsArmed, Keeps};
 
 mod guarded;
+pub mod held;
 mod logged;
 
 use futures::task::Context;

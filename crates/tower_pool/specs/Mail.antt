@@ -1,0 +1,200 @@
+-- Mail as plain lists: every message in the order of sending, and the line for places.
+use Rattle.std.specs.Prelude.{◌≡◌, ◌≢◌, ◌⊎◌, ◌<◌, ◌≤◌, ◌+◌, ◌-◌, ◌^◌, ℕ, zero, suc, Bool, true, false, nat_eq, ◌&&◌, ◌||◌, is_some, Option, Some, None, List, [], ◌∷◌, ◌++◌, slice_get, slice_set}
+use Rattle.tower_limit.specs.Line.{Ticket, Steps}
+use Rattle.tower_limit.specs.declared.limit.concurrency.line_core.LineStep.TheVariants.{Join as AskPlace, Look as SeePlace, Cancel as LeaveLine, Release}
+use Rattle.tower_limit.specs.declared.limit.concurrency.line_core.LineReply.TheVariants.{Granted, Waiting as Waits, Left, Unknown as NoTicket}
+use Rattle.tower_pool.specs.declared.buffer.letter.Fate.{Fate}
+use Rattle.tower_pool.specs.declared.buffer.letter.Fate.TheVariants.{Open, Answered, Failed as HasFailed, Cancelled, Lost as WasLost}
+use Rattle.tower_pool.specs.declared.buffer.letter.Letter.{Letter}
+use Rattle.tower_pool.specs.declared.buffer.mail.MailStep.{MailStep}
+use Rattle.tower_pool.specs.declared.buffer.mail.MailStep.TheVariants.{Join, Part, Reserve, Look, Cancel, Unreserve, Send, Take, Live, Answer, Fail, FailStored, Outcome, Forget, WorkerGone}
+use Rattle.tower_pool.specs.declared.buffer.mail.MailReply.{MailReply}
+use Rattle.tower_pool.specs.declared.buffer.mail.MailReply.TheVariants.{Done, Place, Waiting, Memory, Failed, Closed, Sent, Message, Cleared, Empty, End, Truth, Back, Future, Lost, Unknown}
+
+-- A message that was sent. It has its id, and its request while it is queued; or it is gone, with what became of it.
+pub data Entry (Q F : Type 0) : Type 0 where
+  here : Letter Q F → Entry Q F
+  gone : Fate F → Entry Q F
+
+-- The line is that of permits: its tickets are the waiters, and those that hold one of the places, which are the reserved
+-- places and the queued messages.
+pub record Mail (Q F E : Type 0) : Type 0 where
+  pub bound : ℕ
+  pub messages : List (Entry Q F)
+  pub line : List Ticket
+  pub reserved : ℕ
+  pub stored : Option E
+  pub is_closed : Bool
+  pub buffers : ℕ
+  pub has_worker : Bool
+
+-- one `Buffer` that has asked for nothing, and its worker
+abbrev pub blank : {Q F E : Type 0} → ℕ → Mail Q F E
+blank bound = record { bound = bound; messages = []; line = []; reserved = 0; stored = None; is_closed = false; buffers = 1; has_worker = true }
+
+-- the line once nobody waits
+abbrev pub holding : List Ticket → List Ticket
+holding [] = []
+holding (Ticket.held ∷ line) = Ticket.held ∷ holding line
+holding (Ticket.waits key ∷ line) = holding line
+
+-- one holder after another leaves the line, so many
+abbrev pub Leave : ℕ → ℕ → List Ticket → List Ticket → Type 0
+Leave max zero old new = new ≡ old
+Leave max (suc n) old new = (mid : List Ticket) × Steps max old Release Left mid × Leave max n mid new
+
+module _ {Q F : Type 0} where
+  -- this message, which has its id, stands at that place
+  abbrev pub At : List (Entry Q F) → ℕ → Letter Q F → Type 0
+  At messages place letter = slice_get messages place ≡ Some (Entry.here letter)
+
+  -- no message of which P holds has this id
+  abbrev pub NoneWith : (Letter Q F → Type 0) → List (Entry Q F) → ℕ → Type 0
+  NoneWith P messages id = (place : ℕ) (letter : Letter Q F) → At messages place letter → letter.id ≡ id → ¬ (P letter)
+
+  -- the worker has it, and it has no outcome, or nobody waits for it
+  abbrev pub IsTaken : Letter Q F → Type 0
+  IsTaken letter = (letter.request ≡ None) × ((letter.fate ≡ Open) ⊎ (letter.fate ≡ Cancelled))
+
+  -- this one of the taken messages with the id stands at that place
+  abbrev pub TakenAt : List (Entry Q F) → ℕ → ℕ → Letter Q F → Type 0
+  TakenAt messages id place letter = At messages place letter × (letter.id ≡ id) × (letter.request ≡ None)
+
+  -- a taken message with the id has an outcome now, which it keeps; one that nobody waits for is gone
+  abbrev pub Settles : Fate F → List (Entry Q F) → ℕ → List (Entry Q F) → Type 0
+  Settles fate old id new = (place : ℕ) × (letter : Letter Q F) × TakenAt old id place letter
+      × (((letter.fate ≡ Open) × (new ≡ slice_set old place (Entry.here (record letter { fate = fate }))))
+      ⊎ ((letter.fate ≡ Cancelled) × (new ≡ slice_set old place (Entry.gone Cancelled))))
+
+  -- the oldest queued message stands at that place
+  abbrev pub OldestAt : List (Entry Q F) → ℕ → Letter Q F → Q → Type 0
+  OldestAt messages place letter request = At messages place letter × (letter.request ≡ Some request)
+      × ((before : ℕ) (other : Letter Q F) → before < place → At messages before other → other.request ≡ None)
+
+  -- no message is queued
+  abbrev pub NoneQueued : List (Entry Q F) → Type 0
+  NoneQueued messages = (place : ℕ) (letter : Letter Q F) → At messages place letter → letter.request ≡ None
+
+  -- where the worker is gone, a message without an outcome is lost, and one that nobody waits for is gone
+  abbrev pub abandoned : List (Entry Q F) → List (Entry Q F)
+  abandoned [] = []
+  abandoned (Entry.gone fate ∷ rest) = Entry.gone fate ∷ abandoned rest
+  abandoned (Entry.here letter ∷ rest) =
+      (elim letter.fate [
+        | Open ↦ Entry.here (record { id = letter.id; request = None; fate = WasLost })
+        | Cancelled ↦ Entry.gone Cancelled
+        | _ ↦ Entry.here letter
+      ]) ∷ abandoned rest
+
+  -- how many messages are queued
+  abbrev pub queued : List (Entry Q F) → ℕ
+  queued [] = 0
+  queued (Entry.gone fate ∷ rest) = queued rest
+  queued (Entry.here letter ∷ rest) = (elim letter.request [ None ↦ 0 | Some request ↦ 1 ]) + queued rest
+
+module _ {Q F E : Type 0} where
+  -- what a closed mail tells: the stored error, or that it is closed; for want of memory for the error's clone, that
+  abbrev pub Tells : Option E → MailReply Q F E → Type 0
+  Tells (Some e) (Failed f) = f ≡ e
+  Tells (Some e) Memory = Unit {0}
+  Tells None Closed = Unit {0}
+  Tells _ _ = ⊥
+
+  -- no message is queued and none will be: no place is reserved, and the mail is closed or no `Buffer` is left
+  abbrev pub is_over : Mail Q F E → Bool
+  is_over mail = nat_eq mail.reserved 0 && (mail.is_closed || nat_eq mail.buffers 0)
+
+  -- The oldest queued messages, which nobody waits for, leave their places and are gone, so many.
+  abbrev pub Clears : ℕ → Mail Q F E → Mail Q F E → Type 0
+  Clears zero old new = new ≡ old
+  Clears (suc n) old new = (mid : Mail Q F E) × Clears n old mid
+      × ((place : ℕ) × (letter : Letter Q F) × (request : Q) × OldestAt mid.messages place letter request × (letter.fate ≡ Cancelled)
+      × Steps mid.bound mid.line Release Left new.line
+      × (new ≡ record mid { line = new.line; messages = slice_set mid.messages place (Entry.gone Cancelled) }))
+
+  -- The mail's machine: the step may give this reply and leave the new mail.
+  abbrev pub MailSteps : Mail Q F E → MailStep Q F E → MailReply Q F E → Mail Q F E → Type 0
+  MailSteps old Join Done new = new ≡ record old { buffers = old.buffers + 1 }
+  MailSteps old Join Memory new = (2 ^ 64 ≤ old.buffers + 1) × (new ≡ old)
+  MailSteps old Part Done new = (0 < old.buffers) × (new ≡ record old { buffers = old.buffers - 1 })
+  MailSteps old Part Unknown new = (old.buffers ≡ 0) × (new ≡ old)
+  -- a place below the bound is free, or the asker waits; closed mail tells so
+  MailSteps old Reserve Place new = (old.is_closed ≡ false) × Steps old.bound old.line AskPlace Granted new.line
+      × (new ≡ record old { line = new.line; reserved = old.reserved + 1 })
+  MailSteps old Reserve (Waiting key) new = (old.is_closed ≡ false) × Steps old.bound old.line AskPlace (Waits key) new.line × (new ≡ record old { line = new.line })
+  MailSteps old Reserve Memory new = ((old.is_closed ≡ false) ⊎ ((old.is_closed ≡ true) × Tells old.stored Memory)) × (new ≡ old)
+  MailSteps old Reserve (Failed e) new = (old.is_closed ≡ true) × Tells old.stored (Failed e) × (new ≡ old)
+  MailSteps old Reserve Closed new = (old.is_closed ≡ true) × Tells old.stored Closed × (new ≡ old)
+  -- a key ends as its place is seen; in closed mail no key waits
+  MailSteps old (Look key) Place new = (old.is_closed ≡ false) × Steps old.bound old.line (SeePlace key) Granted new.line
+      × (new ≡ record old { line = new.line; reserved = old.reserved + 1 })
+  MailSteps old (Look key) (Waiting again) new = (old.is_closed ≡ false) × Steps old.bound old.line (SeePlace key) (Waits again) new.line × (new ≡ old)
+  MailSteps old (Look key) Unknown new = (old.is_closed ≡ false) × Steps old.bound old.line (SeePlace key) NoTicket new.line × (new ≡ old)
+  MailSteps old (Look key) Memory new = (old.is_closed ≡ true) × Tells old.stored Memory × (new ≡ old)
+  MailSteps old (Look key) (Failed e) new = (old.is_closed ≡ true) × Tells old.stored (Failed e) × (new ≡ old)
+  MailSteps old (Look key) Closed new = (old.is_closed ≡ true) × Tells old.stored Closed × (new ≡ old)
+  MailSteps old (Cancel key) Done new = ((old.is_closed ≡ true) × (new ≡ old))
+      ⊎ ((old.is_closed ≡ false) × Steps old.bound old.line (LeaveLine key) Left new.line × (new ≡ record old { line = new.line }))
+  MailSteps old (Cancel key) Unknown new = (old.is_closed ≡ false) × Steps old.bound old.line (LeaveLine key) NoTicket new.line × (new ≡ old)
+  MailSteps old Unreserve Done new = (0 < old.reserved) × Steps old.bound old.line Release Left new.line
+      × (new ≡ record old { line = new.line; reserved = old.reserved - 1 })
+  MailSteps old Unreserve Unknown new = (old.reserved ≡ 0) × (new ≡ old)
+  -- the reserved place becomes the message's; where the worker is gone it is used up, unless there is no memory
+  MailSteps old (Send request) (Sent id) new = (0 < old.reserved) × (old.has_worker ≡ true) × NoneWith (λ letter. Unit {0}) old.messages id
+      × (new ≡ record old { reserved = old.reserved - 1; messages = old.messages ++ Entry.here (record { id = id; request = Some request; fate = Open }) ∷ [] })
+  MailSteps old (Send request) (Failed e) new = (0 < old.reserved) × (old.has_worker ≡ false) × Tells old.stored (Failed e)
+      × Steps old.bound old.line Release Left new.line × (new ≡ record old { line = new.line; reserved = old.reserved - 1 })
+  MailSteps old (Send request) Closed new = (0 < old.reserved) × (old.has_worker ≡ false) × Tells old.stored Closed
+      × Steps old.bound old.line Release Left new.line × (new ≡ record old { line = new.line; reserved = old.reserved - 1 })
+  MailSteps old (Send request) Memory new = (0 < old.reserved) × (old.has_worker ≡ false) × Tells old.stored Memory × (new ≡ old)
+  MailSteps old (Send request) Unknown new = (old.reserved ≡ 0) × (new ≡ old)
+  -- the oldest queued message that somebody waits for leaves its place, and those before it, which nobody waits for
+  MailSteps old Take (Message id request) new = (n : ℕ) × (mid : Mail Q F E) × Clears n old mid × (place : ℕ) × (letter : Letter Q F)
+      × OldestAt mid.messages place letter request × (letter.fate ≡ Open) × (letter.id ≡ id) × Steps mid.bound mid.line Release Left new.line
+      × (new ≡ record mid { line = new.line; messages = slice_set mid.messages place (Entry.here (record letter { request = None })) })
+  MailSteps old Take Cleared new = (n : ℕ) × Clears (suc n) old new × NoneQueued new.messages
+  MailSteps old Take Empty new = NoneQueued old.messages × (is_over old ≡ false) × (new ≡ old)
+  MailSteps old Take End new = NoneQueued old.messages × (is_over old ≡ true) × (new ≡ old)
+  -- of a taken message: one that nobody waits for is gone
+  MailSteps old (Live id) (Truth true) new = (place : ℕ) × (letter : Letter Q F) × TakenAt old.messages id place letter × (letter.fate ≡ Open) × (new ≡ old)
+  MailSteps old (Live id) (Truth false) new = (place : ℕ) × (letter : Letter Q F) × TakenAt old.messages id place letter × (letter.fate ≡ Cancelled)
+      × (new ≡ record old { messages = slice_set old.messages place (Entry.gone Cancelled) })
+  MailSteps old (Live id) Unknown new = NoneWith IsTaken old.messages id × (new ≡ old)
+  MailSteps old (Answer id future) Done new = (place : ℕ) × (letter : Letter Q F) × TakenAt old.messages id place letter × (letter.fate ≡ Open)
+      × (new ≡ record old { messages = slice_set old.messages place (Entry.here (record letter { fate = Answered future })) })
+  MailSteps old (Answer id future) (Back back) new = (place : ℕ) × (letter : Letter Q F) × TakenAt old.messages id place letter × (letter.fate ≡ Cancelled)
+      × (back ≡ future) × (new ≡ record old { messages = slice_set old.messages place (Entry.gone Cancelled) })
+  MailSteps old (Answer id future) Unknown new = NoneWith IsTaken old.messages id × (new ≡ old)
+  -- the first error is stored, whether anybody waits for this message or not, and the mail is closed
+  MailSteps old (Fail id e) Done new = Settles HasFailed old.messages id new.messages
+      × (new ≡ record old { messages = new.messages; line = holding old.line; is_closed = true; stored = (elim old.stored [ None ↦ Some e | Some first ↦ Some first ]) })
+  MailSteps old (Fail id e) Unknown new = NoneWith IsTaken old.messages id × (new ≡ old)
+  MailSteps old (FailStored id) Done new = (is_some old.stored ≡ true) × Settles HasFailed old.messages id new.messages × (new ≡ record old { messages = new.messages })
+  MailSteps old (FailStored id) Unknown new = ((old.stored ≡ None) ⊎ NoneWith IsTaken old.messages id) × (new ≡ old)
+  -- an outcome is handed out, and the message is gone
+  MailSteps old (Outcome id) (Waiting again) new = (place : ℕ) × (letter : Letter Q F) × At old.messages place letter × (letter.id ≡ id) × (letter.fate ≡ Open)
+      × (again ≡ id) × (new ≡ old)
+  MailSteps old (Outcome id) (Future future) new = (place : ℕ) × (letter : Letter Q F) × At old.messages place letter × (letter.id ≡ id) × (letter.fate ≡ Answered future)
+      × (new ≡ record old { messages = slice_set old.messages place (Entry.gone letter.fate) })
+  MailSteps old (Outcome id) (Failed e) new = (place : ℕ) × (letter : Letter Q F) × At old.messages place letter × (letter.id ≡ id) × (letter.fate ≡ HasFailed)
+      × (old.stored ≡ Some e) × (new ≡ record old { messages = slice_set old.messages place (Entry.gone letter.fate) })
+  MailSteps old (Outcome id) Memory new = (place : ℕ) × (letter : Letter Q F) × At old.messages place letter × (letter.id ≡ id) × (letter.fate ≡ HasFailed) × (new ≡ old)
+  MailSteps old (Outcome id) Lost new = (place : ℕ) × (letter : Letter Q F) × At old.messages place letter × (letter.id ≡ id) × (letter.fate ≡ WasLost)
+      × (new ≡ record old { messages = slice_set old.messages place (Entry.gone letter.fate) })
+  MailSteps old (Outcome id) Unknown new = NoneWith (λ letter. letter.fate ≢ Cancelled) old.messages id × (new ≡ old)
+  -- a message without an outcome is cancelled; any other is gone, and keeps its outcome
+  MailSteps old (Forget id) Done new = (place : ℕ) × (letter : Letter Q F) × At old.messages place letter × (letter.id ≡ id)
+      × (((letter.fate ≡ Open) × (new ≡ record old { messages = slice_set old.messages place (Entry.here (record letter { fate = Cancelled })) }))
+      ⊎ ((letter.fate ≢ Open) × (letter.fate ≢ Cancelled) × (new ≡ record old { messages = slice_set old.messages place (Entry.gone letter.fate) })))
+  MailSteps old (Forget id) Unknown new = NoneWith (λ letter. letter.fate ≢ Cancelled) old.messages id × (new ≡ old)
+  -- the mail is closed, and each queued message leaves its place
+  MailSteps old WorkerGone Done new = Leave old.bound (queued old.messages) (holding old.line) new.line
+      × (new ≡ record old { line = new.line; messages = abandoned old.messages; is_closed = true; has_worker = false })
+  -- no other reply is given
+  MailSteps old _ _ new = ⊥
+
+  -- the reply asks its caller to come again
+  abbrev pub is_waiting : MailReply Q F E → Bool
+  is_waiting (Waiting key) = true
+  is_waiting Empty = true
+  is_waiting _ = false

@@ -1,0 +1,50 @@
+-- Which plain mails a `Mailbox` stands for.
+use Rattle.std.specs.Prelude.{◌≡◌, ◌<◌, ◌+◌, ℕ, List, [], ◌∷◌, count_by, is_some, Bool}
+use Rattle.tower_base.specs.Latch.{FollowsMachine}
+use Rattle.tower_limit.specs.Line.{Ticket}
+use Rattle.tower_limit.specs.LineCore.{Stands}
+use Rattle.tower_pool.specs.Mail.{Entry, Mail, MailSteps, blank}
+use Rattle.tower_pool.specs.Letters.{queued_letters}
+use Rattle.tower_pool.specs.declared.buffer.letter.Letter.{Letter}
+use Rattle.tower_pool.specs.declared.buffer.mail.MailStep.{MailStep}
+use Rattle.tower_pool.specs.declared.buffer.mail.MailReply.{MailReply}
+use Rattle.tower_pool.specs.declared.buffer.mailbox.Mailbox.{Mailbox}
+
+module _ {Q F : Type 0} where
+  -- the messages that have their ids
+  abbrev pub present : List (Entry Q F) → List (Letter Q F)
+  present [] = []
+  present (Entry.here letter ∷ rest) = letter ∷ present rest
+  present (Entry.gone fate ∷ rest) = present rest
+
+module _ {Q F E : Type 0} where
+  -- the mail with these messages and this line
+  abbrev pub plain_of : Mailbox Q F E → List (Entry Q F) → List Ticket → Mail Q F E
+  plain_of box messages line = record {
+    bound = box.bound;
+    messages = messages;
+    line = line;
+    reserved = box.reserved;
+    stored = box.stored;
+    is_closed = box.closed;
+    buffers = box.buffers;
+    has_worker = box.has_worker;
+  }
+
+  -- the line has the same who wait, and holds the reserved places and the queued messages
+  abbrev pub HasLine : Mailbox Q F E → List Ticket → Type 0
+  HasLine box line = Stands box.bound (box.reserved + queued_letters box.letters.items) box.keys.items line
+
+  -- the same messages have their ids, and all else is as in the box
+  abbrev pub StandsFor : Mailbox Q F E → Mail Q F E → Type 0
+  StandsFor box mail = (present mail.messages ≡ box.letters.items) × HasLine box mail.line × (mail ≡ plain_of box mail.messages mail.line)
+
+  -- mail that nobody has asked
+  abbrev pub Opens : Mailbox Q F E → Type 0
+  Opens box = (bound : ℕ) × (0 < bound) × StandsFor box (blank bound)
+
+  -- Each mail that the old box stands for makes the machine's step to one that the new box stands for.
+  abbrev pub Follows : Mailbox Q F E → MailStep Q F E → MailReply Q F E → Mailbox Q F E → Type 0
+  Follows old step reply new = (messages : List (Entry Q F)) (line : List Ticket) → present messages ≡ old.letters.items → HasLine old line
+      → (left : List (Entry Q F)) × (goes : List Ticket) × MailSteps (plain_of old messages line) step reply (plain_of new left goes)
+      × (present left ≡ new.letters.items) × HasLine new goes

@@ -1,0 +1,8 @@
+//! A bounded queue before a service, which many callers share: the Rust's `tower::buffer`.
+
+mod letter;
+mod mail;
+mod mailbox;
+
+pub use letter::{Fate, Letter};
+pub use mail::{MailReply, MailStep};

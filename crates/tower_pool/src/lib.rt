@@ -1,0 +1,4 @@
+//! Services in pools: buffers.
+#![tactic(auto)]
+
+pub mod buffer;
