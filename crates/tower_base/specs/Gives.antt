@@ -3,6 +3,8 @@ use Rattle.std.specs.Prelude.{ℕ, suc, zero, List, [], ◌∷◌, Option, Some}
 use Rattle.futures.specs.declared.task.Poll.{Poll}
 use Rattle.futures.specs.declared.task.Poll.TheVariants.{Ready, Pending}
 use Rattle.futures.specs.Poll.{IfReady, OnPending}
+use Rattle.futures.specs.Task.{Covers, Keeps}
+use Rattle.futures.specs.declared.task.context.Context.{Context}
 
 module _ {F A : Type 0} (stepped : F → Poll A → F → Type 0) where
   -- so many polls are pending, and the next one gives the output
@@ -13,6 +15,14 @@ module _ {F A : Type 0} (stepped : F → Poll A → F → Type 0) where
   -- some number of pending polls, and then the output
   unfoldable pub MayGive : F → A → Type 0
   MayGive f x = (n : ℕ) × GivesAfter n f x
+
+-- All that a poll of a future says where it is one step and the future may give what its steps say: that it is that step, and what
+-- `Future` asks of a poll.
+module _ {F A : Type 0} (stepped : F → Poll A → F → Type 0) (can_poll : F → Type 0) (needs : F → ℕ → Type 0) where
+  abbrev pub IsStep : F → Poll A → F → Context → Context → Type 0
+  IsStep old (Ready x) new before after = stepped old (Ready x) new × MayGive stepped old x × Keeps before after
+  IsStep old Pending new before after = stepped old Pending new × can_poll new × ((x : A) → MayGive stepped new x → MayGive stepped old x)
+      × Covers after (needs new) × Keeps before after
 
 -- A poll of a future of which only its outputs are known: an answer is one of them, and after a pending poll it gives no more.
 abbrev pub GivesOnly : {F A : Type 0} → (F → A → Type 0) → F → Poll A → F → Type 0

@@ -3,8 +3,10 @@ use Rattle.std.specs.Prelude.{ℕ, suc, zero, List, [], ◌∷◌, Option, Some,
 use Rattle.futures.specs.declared.task.Poll.{Poll}
 use Rattle.futures.specs.declared.task.Poll.TheVariants.{Ready, Pending}
 use Rattle.futures.specs.Poll.{IfReady, OnPending}
+use Rattle.futures.specs.Task.{Covers, Keeps}
+use Rattle.futures.specs.declared.task.context.Context.{Context}
 use Rattle.futures.specs.Runs.{After, Within}
-use Rattle.tower_base.specs.Gives.{GivesAfter, MayGive, GivesOnly, Yields, MayYield, AnswersAfter, MayAnswer}
+use Rattle.tower_base.specs.Gives.{GivesAfter, MayGive, IsStep, GivesOnly, Yields, MayYield, AnswersAfter, MayAnswer}
 
 module _ {F A : Type 0} (stepped : F → Poll A → F → Type 0) where
   -- an answer is an output that the future may give
@@ -18,6 +20,13 @@ module _ {F A : Type 0} (stepped : F → Poll A → F → Type 0) where
   unfolding MayGive
   gives_same f (Ready x) g s = tt
   gives_same f Pending g s = λ x h. (suc h.0, (g, s, h.1))
+
+module _ {F A : Type 0} (stepped : F → Poll A → F → Type 0) (can_poll : F → Type 0) (needs : F → ℕ → Type 0) where
+  -- one step is a poll: name this by `using` on a `poll` that is `self.step(cx)`
+  pub one_step : (old : F) (answer : Poll A) (new : F) (before after : Context) → stepped old answer new → OnPending answer (can_poll new)
+      → OnPending answer (Covers after (needs new)) → Keeps before after → IsStep stepped can_poll needs old answer new before after
+  one_step old (Ready x) new before after s a r k = (s, gives_value stepped old (Ready x) new s, k)
+  one_step old Pending new before after s a r k = (s, a, gives_same stepped old Pending new s, r, k)
 
 module _ {F A : Type 0} (gives : F → A → Type 0) where
   given_after : (n : ℕ) (f : F) (x : A) → GivesAfter (GivesOnly gives) n f x → gives f x

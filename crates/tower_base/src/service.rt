@@ -17,8 +17,8 @@ pub use system::SystemClock;
 
 /// A future whose poll has a relation, which a proof above it may use.
 pub trait Steps: Future {
-    // A poll may give this answer and leave the second value.
-    ghost stepped: { Self → Poll Self.Output → Self → Type 0 };
+    // A poll may give this answer and leave the second value. Left out, nothing is known of its answers.
+    ghost stepped: { Self → Poll Self.Output → Self → Type 0 } = { λ _ _ _. ⊤ };
 
     /// One poll. `Future::poll` is this call.
     fn step(&mut self, cx: &mut Context<'_>) -> Poll<Self::Output>
@@ -31,8 +31,8 @@ pub trait Steps: Future {
 
 /// A stream whose poll has a relation, which a proof above it may use.
 pub trait Flow: Stream {
-    // A poll may give this answer and leave the second value.
-    ghost flowed: { Self → Poll (Option Self.Item) → Self → Type 0 };
+    // A poll may give this answer and leave the second value. Left out, nothing is known of its answers.
+    ghost flowed: { Self → Poll (Option Self.Item) → Self → Type 0 } = { λ _ _ _. ⊤ };
 
     /// One poll. `Stream::poll_next` is this call.
     fn flow(&mut self, cx: &mut Context<'_>) -> Poll<Option<Self::Item>>
@@ -46,7 +46,9 @@ pub trait Flow: Stream {
 
 /// An asynchronous function from a request to a response: the Rust's `tower_service::Service`.
 ///
-/// A caller asks `poll_ready` until it answers `Ok`, and then makes one call.
+/// A caller asks `poll_ready` until it answers `Ok`, and then makes one call. Where `ready`, `polled` and
+/// `called` are left out, it may always be called, and nothing is known of what it answers: then
+/// `ghost readies = { λ _ _ _. tt };` is its one ghost line.
 pub trait Service<Request>: Drop {
     type Response: Drop;
 
@@ -58,13 +60,13 @@ pub trait Service<Request>: Drop {
     ghost sound: { Self → Type 0 } = { λ _. ⊤ };
 
     // A call may be made.
-    ghost ready: { Self → Type 0 };
+    ghost ready: { Self → Type 0 } = { λ _. ⊤ };
 
     // A poll of readiness may give this answer and leave the second value.
-    ghost polled: { Self → Poll (Result (Unit {0}) Self.Error) → Self → Type 0 };
+    ghost polled: { Self → Poll (Result (Unit {0}) Self.Error) → Self → Type 0 } = { λ _ _ _. ⊤ };
 
     // A call with the request may give this future and leave the second value.
-    ghost called: { Self → Request → Self.Future → Self → Type 0 };
+    ghost called: { Self → Request → Self.Future → Self → Type 0 } = { λ _ _ _ _. ⊤ };
 
     /// Asks whether a call may be made. An error says that the service can't be used any more.
     fn poll_ready(&mut self, cx: &mut Context<'_>) -> Poll<Result<(), Self::Error>>
@@ -88,14 +90,14 @@ pub trait Service<Request>: Drop {
 
 /// A clock, which may stand still and may go back. It stands for tokio's timer.
 pub trait Clock: Drop {
-    // The last reading.
+    // The last reading. It can't be left out: what waits names the moment that was read.
     ghost reading: { Self → ℕ };
 
-    // One reading may leave the second value.
-    ghost read: { Self → Self → Type 0 };
+    // One reading may leave the second value. Left out, it isn't known how often the clock is read.
+    ghost read: { Self → Self → Type 0 } = { λ _ _. ⊤ };
 
-    // The second is a further handle to the clock of the first.
-    ghost shared: { Self → Self → Type 0 };
+    // The second is a further handle to the clock of the first. Left out, handles aren't known to agree.
+    ghost shared: { Self → Self → Type 0 } = { λ _ _. ⊤ };
 
     /// The moment now, in nanoseconds.
     fn now(&mut self) -> u64
@@ -112,8 +114,8 @@ pub trait Executor<T> {
     // The task may be handed over.
     ghost can_spawn: { Self → T → Type 0 } = { λ _ _. ⊤ };
 
-    // A spawn of the task may have this answer.
-    ghost spawned: { Self → T → Result (Unit {0}) T → Type 0 };
+    // A spawn of the task may have this answer. Left out, it isn't known which tasks are taken.
+    ghost spawned: { Self → T → Result (Unit {0}) T → Type 0 } = { λ _ _ _. ⊤ };
 
     /// Takes the task, or gives it back as it was.
     fn spawn(&self, task: T) -> Result<(), T>

@@ -1,5 +1,5 @@
 //! Random words.
-ghost use Rattle.std.specs.Prelude.{◌≡◌, ◌<◌, ◌≤◌, ◌+◌, ◌-◌, ◌%◌, ℕ};
+ghost use Rattle.std.specs.Prelude.{◌≡◌, ◌<◌, ◌≤◌, ◌+◌, ◌-◌, ◌%◌, ⊤, ℕ};
 ghost use Rattle.tower_base.specs.Draw.{Drawn, IsPair};
 ghost use Rattle.tower_base.specs.Rng.{New, HasherRngView, Word};
 
@@ -13,8 +13,8 @@ use std::ops::Range;
 
 /// A source of random words: the Rust's `tower::util::rng::Rng`.
 pub trait Rng: Drop {
-    // A draw may give this word and leave the second value.
-    ghost drew: { Self → ℕ → Self → Type 0 };
+    // A draw may give this word and leave the second value. Left out, any word may come.
+    ghost drew: { Self → ℕ → Self → Type 0 } = { λ _ _ _. ⊤ };
 
     /// The next word: all its bits are random.
     fn next_u64(&mut self) -> u64

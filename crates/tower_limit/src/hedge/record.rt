@@ -6,8 +6,8 @@ pub trait Record: Drop {
     // What constructors make has it, and every call keeps it.
     ghost sound: { Self → Type 0 } = { λ _. ⊤ };
 
-    // A record of so many nanoseconds may leave the second value.
-    ghost recorded: { Self → ℕ → Self → Type 0 };
+    // A record of so many nanoseconds may leave the second value. Left out, it isn't known what is kept.
+    ghost recorded: { Self → ℕ → Self → Type 0 } = { λ _ _ _. ⊤ };
 
     /// Takes the latency of a response, in nanoseconds.
     fn record(&mut self, latency: u64)

@@ -6,11 +6,11 @@ pub trait Policy<Request>: Drop {
     // What constructors make has it.
     ghost sound: { Self → Type 0 } = { λ _. ⊤ };
 
-    // Asked for a copy of the request, it may give this answer.
-    ghost cloned: { Self → Request → Option Request → Type 0 };
+    // Asked for a copy of the request, it may give this answer. Left out, it isn't known what the copy is.
+    ghost cloned: { Self → Request → Option Request → Type 0 } = { λ _ _ _. ⊤ };
 
-    // Asked whether the request may be made again, it may give this answer.
-    ghost allowed: { Self → Request → Bool → Type 0 };
+    // Asked whether the request may be made again, it may give this answer. Left out, either may come.
+    ghost allowed: { Self → Request → Bool → Type 0 } = { λ _ _ _. ⊤ };
 
     /// A copy of the request; or none, and there is no second request.
     fn clone_request(&self, request: &Request) -> Option<Request>

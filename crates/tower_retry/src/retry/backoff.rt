@@ -21,8 +21,8 @@ pub trait MakeBackoff: Drop {
     // What constructors make has it, and every call keeps it.
     ghost sound: { Self → Type 0 } = { λ _. ⊤ };
 
-    // A call may give this answer and leave the second value.
-    ghost made: { Self → Result Self.Backoff AllocError → Self → Type 0 };
+    // A call may give this answer and leave the second value. Left out, any backoff may come.
+    ghost made: { Self → Result Self.Backoff AllocError → Self → Type 0 } = { λ _ _ _. ⊤ };
 
     /// A backoff whose waits begin from the first. It is refused for want of memory alone, and the maker
     /// stays as it was then.
@@ -41,8 +41,8 @@ pub trait Backoff: Drop {
     // What makers make has it, and every call keeps it.
     ghost sound: { Self → Type 0 } = { λ _. ⊤ };
 
-    // A call may give this wait and leave the second value.
-    ghost begins: { Self → Self.Future → Self → Type 0 };
+    // A call may give this wait and leave the second value. Left out, any wait may come.
+    ghost begins: { Self → Self.Future → Self → Type 0 } = { λ _ _ _. ⊤ };
 
     /// The next wait.
     fn next_backoff(&mut self) -> Self::Future

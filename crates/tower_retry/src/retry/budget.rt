@@ -1,5 +1,5 @@
 //! How many requests may be made again: the Rust's `tower::retry::budget`.
-ghost use Rattle.std.specs.Prelude.{Bool};
+ghost use Rattle.std.specs.Prelude.{Bool, ⊤};
 
 mod budget_core;
 mod laws;
@@ -13,11 +13,11 @@ pub use tps_budget::TpsBudget;
 
 /// What retries are paid from. (The Rust takes `&self`; here a clock is read.)
 pub trait Budget: Drop {
-    // A deposit may leave the second value.
-    ghost deposited: { Self → Self → Type 0 };
+    // A deposit may leave the second value. Left out, it isn't known what is kept of it.
+    ghost deposited: { Self → Self → Type 0 } = { λ _ _. ⊤ };
 
-    // A withdrawal may have this answer and leave the second value.
-    ghost withdrew: { Self → Bool → Self → Type 0 };
+    // A withdrawal may have this answer and leave the second value. Left out, any answer may come.
+    ghost withdrew: { Self → Bool → Self → Type 0 } = { λ _ _ _. ⊤ };
 
     /// After a request that needs no retry.
     fn deposit(&mut self)

@@ -12,10 +12,12 @@ pub trait Policy<Request, Response, Error>: Drop {
     ghost sound: { Self → Type 0 } = { λ _. ⊤ };
 
     // Asked about a request and its result, it may give this answer and leave the second policy, request and result.
-    ghost asked: { Self → Request → Result Response Error → Option Self.Future → Self → Request → Result Response Error → Type 0 };
+    // Left out, it isn't known which requests are made again, nor what becomes of a result.
+    ghost asked: { Self → Request → Result Response Error → Option Self.Future → Self → Request → Result Response Error → Type 0 } = { λ _ _ _ _ _ _ _. ⊤ };
 
-    // Asked for a copy of the request, it may give this answer and leave the second value.
-    ghost cloned: { Self → Request → Option Request → Self → Type 0 };
+    // Asked for a copy of the request, it may give this answer and leave the second value. Left out, it isn't known
+    // what the copy is.
+    ghost cloned: { Self → Request → Option Request → Self → Type 0 } = { λ _ _ _ _. ⊤ };
 
     /// A wait, after which the request as it was left is made again; or none, and the result as it was left is the answer.
     fn retry(

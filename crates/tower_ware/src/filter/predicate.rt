@@ -13,8 +13,9 @@ pub trait Predicate<Request>: Drop {
     // What constructors make has it, and every check keeps it.
     ghost sound: { Self → Type 0 } = { λ _. ⊤ };
 
-    // A check of the request may have this outcome and leave the second value.
-    ghost checked: { Self → Request → Result Self.Request Self.Error → Self → Type 0 };
+    // A check of the request may have this outcome and leave the second value. Left out, it isn't known
+    // which requests go inside, nor as what.
+    ghost checked: { Self → Request → Result Self.Request Self.Error → Self → Type 0 } = { λ _ _ _ _. ⊤ };
 
     /// The request that goes inside, or why none does.
     fn check(&mut self, request: Request) -> Result<Self::Request, Self::Error>
@@ -34,8 +35,9 @@ pub trait AsyncPredicate<Request>: Drop {
     // What constructors make has it, and every check keeps it.
     ghost sound: { Self → Type 0 } = { λ _. ⊤ };
 
-    // A check of the request may give this future and leave the second value.
-    ghost asked: { Self → Request → Self.Future → Self → Type 0 };
+    // A check of the request may give this future and leave the second value. Left out, it isn't known
+    // which requests go inside, nor as what.
+    ghost asked: { Self → Request → Self.Future → Self → Type 0 } = { λ _ _ _ _. ⊤ };
 
     /// A future of the request that goes inside, or of why none does.
     fn check(&mut self, request: Request) -> Self::Future

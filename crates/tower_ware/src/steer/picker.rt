@@ -6,8 +6,9 @@ pub trait Picker<S, Req>: Drop {
     // What constructors make has it, and every pick keeps it.
     ghost sound: { Self → Type 0 } = { λ _. ⊤ };
 
-    // A pick for the request among the services may be the index, and leave the last value.
-    ghost picked: { Self → Req → List S → ℕ → Self → Type 0 };
+    // A pick for the request among the services may be the index, and leave the last value. Left out,
+    // any service of the list may be picked.
+    ghost picked: { Self → Req → List S → ℕ → Self → Type 0 } = { λ _ _ _ _ _. ⊤ };
 
     /// The index of the service that is to be called.
     fn pick(&mut self, request: &Req, services: &[S]) -> usize

@@ -7,8 +7,8 @@ pub trait Policy<Request>: Drop {
     // What constructors make has it, and every call keeps it.
     ghost sound: { Self → Type 0 } = { λ _. ⊤ };
 
-    // Asked about the request, it may give this delay and leave the second value.
-    ghost delayed: { Self → Request → ℕ → Self → Type 0 };
+    // Asked about the request, it may give this delay and leave the second value. Left out, any delay may come.
+    ghost delayed: { Self → Request → ℕ → Self → Type 0 } = { λ _ _ _ _. ⊤ };
 
     /// The delay of the request, in nanoseconds.
     fn delay(&mut self, request: &Request) -> u64

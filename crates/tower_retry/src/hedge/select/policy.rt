@@ -7,8 +7,9 @@ pub trait Policy<Request>: Drop {
     // What constructors make has it, and every call keeps it.
     ghost sound: { Self → Type 0 } = { λ _. ⊤ };
 
-    // Asked for a copy of the request, it may give this answer and leave the second value.
-    ghost cloned: { Self → Request → Option Request → Self → Type 0 };
+    // Asked for a copy of the request, it may give this answer and leave the second value. Left out, it isn't known
+    // what the copy is.
+    ghost cloned: { Self → Request → Option Request → Self → Type 0 } = { λ _ _ _ _. ⊤ };
 
     /// A copy of the request for the second service; or none, and only the first is called.
     fn clone_request(&mut self, request: &Request) -> Option<Request>
