@@ -10,4 +10,6 @@ mod budget;
 #[cfg(test)]
 mod parts;
 #[cfg(test)]
+mod policy;
+#[cfg(test)]
 mod retry;

@@ -1,11 +1,11 @@
 //! `tower::retry`: each copy, call, wait and drop of a `Retry` and its future.
 ghost use Rattle.std.specs.Prelude.{⊤};
 
+use crate::policy::{Rule, Word, Words};
 use futures::future::{Ready, ready};
 use futures::test::MockTask;
 use std::test::Fail;
 use tests_support::log::Log;
-use tests_support::policy::{Rule, Word, Words};
 use tests_support::run::{called, task};
 use tests_support::script::Mood::{Broken, Busy, Willing};
 use tests_support::script::{Reply, Script};

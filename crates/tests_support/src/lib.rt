@@ -6,7 +6,6 @@ pub mod future;
 pub mod latch;
 pub mod log;
 pub mod plain;
-pub mod policy;
 pub mod run;
 pub mod script;
 pub mod service;

@@ -105,8 +105,8 @@ impl<'a> Script<'a> {
     }
 }
 
-// The name of a clone, which is noted, or a refusal.
-pub(crate) fn told_clone(script: &Script<'_>, name: Name) -> Result<Name, AllocError> {
+/// The name of a clone, which is noted, or a refusal.
+pub fn told_clone(script: &Script<'_>, name: Name) -> Result<Name, AllocError> {
     if !script.may_clone() {
         script.log.note(format_args!("{name} refused"));
         return Err(AllocError);
@@ -118,14 +118,14 @@ pub(crate) fn told_clone(script: &Script<'_>, name: Name) -> Result<Name, AllocE
 
 /// A list of at most eight items, of which one after another is taken.
 #[derive(Drop)]
-pub(crate) struct Line<T> {
+pub struct Line<T> {
     items: Cell<[Option<T>; 8]>,
     at: Cell<usize>,
 }
 
 impl<T: Copy> Line<T> {
-    // The first eight of the list.
-    pub(crate) fn new(list: &[T]) -> Line<T> {
+    /// The first eight of the list.
+    pub fn new(list: &[T]) -> Line<T> {
         let line = Line {
             items: Cell::new([None; 8]),
             at: Cell::new(0),
@@ -154,8 +154,8 @@ impl<T: Copy> Line<T> {
         *items.get(place)?
     }
 
-    // Takes the next.
-    pub(crate) fn take(&self) -> Option<T> {
+    /// Takes the next.
+    pub fn take(&self) -> Option<T> {
         let item = self.look(self.at.get())?;
         self.at.set(self.at.get().saturating_add(1));
         Some(item)

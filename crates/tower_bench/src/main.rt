@@ -2,6 +2,7 @@
 #![tactic(auto)]
 
 mod fault;
+mod hedges;
 mod inner;
 mod lines;
 mod maps;

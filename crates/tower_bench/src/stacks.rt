@@ -4,7 +4,7 @@ ghost use Rattle.std.specs.Prelude.{◌<◌, length};
 use crate::inner::{Echo, Maker, Pace};
 use crate::lines::Line;
 use crate::rounds::rounds;
-use crate::{lines, maps, retries};
+use crate::{hedges, lines, maps, retries};
 use futures::future::{ok, ready};
 use futures::task::Context;
 use std::alloc::{AllocError, AllocGlobal};
@@ -47,6 +47,8 @@ pub enum Stack {
     Reconnect,
     /// Five maps.
     Maps,
+    /// A hedge, with so many latencies asked for, of which ten are known.
+    Hedge(u64),
     /// A semaphore alone: a permit is taken and given back.
     Semaphore,
     /// The line of permits alone, with so many waiters.
@@ -70,6 +72,8 @@ impl Stack {
             b"filter" => Some(Stack::Filter),
             b"reconnect" => Some(Stack::Reconnect),
             b"maps_5" => Some(Stack::Maps),
+            b"hedge_too_few_points" => Some(Stack::Hedge(11)),
+            b"hedge" => Some(Stack::Hedge(10)),
             b"semaphore_take_give" => Some(Stack::Semaphore),
             _ => {
                 let (line, waiters) = Line::named(name)?;
@@ -106,6 +110,7 @@ impl Stack {
             Stack::Filter => Ok(filtered(cx, &pace, count)),
             Stack::Reconnect => Ok(connected(cx, &pace, count)),
             Stack::Maps => Ok(mapped(cx, &pace, count)),
+            Stack::Hedge(points) => hedges::hedged(rt, cx, &pace, points, count),
             Stack::Semaphore => lines::take_give(rt, cx, count),
             Stack::Line(line, waiters) => line.sum(rt.alloc(), waiters, count),
         }

@@ -1,10 +1,10 @@
 //! A policy of retries that follows a script.
 ghost use Rattle.std.specs.Prelude.{⊤};
 
-use crate::future::After;
-use crate::log::Name;
-use crate::script::{Line, Script, told_clone};
 use std::alloc::AllocError;
+use tests_support::future::After;
+use tests_support::log::Name;
+use tests_support::script::{Line, Script, told_clone};
 use tower_retry::retry::Policy;
 
 /// What a policy says about one result.

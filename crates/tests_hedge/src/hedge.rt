@@ -1,0 +1,286 @@
+//! `tower::hedge`: when there is a second request, and what both ask.
+
+use crate::nest::of_hedge;
+use crate::parts::{NO_COPY, ONCE, Twice};
+use std::alloc::AllocGlobal;
+use std::cell::Cell;
+use std::random::RandomSource;
+use std::sync::Wait;
+use std::test::Fail;
+use tests_support::clock::Hand;
+use tests_support::latch::Noting;
+use tests_support::log::Log;
+use tests_support::script::Mood::{Broken, Busy, Willing};
+use tests_support::script::Reply;
+use tests_support::service::Scripted;
+use tests_support::story::{Act, Stage, Story};
+use tower_base::drive::Event;
+use tower_base::latch::Guarded;
+use tower_base::service::Fraction;
+use tower_retry::hedge::Hedge;
+use tower_retry::hedge::rotating_histogram::HistoCore;
+
+const MINUTE: u64 = 60_000_000_000;
+
+// Eight of one millisecond, and two of ten.
+const LATENCIES: [u64; 10] = [1, 1, 1, 1, 1, 1, 1, 1, 10, 10];
+
+// The run of a hedge that waits as long as nine of ten calls take, where so many points are known.
+fn run<R: Wait + RandomSource + AllocGlobal + Copy>(
+    rt: R,
+    stage: &Stage<'_>,
+    points: u64,
+    events: Vec<Event<u8, Act>>,
+) -> Result<Story, Fail> {
+    let alloc = rt.alloc();
+    let shares = Cell::new(u8::MAX);
+    let core = HistoCore::new(alloc, MINUTE, 0);
+    let latch = Noting::new(stage.log, &shares, Guarded::new(rt, alloc, core)?);
+    let hedge = Hedge::with_latch_and_mock_latencies(
+        latch,
+        Scripted::new(&stage.script, 's'),
+        Twice::new(stage.log),
+        points,
+        Fraction::new(9, 10),
+        Hand::new(stage.log, &stage.moment),
+        &LATENCIES,
+    )?;
+    of_hedge(&rt, stage, hedge, events)
+}
+
+// A call at 0 and polls of its future at 0, at a nanosecond before ten milliseconds, and at ten.
+fn one_call(rt: &HostRuntime, request: u8) -> Result<Vec<Event<u8, Act>>, Fail> {
+    let events = vec![in rt.alloc();
+        Event::Poll,
+        Event::Call(request),
+        Event::Future(0),
+        Event::Turn(Act::At(9_999_999)),
+        Event::Future(0),
+        Event::Turn(Act::At(10_000_000)),
+        Event::Future(0),
+    ]?;
+    Ok(events)
+}
+
+// What is told after the making, which ends with the drop of its clock.
+fn told_of(story: &Story) -> &str {
+    match story.told.as_str().split_once("clock dropped;") {
+        Some((_, told)) => told,
+        None => "",
+    }
+}
+
+// How many calls reached the inner service.
+fn calls_of(story: &Story) -> usize {
+    story.told.as_str().split(" called ").count() - 1
+}
+
+#[test]
+fn second_call_comes_after_the_time_of_nine_of_ten(rt: HostRuntime) -> Result<(), Fail> {
+    let log = Log::new(rt.alloc())?;
+    let stage = Stage::new(&log);
+    stage.script.replies(&[Reply::Never, Reply::Give(0, Ok(2))]);
+    let story = run(rt, &stage, 10, one_call(&rt, 7)?)?;
+    assert_eq!(rt;
+        story.entries.as_str(),
+        "ready;call 0;0 pending;at 9999999;0 pending;at 10000000;0 ok 2;"
+    );
+    assert_eq!(rt;
+        told_of(&story),
+        "s1 ready;copied 7;clock read 0;latch stepped Points(0);\
+         clock read 0;latch stepped Quantile(0, Fraction { numerator: 9, divisor: 10 });\
+         clock shared;clock read 0;latch shared;clock shared;s cloned s3;clock shared;p2 cloned p4;\
+         clock read 0;latch shared;clock shared;s1 called 7;clock shared;\
+         s1(7) pending;clock read 0;s1(7) pending;clock read 9999999;s1(7) pending;clock read 10000000;\
+         clock dropped;s3 ready;latch shared;clock shared;s3 cloned s5;clock shared;allowed 7 true;\
+         clock read 10000000;latch shared;clock shared;s3 called 7;clock shared;\
+         latch dropped;clock dropped;s3 dropped;clock dropped;s3(7) ready;\
+         clock read 10000000;clock read 10000000;latch stepped Record(10000000, 0);\
+         latch dropped;clock dropped;s3(7) dropped;clock dropped;\
+         latch dropped;clock dropped;s5 dropped;clock dropped;p4 dropped;\
+         p dropped;latch dropped;clock dropped;latch dropped;clock dropped;s1 dropped;clock dropped;\
+         latch dropped;clock dropped;latch dropped;clock dropped;s dropped;clock dropped;p2 dropped;clock dropped;\
+         latch dropped;clock dropped;s1(7) dropped;clock dropped;"
+    );
+    Ok(())
+}
+
+#[test]
+fn request_that_may_not_be_repeated_is_called_once(rt: HostRuntime) -> Result<(), Fail> {
+    let log = Log::new(rt.alloc())?;
+    let stage = Stage::new(&log);
+    stage.script.replies(&[Reply::Never]);
+    let story = run(rt, &stage, 10, one_call(&rt, ONCE)?)?;
+    assert_eq!(rt;
+        story.entries.as_str(),
+        "ready;call 0;0 pending;at 9999999;0 pending;at 10000000;0 pending;"
+    );
+    assert_eq!(rt; calls_of(&story), 1);
+    assert_eq!(rt; story.told.as_str().split("allowed 91 false;").count(), 2);
+    Ok(())
+}
+
+// The service isn't cloned for a second call, and the clock isn't asked how many points there are.
+#[test]
+fn request_without_a_copy_is_called_once(rt: HostRuntime) -> Result<(), Fail> {
+    let log = Log::new(rt.alloc())?;
+    let stage = Stage::new(&log);
+    stage.script.replies(&[Reply::Give(2, Ok(4))]);
+    let story = run(rt, &stage, 10, one_call(&rt, NO_COPY)?)?;
+    assert_eq!(rt;
+        story.entries.as_str(),
+        "ready;call 0;0 pending;at 9999999;0 pending;at 10000000;0 ok 4;"
+    );
+    assert_eq!(rt; calls_of(&story), 1);
+    assert_eq!(rt;
+        told_of(&story),
+        "s1 ready;left 90;clock read 0;latch shared;clock shared;s1 called 90;clock shared;\
+         s1(90) pending;s1(90) pending;s1(90) ready;\
+         clock read 10000000;clock read 10000000;latch stepped Record(10000000, 10);\
+         p dropped;latch dropped;clock dropped;latch dropped;clock dropped;s1 dropped;clock dropped;\
+         latch dropped;clock dropped;latch dropped;clock dropped;s dropped;clock dropped;p2 dropped;clock dropped;\
+         latch dropped;clock dropped;s1(90) dropped;clock dropped;"
+    );
+    Ok(())
+}
+
+// Ten points are known, and eleven are asked for.
+#[test]
+fn too_few_points_give_one_call(rt: HostRuntime) -> Result<(), Fail> {
+    let log = Log::new(rt.alloc())?;
+    let stage = Stage::new(&log);
+    stage.script.replies(&[Reply::Never]);
+    let story = run(rt, &stage, 11, one_call(&rt, 7)?)?;
+    assert_eq!(rt;
+        story.entries.as_str(),
+        "ready;call 0;0 pending;at 9999999;0 pending;at 10000000;0 pending;"
+    );
+    assert_eq!(rt; calls_of(&story), 1);
+    assert_eq!(rt;
+        story.told.as_str().split("latch stepped Points").count(),
+        2
+    );
+    assert_eq!(rt;
+        story.told.as_str().split("latch stepped Quantile").count(),
+        1
+    );
+    Ok(())
+}
+
+// The waiting second call is dropped with its clone.
+#[test]
+fn first_answer_before_the_delay(rt: HostRuntime) -> Result<(), Fail> {
+    let log = Log::new(rt.alloc())?;
+    let stage = Stage::new(&log);
+    stage.script.replies(&[Reply::Give(1, Ok(3))]);
+    let events = vec![in rt.alloc();
+        Event::Poll,
+        Event::Call(7),
+        Event::Future(0),
+        Event::Turn(Act::At(9_000_000)),
+        Event::Future(0),
+    ]?;
+    let story = run(rt, &stage, 10, events)?;
+    assert_eq!(rt;
+        story.entries.as_str(),
+        "ready;call 0;0 pending;at 9000000;0 ok 3;"
+    );
+    assert_eq!(rt; calls_of(&story), 1);
+    assert_eq!(rt; story.told.as_str().split("s cloned s3;").count(), 2);
+    assert_eq!(rt; story.told.as_str().split("s3 dropped;").count(), 2);
+    Ok(())
+}
+
+#[test]
+fn first_answer_after_the_second_call(rt: HostRuntime) -> Result<(), Fail> {
+    let log = Log::new(rt.alloc())?;
+    let stage = Stage::new(&log);
+    stage.script.replies(&[Reply::Gated(Ok(1)), Reply::Never]);
+    let events = vec![in rt.alloc();
+        Event::Poll,
+        Event::Call(7),
+        Event::Turn(Act::At(11_000_000)),
+        Event::Future(0),
+        Event::Turn(Act::Open(0)),
+        Event::Future(0),
+    ]?;
+    let story = run(rt, &stage, 10, events)?;
+    assert_eq!(rt;
+        story.entries.as_str(),
+        "ready;call 0;at 11000000;0 pending;at 11000000;0 ok 1;"
+    );
+    assert_eq!(rt; calls_of(&story), 2);
+    assert_eq!(rt;
+        story
+            .told
+            .as_str()
+            .split("latch stepped Record(11000000, 11);")
+            .count(),
+        2
+    );
+    Ok(())
+}
+
+// The first service's errors, and those of the second call, are `Inner`; a refused clone is `Memory`.
+#[test]
+fn errors_of_both_calls(rt: HostRuntime) -> Result<(), Fail> {
+    let log = Log::new(rt.alloc())?;
+    let stage = Stage::new(&log);
+    stage.script.moods(&[Busy, Broken(6), Willing]);
+    stage.script.replies(&[
+        Reply::Give(0, Err(1)),
+        Reply::Never,
+        Reply::Give(0, Err(2)),
+        Reply::Never,
+    ]);
+    let events = vec![in rt.alloc();
+        Event::Poll,
+        Event::Poll,
+        Event::Poll,
+        Event::Call(7),
+        Event::Future(0),
+        Event::Poll,
+        Event::Call(8),
+        Event::Turn(Act::At(10_000_000)),
+        Event::Future(1),
+        Event::Turn(Act::Clones(0)),
+        Event::Poll,
+        Event::Call(9),
+        Event::Future(2),
+    ]?;
+    let story = run(rt, &stage, 10, events)?;
+    assert_eq!(rt;
+        story.entries.as_str(),
+        "pending;error 6;ready;call 0;0 error 1;ready;call 1;at 10000000;1 error 2;\
+         at 10000000;ready;call 2;2 error out of memory;"
+    );
+    Ok(())
+}
+
+#[test]
+fn making_shares_one_histogram(rt: HostRuntime) -> Result<(), Fail> {
+    let log = Log::new(rt.alloc())?;
+    let stage = Stage::new(&log);
+    stage.moment.set(3);
+    let events = Vec::new(rt.alloc());
+    let story = run(rt, &stage, 10, events)?;
+    assert_eq!(rt; story.entries.as_str(), "");
+    let seeds = "clock read 3;latch stepped Seed(3, 1);clock read 3;latch stepped Seed(3, 1);\
+         clock read 3;latch stepped Seed(3, 1);clock read 3;latch stepped Seed(3, 1);\
+         clock read 3;latch stepped Seed(3, 1);clock read 3;latch stepped Seed(3, 1);\
+         clock read 3;latch stepped Seed(3, 1);clock read 3;latch stepped Seed(3, 1);\
+         clock read 3;latch stepped Seed(3, 10);clock read 3;latch stepped Seed(3, 10);";
+    let parts =
+        "latch shared;clock shared;s cloned s1;clock shared;latch shared;clock shared;clock shared;\
+         p cloned p2;latch shared;clock shared;clock shared;clock dropped;";
+    let told = story.told.as_str();
+    assert!(rt; told.starts_with("clock shared;"));
+    assert_eq!(rt; told.split(seeds).count(), 2);
+    assert_eq!(rt; told.split(parts).count(), 2);
+    assert_eq!(rt;
+        told_of(&story),
+        "p dropped;latch dropped;clock dropped;latch dropped;clock dropped;s1 dropped;clock dropped;\
+         latch dropped;clock dropped;latch dropped;clock dropped;s dropped;clock dropped;p2 dropped;clock dropped;"
+    );
+    Ok(())
+}
