@@ -1,0 +1,66 @@
+//! `tower::discover`: a list of services, and changes.
+
+use crate::parts::found;
+use futures::task::Poll;
+use std::test::Fail;
+use tests_support::log::Log;
+use tests_support::plain::Plain;
+use tests_support::run::task;
+use tower_limit::discover::{Change, ServiceList};
+
+#[test]
+fn list_inserts_its_services_by_place_and_ends(rt: HostRuntime) -> Result<(), Fail> {
+    let mut list = ServiceList::new(vec![in rt.alloc(); 'a', 'b', 'c']?);
+    let solo = task(&rt)?;
+    for (place, name) in [(0, 'a'), (1, 'b'), (2, 'c')] {
+        match found(&solo, &mut list) {
+            Poll::Ready(Some(Ok(Change::Insert(key, service)))) => {
+                assert_eq!(rt; (key, service), (place, name));
+            }
+            _ => return Err("a service".into()),
+        }
+    }
+    for _ in 0..2u8 {
+        assert!(rt; matches!(found(&solo, &mut list), Poll::Ready(None)));
+    }
+    Ok(())
+}
+
+#[test]
+fn services_that_are_left_are_dropped_with_their_list(rt: HostRuntime) -> Result<(), Fail> {
+    let alloc = rt.alloc();
+    let log = Log::new(alloc)?;
+    let services = vec![in alloc; Plain::new(&log, 'a'), Plain::new(&log, 'b')]?;
+    let mut list = ServiceList::new(services);
+    let solo = task(&rt)?;
+    drop(found(&solo, &mut list));
+    assert_eq!(rt; log.told(alloc)?.as_str(), "a dropped;");
+    drop(list);
+    assert_eq!(rt; log.told(alloc)?.as_str(), "b dropped;");
+    Ok(())
+}
+
+#[test]
+fn clone_of_a_change_is_of_its_parts(rt: HostRuntime) -> Result<(), Fail> {
+    let alloc = rt.alloc();
+    let log = Log::new(alloc)?;
+    let insert = Change::Insert(Plain::new(&log, 'k'), Plain::new(&log, 's'));
+    drop(insert.clone()?);
+    assert_eq!(rt;
+        log.told(alloc)?.as_str(),
+        "k cloned k1;s cloned s2;k1 dropped;s2 dropped;"
+    );
+    let remove: Change<Plain<'_>, Plain<'_>> = Change::Remove(Plain::refusing(&log, 'r'));
+    assert!(rt; remove.clone().is_err());
+    assert_eq!(rt; log.told(alloc)?.as_str(), "r refused;");
+    Ok(())
+}
+
+#[test]
+fn change_shows_its_parts(rt: HostRuntime) -> Result<(), Fail> {
+    let insert: Change<u8, char> = Change::Insert(1, 'a');
+    let remove: Change<u8, char> = Change::Remove(1);
+    let text = format!(in rt.alloc(); "{insert:?}, {remove:?}")?;
+    assert_eq!(rt; text.as_str(), "Insert(1, 'a'), Remove(1)");
+    Ok(())
+}
