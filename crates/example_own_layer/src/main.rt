@@ -1,17 +1,37 @@
-//! A middleware of one's own, stacked under those of the library.
+//! Middleware of one's own, stacked among those of the library.
 #![tactic(auto)]
 
 mod counted;
+mod errors;
 mod stacked;
 
-use futures::future::{Ready, ok};
+use errors::CountErrorsLayer;
+use futures::future::{Ready, err, ok};
 use futures::task::{Doorbell, Poll, Solo};
 use stacked::driven;
+use std::cell::Cell;
 use std::convert::Infallible;
 use std::io;
-use tower::drive::{Entry, Event};
+use tower::drive::{Entry, Event, Transcript};
 use tower::service::SystemClock;
-use tower::service_fn;
+use tower::timeout::Error;
+use tower::{ServiceBuilder, ServiceExt, service_fn};
+
+fn show(rt: &impl Print, transcript: &Transcript<u64, Error<Infallible>, u64>) -> io::Result<()> {
+    for entry in &transcript.entries {
+        match entry {
+            Entry::Polled(_) => println!(rt; "polled")?,
+            Entry::Called(index) => println!(rt; "call {index}")?,
+            Entry::Answered(index, Poll::Ready(Ok(half))) => println!(rt;
+                "{index} answered {half}"
+            )?,
+            Entry::Answered(index, _) => println!(rt; "{index} has no answer")?,
+            Entry::Dropped(_) | Entry::Turned(_) => {}
+            Entry::Skipped => println!(rt; "skipped")?,
+        }
+    }
+    Ok(())
+}
 
 fn main(rt: HostRuntime) -> io::Result<()> {
     let alloc = rt.alloc();
@@ -27,17 +47,19 @@ fn main(rt: HostRuntime) -> io::Result<()> {
     let mut cx = solo.begin();
     let transcript = driven(alloc, &mut cx, inner, clock, events, |turn: u64| turn);
     cx.cancel();
-    for entry in &transcript?.entries {
-        match entry {
-            Entry::Polled(_) => println!(rt; "polled")?,
-            Entry::Called(index) => println!(rt; "call {index}")?,
-            Entry::Answered(index, Poll::Ready(Ok(half))) => println!(rt;
-                "{index} answered {half}"
-            )?,
-            Entry::Answered(index, _) => println!(rt; "{index} has no answer")?,
-            Entry::Dropped(_) | Entry::Turned(_) => {}
-            Entry::Skipped => println!(rt; "skipped")?,
+    show(&rt, &transcript?)?;
+
+    let errors = Cell::new(0);
+    let mut stack = ServiceBuilder::new()
+        .timeout(1_000_000_000, SystemClock::new(rt)?)
+        .layer(CountErrorsLayer::new(&errors))
+        .service_fn(|n: u64| -> Ready<Result<u64, u64>> {
+            if n % 3 == 0 { err(n) } else { ok(n / 2) }
+        })?;
+    for n in 0..10 {
+        if let Err(error) = stack.block_on_call(&rt, n)? {
+            println!(rt; "error {error}")?;
         }
     }
-    Ok(())
+    println!(rt; "errors: {}", errors.get())
 }

@@ -10,13 +10,11 @@ mod tests;
 mod writing;
 
 use fault::Fault;
-use futures::task::{Doorbell, Solo};
 use paced::{Console, report, run};
+use std::env;
 use std::io::IsTerminal;
 use std::process::ExitCode;
-use std::time::Duration;
-use std::{env, thread};
-use tower_base::service::SystemClock;
+use tower::service::SystemClock;
 
 fn main(rt: HostRuntime) -> ExitCode {
     let Ok(args) = env::args(&rt) else {
@@ -28,15 +26,11 @@ fn main(rt: HostRuntime) -> ExitCode {
     let Ok(clock) = SystemClock::new(rt) else {
         return ExitCode::from(report(Fault::CannotRead, rt.stderr()));
     };
-    let Ok(solo) = Solo::new(&rt, Doorbell::spinning()) else {
-        return ExitCode::from(report(Fault::Memory, rt.stderr()));
-    };
     let console = Console {
         reader: rt.stdin(),
         out: rt.stdout(),
         err: rt.stderr(),
         shows_progress: rt.stderr().is_terminal(),
     };
-    let pause = || thread::sleep(&rt, Duration::from_millis(1));
-    ExitCode::from(run(rt.alloc(), &words, console, clock, &solo, pause))
+    ExitCode::from(run(&rt, &words, console, clock))
 }

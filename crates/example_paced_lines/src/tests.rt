@@ -1,16 +1,15 @@
 //! Copied lines, faults and the pace, each through `run`.
-ghost use Rattle.std.specs.Prelude.{⊤};
 
 use crate::paced::{Console, run};
-use futures::task::{Doorbell, Solo};
 use std::alloc::AllocGlobal;
 use std::cell::Cell;
 use std::io;
 use std::io::{ErrorKind, Read, Write};
 use std::process::Abort;
 use std::random::RandomSource;
+use std::sync::Wait;
 use std::test::Fail;
-use tower_base::service::Clock;
+use tower::service::Clock;
 
 const MILLI: u64 = 1_000_000;
 
@@ -111,28 +110,27 @@ impl Write for Page {
     }
 }
 
-// A clock that only the pauses move.
+// A clock that each reading moves on by so much.
 #[derive(Drop)]
 struct Hand<'a> {
     moment: &'a Cell<u64>,
+    step: u64,
     last: u64,
 }
 
 impl Clock for Hand<'_> {
     ghost reading = { λ c. c.last };
 
-    ghost read = { λ _ _. ⊤ };
-
-    ghost shared = { λ _ _. ⊤ };
-
     fn now(&mut self) -> u64 {
         self.last = self.moment.get();
+        self.moment.set(self.last.saturating_add(self.step));
         self.last
     }
 
     fn share(&self) -> Self {
         Hand {
             moment: self.moment,
+            step: self.step,
             last: self.last,
         }
     }
@@ -146,21 +144,21 @@ struct Ended {
     faults: Vec<u8>,
 }
 
-// A run with these words. Each pause takes so long.
+// A run with these words. Each reading of the clock moves it by so much.
 fn paced(
-    rt: &(impl RandomSource + AllocGlobal),
+    rt: &(impl Wait + RandomSource + AllocGlobal),
     named: &[&str],
-    pause: u64,
+    step: u64,
     reader: Feed<'_>,
     page: &mut Page,
 ) -> Result<Ended, Fail> {
-    shown(rt, named, pause, reader, page, false)
+    shown(rt, named, step, reader, page, false)
 }
 
 fn shown(
-    rt: &(impl RandomSource + AllocGlobal),
+    rt: &(impl Wait + RandomSource + AllocGlobal),
     named: &[&str],
-    pause: u64,
+    step: u64,
     reader: Feed<'_>,
     page: &mut Page,
     shows_progress: bool,
@@ -170,7 +168,6 @@ fn shown(
     for word in named {
         words.push(String::from_str(alloc, word)?)?;
     }
-    let solo = Solo::new(rt, Doorbell::spinning())?;
     let moment = Cell::new(0);
     let mut faults = Page::new(rt, 4096);
     let console = Console {
@@ -181,11 +178,10 @@ fn shown(
     };
     let clock = Hand {
         moment: &moment,
+        step,
         last: 0,
     };
-    let status = run(alloc, &words, console, clock, &solo, || {
-        moment.set(moment.get().saturating_add(pause))
-    });
+    let status = run(rt, &words, console, clock);
     Ok(Ended {
         status,
         moment: moment.get(),
@@ -215,9 +211,11 @@ fn lines_stay_as_their_bytes(rt: HostRuntime) -> Result<(), Fail> {
     Ok(())
 }
 
+// The moment at the end counts the readings: one where the limit is made, two for each line (the limit's and the
+// timeout's), and one for each poll of a full window, the last of which is at its end.
 #[test]
 fn so_many_lines_go_in_each_window(rt: HostRuntime) -> Result<(), Fail> {
-    for (lines, window, moment) in [("2", "20", 40), ("1", "7", 28), ("5", "20", 0)] {
+    for (lines, window, moment) in [("2", "20", 44), ("1", "7", 32), ("5", "20", 11)] {
         let mut page = Page::new(&rt, 4096);
         let feed = Feed::new(b"a\nb\nc\nd\ne", 4096);
         let ended = paced(&rt, &[lines, window], MILLI, feed, &mut page)?;
@@ -293,7 +291,7 @@ fn a_read_fails(rt: HostRuntime) -> Result<(), Fail> {
 
 // A run whose writer does this, which fails so.
 fn check_written(
-    rt: &(impl Abort + RandomSource + AllocGlobal),
+    rt: &(impl Abort + Wait + RandomSource + AllocGlobal),
     mut page: Page,
     written: &[u8],
     fault: &[u8],
@@ -321,15 +319,16 @@ fn a_write_fails(rt: HostRuntime) -> Result<(), Fail> {
     Ok(())
 }
 
+// The clock is read once before the first line, twice for each line, and once for each refused write: the tenth is too late.
 #[test]
 fn a_write_may_take_ten_seconds(rt: HostRuntime) -> Result<(), Fail> {
     let whole = b"one\ntwo\nsix\n";
     for kind in [ErrorKind::WouldBlock, ErrorKind::Interrupted] {
         let page = Page::failing(&rt, 4096, 1, 9, kind);
-        assert_eq!(rt; check_written(&rt, page, whole, b"")?, 9 * SECOND);
+        assert_eq!(rt; check_written(&rt, page, whole, b"")?, 16 * SECOND);
         let page = Page::failing(&rt, 4096, 1, usize::MAX, kind);
         let moment = check_written(&rt, page, &whole[..4], b"request timed out\n")?;
-        assert_eq!(rt; moment, 10 * SECOND);
+        assert_eq!(rt; moment, 15 * SECOND);
     }
     Ok(())
 }

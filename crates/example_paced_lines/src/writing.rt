@@ -5,7 +5,8 @@ use futures::future::Future;
 use futures::task::{Context, Poll};
 use std::cell::RefCell;
 use std::io::{ErrorKind, Write};
-use tower_base::service::{Service, Steps};
+use tower::Service;
+use tower::service::Steps;
 
 /// The writer failed.
 #[derive(Clone, Copy, Debug, PartialEq, Eq)]
@@ -32,12 +33,6 @@ impl<'w, W: Write> Service<Vec<u8>> for Writing<'w, W> {
     type Error = CannotWrite;
 
     type Future = Line<'w, W>;
-
-    ghost ready = { λ _. ⊤ };
-
-    ghost polled = { λ _ _ _. ⊤ };
-
-    ghost called = { λ _ _ _ _. ⊤ };
 
     ghost readies = { λ _ _ _. tt };
 
@@ -66,8 +61,6 @@ impl<W: Write> Future for Line<'_, W> {
 
 /// A poll writes once. It is pending where bytes are left, or where the writer would wait.
 impl<W: Write> Steps for Line<'_, W> {
-    ghost stepped = { λ _ _ _. ⊤ };
-
     fn step(&mut self, cx: &mut Context<'_>) -> Poll<Result<(), CannotWrite>> {
         let rest = &self.bytes[self.written..];
         if rest.is_empty() {

@@ -1,0 +1,119 @@
+//! A middleware with a future of its own: it counts the responses that are errors.
+ghost use Rattle.std.specs.Prelude.{◌≡◌};
+
+use futures::future::Future;
+use futures::task::{Context, Poll};
+use std::alloc::AllocError;
+use std::cell::Cell;
+use std::marker::Model;
+use tower::service::Steps;
+use tower::{Layer, Service};
+
+/// Counts the responses of its service that are errors.
+#[derive(Drop)]
+pub struct CountErrors<'a, S> {
+    inner: S,
+    errors: &'a Cell<u64>,
+}
+
+// Contracts see the inner service alone: what a cell holds they can't know, so the count is only tested.
+impl<'a, S> Model for CountErrors<'a, S> {
+    ghost Value = { S };
+
+    ghost view = { λ c. c.inner };
+}
+
+// A poll and a call are those of the inner service.
+impl<'a, Request, S: Service<Request>> Service<Request> for CountErrors<'a, S> {
+    type Response = S::Response;
+
+    type Error = S::Error;
+
+    type Future = CountErrorsFuture<'a, S::Future>;
+
+    ghost sound = { S.sound };
+
+    ghost ready = { S.ready };
+
+    ghost polled = { S.polled };
+
+    ghost called = { λ old request future new. S.ready old × S.called old request future new };
+
+    ghost readies = { S.readies };
+
+    fn poll_ready(&mut self, cx: &mut Context<'_>) -> Poll<Result<(), S::Error>> {
+        self.inner.poll_ready(cx)
+    }
+
+    fn call(&mut self, request: Request) -> Self::Future {
+        CountErrorsFuture {
+            inner: self.inner.call(request),
+            errors: self.errors,
+        }
+    }
+}
+
+/// The response of a `CountErrors`.
+#[derive(Drop)]
+pub struct CountErrorsFuture<'a, F> {
+    inner: F,
+    errors: &'a Cell<u64>,
+}
+
+impl<'a, F> Model for CountErrorsFuture<'a, F> {
+    ghost Value = { F };
+
+    ghost view = { λ f. f.inner };
+}
+
+impl<'a, F: Steps<Output = Result<A, E>>, A, E> Future for CountErrorsFuture<'a, F> {
+    type Output = Result<A, E>;
+
+    // What the inner future asks and waits for. (`gives` is left out: `stepped` below tells the answers.)
+    ghost can_poll = { F.can_poll };
+
+    ghost needs = { F.needs };
+
+    fn poll(&mut self, cx: &mut Context<'_>) -> Poll<Result<A, E>> {
+        self.step(cx)
+    }
+}
+
+// A poll is one poll of the inner future, whose answer it gives.
+impl<'a, F: Steps<Output = Result<A, E>>, A, E> Steps for CountErrorsFuture<'a, F> {
+    ghost stepped = { F.stepped };
+
+    fn step(&mut self, cx: &mut Context<'_>) -> Poll<Result<A, E>> {
+        let answer = self.inner.step(cx);
+        if let Poll::Ready(Err(_)) = &answer {
+            self.errors.set(self.errors.get().saturating_add(1));
+        }
+        answer
+    }
+}
+
+/// Makes a `CountErrors` of a service.
+#[derive(Clone, Copy)]
+pub struct CountErrorsLayer<'a> {
+    errors: &'a Cell<u64>,
+}
+
+impl<'a> CountErrorsLayer<'a> {
+    /// The services that it makes count in this cell.
+    pub fn new(errors: &'a Cell<u64>) -> CountErrorsLayer<'a> {
+        CountErrorsLayer { errors }
+    }
+}
+
+impl<'a, S> Layer<S> for CountErrorsLayer<'a> {
+    type Service = CountErrors<'a, S>;
+
+    ghost made = { λ _ service made. made ≡ service };
+
+    fn layer(&self, service: S) -> Result<CountErrors<'a, S>, AllocError> {
+        Ok(CountErrors {
+            inner: service,
+            errors: self.errors,
+        })
+    }
+}

@@ -1,0 +1,44 @@
+//! Two threads, each with a clone of one limited stack, and a hundred calls of each.
+#![tactic(auto)]
+
+use futures::future::{Ready, ok};
+use std::alloc::AllocGlobal;
+use std::convert::Infallible;
+use std::random::RandomSource;
+use std::sync::Wait;
+use std::sync::atomic::{AtomicU64, Ordering};
+use std::{io, thread};
+use tower::{Service, ServiceBuilder, ServiceExt};
+
+// A hundred calls, and the sum of their answers. Of the service no more is known than that it is sound, so
+// the loop has a line in proofs/hundred/Invariants.antt, which says that it stays so.
+fn hundred<S, R>(rt: &R, mut stack: S) -> io::Result<u64>
+where
+    S: Service<u64, Response = u64>,
+    R: Wait + RandomSource + AllocGlobal,
+    requires { S.sound stack }
+{
+    let mut sum = 0u64;
+    for side in 0..100 {
+        if let Ok(area) = stack.block_on_call(rt, side)? {
+            sum = sum.saturating_add(area);
+        }
+    }
+    Ok(sum)
+}
+
+fn main(rt: HostRuntime) -> io::Result<()> {
+    let calls = AtomicU64::new(0);
+    // One call in flight, whichever clone makes it.
+    let first = ServiceBuilder::new()
+        .concurrency_limit(rt, rt.alloc(), 1)
+        .service_fn(|side: u64| -> Ready<Result<u64, Infallible>> {
+            calls.fetch_add(1, Ordering::SeqCst);
+            ok(side.wrapping_mul(side))
+        })?;
+    let second = first.clone()?;
+    let (first, second) = thread::join(&rt, || hundred(&rt, first), || hundred(&rt, second));
+    println!(rt; "the first thread's sum: {}", first?)?;
+    println!(rt; "the second thread's sum: {}", second?)?;
+    println!(rt; "calls: {}", calls.load(Ordering::SeqCst))
+}
