@@ -33,3 +33,5 @@ mod ready;
 mod shared;
 #[cfg(test)]
 mod then;
+#[cfg(test)]
+mod waits;

@@ -1,0 +1,152 @@
+//! Waiting on the calling thread for a borrowed service, and for its responses.
+
+use futures::future::{Ready, ok};
+use std::alloc::AllocGlobal;
+use std::convert::Infallible;
+use std::random::RandomSource;
+use std::sync::Wait;
+use std::sync::atomic::{AtomicU64, Ordering};
+use std::test::Fail;
+use std::time::{Clock, Duration};
+use std::{io, thread};
+use tests_support::log::Log;
+use tests_support::script::{Mood, Reply, Script};
+use tests_support::service::Scripted;
+use tower_base::service::Service;
+use tower_limit::limit::ConcurrencyLimit;
+use tower_limit::limit::concurrency::Semaphore;
+use tower_util::util::{block_on_call, block_on_each, block_on_ready, service_fn};
+
+#[test]
+fn service_is_polled_until_it_is_ready(rt: HostRuntime) -> Result<(), Fail> {
+    let log = Log::new(rt.alloc())?;
+    let script = Script::new(&log);
+    script.moods(&[Mood::Busy, Mood::Busy, Mood::Willing]);
+    let mut service = Scripted::new(&script, 'a');
+    let answer = block_on_ready::<_, _, u8>(&mut service, &rt)?;
+    assert_eq!(rt; answer, Ok(()));
+    assert_eq!(rt;
+        log.told(rt.alloc())?.as_str(),
+        "a pending;a pending;a ready;"
+    );
+    Ok(())
+}
+
+#[test]
+fn ready_service_is_not_asked_again(rt: HostRuntime) -> Result<(), Fail> {
+    let log = Log::new(rt.alloc())?;
+    let script = Script::new(&log);
+    script.moods(&[Mood::Willing, Mood::Broken(90)]);
+    let mut service = Scripted::new(&script, 'a');
+    assert_eq!(rt; block_on_ready::<_, _, u8>(&mut service, &rt)?, Ok(()));
+    assert_eq!(rt; log.told(rt.alloc())?.as_str(), "a ready;");
+    script.moods(&[Mood::Willing, Mood::Broken(90)]);
+    assert_eq!(rt; block_on_call(&mut service, &rt, 6)?, Ok(6));
+    assert_eq!(rt;
+        log.told(rt.alloc())?.as_str(),
+        "a ready;a called 6;a(6) ready;a(6) dropped;"
+    );
+    Ok(())
+}
+
+#[test]
+fn error_leaves_the_service(rt: HostRuntime) -> Result<(), Fail> {
+    let log = Log::new(rt.alloc())?;
+    let script = Script::new(&log);
+    script.moods(&[
+        Mood::Busy,
+        Mood::Broken(90),
+        Mood::Broken(91),
+        Mood::Willing,
+    ]);
+    let mut service = Scripted::new(&script, 'a');
+    assert_eq!(rt; block_on_ready::<_, _, u8>(&mut service, &rt)?, Err(90));
+    assert_eq!(rt; log.told(rt.alloc())?.as_str(), "a pending;a error 90;");
+    assert_eq!(rt; block_on_call(&mut service, &rt, 6)?, Err(91));
+    assert_eq!(rt; log.told(rt.alloc())?.as_str(), "a error 91;");
+    assert_eq!(rt; block_on_call(&mut service, &rt, 7)?, Ok(7));
+    assert_eq!(rt;
+        log.told(rt.alloc())?.as_str(),
+        "a ready;a called 7;a(7) ready;a(7) dropped;"
+    );
+    Ok(())
+}
+
+#[test]
+fn ten_calls_each_of_a_ready_service(rt: HostRuntime) -> Result<(), Fail> {
+    let alloc = rt.alloc();
+    let log = Log::new(alloc)?;
+    let script = Script::new(&log);
+    script.replies(&[Reply::Echo(1)]);
+    let mut service = Scripted::new(&script, 'a');
+    for request in 0..10 {
+        script.moods(&[Mood::Busy, Mood::Willing]);
+        assert_eq!(rt; block_on_call(&mut service, &rt, request)?, Ok(request));
+        let told = format!(in alloc;
+            "a pending;a ready;a called {request};a({request}) pending;a({request}) ready;a({request}) dropped;"
+        )?;
+        assert_eq!(rt; log.told(alloc)?.as_str(), told.as_str());
+    }
+    Ok(())
+}
+
+#[test]
+fn each_answer_is_told_before_the_next_call(rt: HostRuntime) -> Result<(), Fail> {
+    let log = Log::new(rt.alloc())?;
+    let script = Script::new(&log);
+    script.replies(&[Reply::Echo(1), Reply::Fail(0), Reply::Echo(0)]);
+    let mut service = Scripted::new(&script, 'a');
+    let requests = vec![in rt.alloc(); 1, 2, 3]?;
+    block_on_each(&mut service, &rt, requests, |answer| {
+        log.note(format_args!("told {answer:?}"))
+    })?;
+    assert_eq!(rt;
+        log.told(rt.alloc())?.as_str(),
+        "a ready;a called 1;a(1) pending;a(1) ready;a(1) dropped;told Ok(1);\
+         a ready;a called 2;a(2) ready;a(2) dropped;told Err(2);\
+         a ready;a called 3;a(3) ready;a(3) dropped;told Ok(3);"
+    );
+    Ok(())
+}
+
+// Says that it begins, and makes a call.
+fn waits<R, S>(rt: &R, began: &AtomicU64, mut service: S) -> io::Result<bool>
+where
+    R: Wait + RandomSource + AllocGlobal,
+    S: Service<u8, Response = u8>,
+    requires { S.sound service }
+{
+    began.store(1, Ordering::SeqCst);
+    Ok(matches!(block_on_call(&mut service, rt, 6)?, Ok(6)))
+}
+
+// Drops what it holds, some time after the other thread began.
+fn lets_go<T: Drop>(rt: &impl Clock, began: &AtomicU64, held: T) {
+    for _ in 0..1_000_000_u32 {
+        if began.load(Ordering::SeqCst) == 1 {
+            break;
+        }
+        thread::yield_now();
+    }
+    thread::sleep(rt, Duration::from_millis(20));
+    drop(held);
+}
+
+#[test]
+fn waker_of_another_thread_ends_the_wait(rt: HostRuntime) -> Result<(), Fail> {
+    let semaphore = Semaphore::new(rt, rt.alloc(), 1)?;
+    let began = AtomicU64::new(0);
+    let echo = service_fn(|n: u8| -> Ready<Result<u8, Infallible>> { ok(n) });
+    let mut first = ConcurrencyLimit::with_semaphore(echo, semaphore.share()?);
+    let second = first.clone()?;
+    assert!(rt; block_on_ready::<_, _, u8>(&mut first, &rt)?.is_ok());
+    assert_eq!(rt; semaphore.available_permits(), 0);
+    let (answered, ()) = thread::join(
+        &rt,
+        || waits(&rt, &began, second),
+        || lets_go(&rt, &began, first),
+    );
+    assert!(rt; answered?);
+    assert_eq!(rt; semaphore.available_permits(), 1);
+    Ok(())
+}
