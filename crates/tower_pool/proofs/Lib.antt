@@ -1,3 +1,7 @@
+pub mod Abandoned
 pub mod Lines
+pub mod Machine
 pub mod Messages
+pub mod Moves
+pub mod Positions
 pub mod Replies

@@ -2,7 +2,7 @@
 use Rattle.std.proofs.Common.{◌≡◌, ◌≢◌, ℕ, ◌+◌, ◌-◌, ◌<◌, ◌≤◌, zero, suc, List, [], ◌∷◌, ◌++◌, length, Option, Some, None, is_some, true, false, slice_get, slice_set, remove, All, count_by, cond, refl, sym, ap, subst, ◌∙◌, arith}
 use Rattle.std.proofs.lemmas.List.Sums.{sum_by-append}
 use Rattle.std.proofs.lemmas.Option.{slice_get_within, get_or_from_slice_get}
-use Rattle.tower_pool.specs.Letters.{queued_letters}
+use Rattle.tower_pool.specs.Letters.{Fits, queued_letters}
 use Rattle.tower_pool.specs.Mail.{Entry, At, NoneWith}
 use Rattle.tower_pool.specs.Mailbox.{present}
 use Rattle.tower_pool.specs.declared.buffer.letter.Fate.{Fate}
@@ -92,10 +92,10 @@ module _ {Q F : Type 0} where
       }
 
   -- no message has an id that is still to be given
-  pub none_given : (messages : List (Entry Q F)) (letters : List (Letter Q F)) (next : ℕ) → present messages ≡ letters → All (λ letter. letter.id < next) letters
-      → NoneWith (λ letter. Unit {0}) messages next
-  none_given messages letters next same below = none_with (λ letter. Unit {0}) messages next (λ i letter at is.
-      let low : letter.id < next = holds_at (λ letter. letter.id < next) letters i letter below (rw (sym same) at) in λ _. omega (arith, low, is))
+  pub none_given : {E : Type 0} (messages : List (Entry Q F)) (letters : List (Letter Q F)) (next : ℕ) (stored : Option E) → present messages ≡ letters
+      → All (Fits next stored) letters → NoneWith (λ letter. Unit {0}) messages next
+  none_given messages letters next stored same below = none_with (λ letter. Unit {0}) messages next (λ i letter at is.
+      let fits : Fits next stored letter = holds_at (Fits next stored) letters i letter below (rw (sym same) at) in λ _. omega (arith, fits.0, is))
 
   pub queued_last : (letters : List (Letter Q F)) (id : ℕ) (request : Q) (fate : Fate F)
       → queued_letters (letters ++ record { id = id; request = Some request; fate = fate } ∷ []) ≡ queued_letters letters + 1

@@ -1,8 +1,10 @@
 -- What a closed mail tells.
-use Rattle.std.proofs.Common.{◌≡◌, ◌≢◌, ◌<◌, ◌-◌, ℕ, false, Option, Some, None, List, remove, refl}
-use Rattle.tower_limit.specs.Line.{Ticket, At}
-use Rattle.tower_pool.specs.Mail.{Mail, MailSteps, Tells}
-use Rattle.tower_pool.specs.declared.buffer.mail.MailStep.TheVariants.{Send}
+use Rattle.std.proofs.Common.{◌≡◌, ◌≢◌, ◌<◌, ◌-◌, ℕ, true, false, is_some, slice_set, ap, sym, Option, Some, None, List, remove, refl}
+use Rattle.tower_limit.specs.Line.{Ticket, At as TicketAt}
+use Rattle.tower_pool.specs.Mail.{At, Entry, Mail, MailSteps, Tells}
+use Rattle.tower_pool.specs.declared.buffer.mail.MailStep.TheVariants.{Outcome, Send}
+use Rattle.tower_pool.specs.declared.buffer.letter.Fate.TheVariants.{Failed as HasFailed}
+use Rattle.tower_pool.specs.declared.buffer.letter.Letter.{Letter}
 use Rattle.tower_pool.specs.declared.buffer.mail.MailReply.{MailReply}
 use Rattle.tower_pool.specs.declared.buffer.mail.MailReply.TheVariants.{Memory, Failed, Closed}
 
@@ -22,9 +24,26 @@ module _ {Q F E : Type 0} where
 
   -- where the worker is gone, a place is used up as the mail tells
   pub refused : (mail : Mail Q F E) (request : Q) (reply : MailReply Q F E) (place : ℕ) → 0 < mail.reserved → mail.has_worker ≡ false → Tells mail.stored reply
-      → reply ≢ Memory → At mail.line place Ticket.held
+      → reply ≢ Memory → TicketAt mail.line place Ticket.held
       → MailSteps mail (Send request) reply (record mail { line = remove mail.line place; reserved = mail.reserved - 1 })
   refused mail request (Failed e) place some gone t not at = (some, gone, t, (place, at, refl), refl)
   refused mail request Closed place some gone t not at = (some, gone, t, (place, at, refl), refl)
   refused mail request Memory place some gone t not at = absurd (not refl)
   refused mail request reply place some gone t not at = absurd (told mail.stored reply t)
+
+  told_is : (mail : Mail Q F E) (stored : Option E) (e : E) → Tells {Q = Q} {F = F} stored (Failed e) → stored ≡ Some e
+  told_is mail None e t = absurd t
+  told_is mail (Some f) e t = ap Some (sym t)
+
+  told_some : (mail : Mail Q F E) (stored : Option E) → is_some stored ≡ true → Tells {Q = Q} {F = F} stored Closed → ⊥
+  told_some mail None some t = cc
+  told_some mail (Some f) some t = t
+
+  -- where the service failed, the message that asked is gone as the mail tells
+  pub told_failure : (mail : Mail Q F E) (id : ℕ) (reply : MailReply Q F E) (spot : ℕ) (letter : Letter Q F) → At mail.messages spot letter → letter.id ≡ id
+      → letter.fate ≡ HasFailed → is_some mail.stored ≡ true → Tells mail.stored reply → reply ≢ Memory
+      → MailSteps mail (Outcome id) reply (record mail { messages = slice_set mail.messages spot (Entry.gone letter.fate) })
+  told_failure mail id (Failed e) spot letter at is failed some t not = (spot, letter, at, is, failed, told_is mail mail.stored e t, refl)
+  told_failure mail id Closed spot letter at is failed some t not = absurd (told_some mail mail.stored some t)
+  told_failure mail id Memory spot letter at is failed some t not = absurd (not refl)
+  told_failure mail id reply spot letter at is failed some t not = absurd (told mail.stored reply t)

@@ -1,5 +1,5 @@
 -- Mail as plain lists: every message in the order of sending, and the line for places.
-use Rattle.std.specs.Prelude.{◌≡◌, ◌≢◌, ◌⊎◌, ◌<◌, ◌≤◌, ◌+◌, ◌-◌, ◌^◌, ℕ, zero, suc, Bool, true, false, nat_eq, ◌&&◌, ◌||◌, is_some, Option, Some, None, List, [], ◌∷◌, ◌++◌, slice_get, slice_set}
+use Rattle.std.specs.Prelude.{◌≡◌, ◌≢◌, ◌⊎◌, ◌<◌, ◌≤◌, ◌+◌, ◌-◌, ◌^◌, ℕ, zero, suc, Bool, true, false, nat_eq, ◌&&◌, ◌||◌, if◌then◌else◌, unwrap_or, is_some, Option, Some, None, List, [], ◌∷◌, ◌++◌, slice_get, slice_set}
 use Rattle.tower_limit.specs.Line.{Ticket, Steps}
 use Rattle.tower_limit.specs.declared.limit.concurrency.line_core.LineStep.TheVariants.{Join as AskPlace, Look as SeePlace, Cancel as LeaveLine, Release}
 use Rattle.tower_limit.specs.declared.limit.concurrency.line_core.LineReply.TheVariants.{Granted, Waiting as Waits, Left, Unknown as NoTicket}
@@ -76,21 +76,21 @@ module _ {Q F : Type 0} where
   NoneQueued messages = (place : ℕ) (letter : Letter Q F) → At messages place letter → letter.request ≡ None
 
   -- where the worker is gone, a message without an outcome is lost, and one that nobody waits for is gone
+  abbrev pub left_by : Letter Q F → Fate F → Entry Q F
+  left_by letter Open = Entry.here (record { id = letter.id; request = None; fate = WasLost })
+  left_by letter Cancelled = Entry.gone Cancelled
+  left_by letter _ = Entry.here letter
+
   abbrev pub abandoned : List (Entry Q F) → List (Entry Q F)
   abandoned [] = []
   abandoned (Entry.gone fate ∷ rest) = Entry.gone fate ∷ abandoned rest
-  abandoned (Entry.here letter ∷ rest) =
-      (elim letter.fate [
-        | Open ↦ Entry.here (record { id = letter.id; request = None; fate = WasLost })
-        | Cancelled ↦ Entry.gone Cancelled
-        | _ ↦ Entry.here letter
-      ]) ∷ abandoned rest
+  abandoned (Entry.here letter ∷ rest) = left_by letter letter.fate ∷ abandoned rest
 
   -- how many messages are queued
   abbrev pub queued : List (Entry Q F) → ℕ
   queued [] = 0
   queued (Entry.gone fate ∷ rest) = queued rest
-  queued (Entry.here letter ∷ rest) = (elim letter.request [ None ↦ 0 | Some request ↦ 1 ]) + queued rest
+  queued (Entry.here letter ∷ rest) = (if is_some letter.request then 1 else 0) + queued rest
 
 module _ {Q F E : Type 0} where
   -- what a closed mail tells: the stored error, or that it is closed; for want of memory for the error's clone, that
@@ -104,13 +104,22 @@ module _ {Q F E : Type 0} where
   abbrev pub is_over : Mail Q F E → Bool
   is_over mail = nat_eq mail.reserved 0 && (mail.is_closed || nat_eq mail.buffers 0)
 
-  -- The oldest queued messages, which nobody waits for, leave their places and are gone, so many.
+  -- the oldest queued message, which nobody waits for, leaves its place and is gone
+  abbrev pub ClearsOldest : Mail Q F E → Mail Q F E → Type 0
+  ClearsOldest old new = (place : ℕ) × (letter : Letter Q F) × (request : Q) × OldestAt old.messages place letter request × (letter.fate ≡ Cancelled)
+      × Steps old.bound old.line Release Left new.line
+      × (new ≡ record old { line = new.line; messages = slice_set old.messages place (Entry.gone Cancelled) })
+
+  -- so many of them, one after another
   abbrev pub Clears : ℕ → Mail Q F E → Mail Q F E → Type 0
   Clears zero old new = new ≡ old
-  Clears (suc n) old new = (mid : Mail Q F E) × Clears n old mid
-      × ((place : ℕ) × (letter : Letter Q F) × (request : Q) × OldestAt mid.messages place letter request × (letter.fate ≡ Cancelled)
-      × Steps mid.bound mid.line Release Left new.line
-      × (new ≡ record mid { line = new.line; messages = slice_set mid.messages place (Entry.gone Cancelled) }))
+  Clears (suc n) old new = (mid : Mail Q F E) × Clears n old mid × ClearsOldest mid new
+
+  -- the oldest queued message, which somebody waits for, leaves its place with its request
+  abbrev pub TakesOldest : Mail Q F E → ℕ → Q → Mail Q F E → Type 0
+  TakesOldest old id request new = (place : ℕ) × (letter : Letter Q F) × OldestAt old.messages place letter request × (letter.fate ≡ Open) × (letter.id ≡ id)
+      × Steps old.bound old.line Release Left new.line
+      × (new ≡ record old { line = new.line; messages = slice_set old.messages place (Entry.here (record letter { request = None })) })
 
   -- The mail's machine: the step may give this reply and leave the new mail.
   abbrev pub MailSteps : Mail Q F E → MailStep Q F E → MailReply Q F E → Mail Q F E → Type 0
@@ -149,9 +158,7 @@ module _ {Q F E : Type 0} where
   MailSteps old (Send request) Memory new = (0 < old.reserved) × (old.has_worker ≡ false) × Tells old.stored Memory × (new ≡ old)
   MailSteps old (Send request) Unknown new = (old.reserved ≡ 0) × (new ≡ old)
   -- the oldest queued message that somebody waits for leaves its place, and those before it, which nobody waits for
-  MailSteps old Take (Message id request) new = (n : ℕ) × (mid : Mail Q F E) × Clears n old mid × (place : ℕ) × (letter : Letter Q F)
-      × OldestAt mid.messages place letter request × (letter.fate ≡ Open) × (letter.id ≡ id) × Steps mid.bound mid.line Release Left new.line
-      × (new ≡ record mid { line = new.line; messages = slice_set mid.messages place (Entry.here (record letter { request = None })) })
+  MailSteps old Take (Message id request) new = (n : ℕ) × (mid : Mail Q F E) × Clears n old mid × TakesOldest mid id request new
   MailSteps old Take Cleared new = (n : ℕ) × Clears (suc n) old new × NoneQueued new.messages
   MailSteps old Take Empty new = NoneQueued old.messages × (is_over old ≡ false) × (new ≡ old)
   MailSteps old Take End new = NoneQueued old.messages × (is_over old ≡ true) × (new ≡ old)
@@ -167,7 +174,7 @@ module _ {Q F E : Type 0} where
   MailSteps old (Answer id future) Unknown new = NoneWith IsTaken old.messages id × (new ≡ old)
   -- the first error is stored, whether anybody waits for this message or not, and the mail is closed
   MailSteps old (Fail id e) Done new = Settles HasFailed old.messages id new.messages
-      × (new ≡ record old { messages = new.messages; line = holding old.line; is_closed = true; stored = (elim old.stored [ None ↦ Some e | Some first ↦ Some first ]) })
+      × (new ≡ record old { messages = new.messages; line = holding old.line; is_closed = true; stored = Some (unwrap_or old.stored e) })
   MailSteps old (Fail id e) Unknown new = NoneWith IsTaken old.messages id × (new ≡ old)
   MailSteps old (FailStored id) Done new = (is_some old.stored ≡ true) × Settles HasFailed old.messages id new.messages × (new ≡ record old { messages = new.messages })
   MailSteps old (FailStored id) Unknown new = ((old.stored ≡ None) ⊎ NoneWith IsTaken old.messages id) × (new ≡ old)

@@ -43,6 +43,12 @@ module _ {Q F E : Type 0} where
   abbrev pub Opens : Mailbox Q F E → Type 0
   Opens box = (bound : ℕ) × (0 < bound) × StandsFor box (blank bound)
 
+  -- each mail that the old box stands for is changed so, to one that the new box stands for
+  abbrev pub Changes : (Mail Q F E → Mail Q F E → Type 0) → Mailbox Q F E → Mailbox Q F E → Type 0
+  Changes change old new = (messages : List (Entry Q F)) (line : List Ticket) → present messages ≡ old.letters.items → HasLine old line
+      → (left : List (Entry Q F)) × (goes : List Ticket) × change (plain_of old messages line) (plain_of new left goes)
+      × (present left ≡ new.letters.items) × HasLine new goes
+
   -- Each mail that the old box stands for makes the machine's step to one that the new box stands for.
   abbrev pub Follows : Mailbox Q F E → MailStep Q F E → MailReply Q F E → Mailbox Q F E → Type 0
   Follows old step reply new = (messages : List (Entry Q F)) (line : List Ticket) → present messages ≡ old.letters.items → HasLine old line

@@ -2,7 +2,9 @@
 
 mod letter;
 mod mail;
+mod mail_core;
 mod mailbox;
 
 pub use letter::{Fate, Letter};
 pub use mail::{MailReply, MailStep};
+pub use mail_core::MailCore;

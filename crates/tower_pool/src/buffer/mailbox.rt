@@ -1,7 +1,8 @@
 //! Mail: the messages on their way to a worker, and the line for places.
-ghost use Rattle.std.specs.Prelude.{◌≡◌, ◌≢◌, ◌<◌, ◌≤◌, ◌+◌, ◌^◌, All, IfSome, IfNone, slice_get, Some, vec_len, vec_capacity, count_by, is_some, length};
-ghost use Rattle.tower_pool.specs.Letters.{queued_letters};
+ghost use Rattle.std.specs.Prelude.{◌≡◌, ◌≢◌, ◌<◌, ◌≤◌, ◌+◌, ◌^◌, All, IfSome, IfNone, position, remove, slice_get, slice_set, Some, None, true, filter, map, vec_len, vec_capacity, count_by, is_some, length};
+ghost use Rattle.tower_pool.specs.Letters.{Finishes, Fits, is_cancelled, is_failed, is_kept, is_known, is_open, lost, is_taken, queued_letters};
 ghost use Rattle.tower_pool.specs.Mail.{Tells};
+ghost use Rattle.tower_pool.specs.declared.buffer.letter.Letter.{Letter};
 
 use crate::buffer::letter::{Fate, Letter};
 use crate::buffer::mail::{MailReply, MailStep};
@@ -27,11 +28,11 @@ pub(crate) struct Mailbox<Request, F, E> {
     ghost room: { vec_len letters + reserved + vec_len keys ≤ vec_capacity letters },
     ghost numbers: { next_id + reserved + vec_len keys < 2 ^ 64 },
     ghost given: { All (λ key. key < next_key) keys.items },
-    ghost sent: { All (λ letter. letter.id < next_id) letters.items },
+    ghost sent: { All (Fits next_id stored) letters.items },
 }
 
 impl<Request, F, E> Mailbox<Request, F, E> {
-    ghost use Rattle.std.specs.Prelude.{None, false};
+    ghost use Rattle.std.specs.Prelude.{false};
     ghost use Rattle.tower_pool.specs.Mail.{blank};
     ghost use Rattle.tower_pool.specs.Mailbox.{Follows, StandsFor};
 
@@ -203,6 +204,176 @@ impl<Request: Drop, F, E: Clone> Mailbox<Request, F, E> {
     }
 }
 
+impl<Request: Drop, F: Drop, E: Drop> Mailbox<Request, F, E> {
+    ghost use Rattle.std.specs.Prelude.{ℕ, nat_eq, ◌&&◌, ◌||◌};
+    ghost use Rattle.tower_pool.specs.Mail.{ClearsOldest, TakesOldest};
+    ghost use Rattle.tower_pool.specs.Mailbox.{Changes, Follows};
+
+    pub(crate) fn take(&mut self) -> MailReply<Request, F, E>
+        ensures { Follows self.old MailStep.Take result self.new }
+    {
+        let mut cleared = false;
+        'clearing: while let Some(place) = oldest(&self.letters) {
+            if !is_cancelled_at(&self.letters, place) {
+                return self.take_at(place);
+            }
+            self.clear_at(place);
+            cleared = true;
+        }
+        if cleared {
+            return MailReply::Cleared;
+        }
+        if self.is_over() {
+            return MailReply::End;
+        }
+        MailReply::Empty
+    }
+
+    // No message is queued, and none will be, where none is.
+    fn is_over(&self) -> bool
+        ensures { result ≡ (nat_eq self.now.reserved 0 && (self.now.closed || nat_eq self.now.buffers 0)) }
+    {
+        self.reserved == 0 && (self.closed || self.buffers == 0)
+    }
+
+    // The oldest queued message, which nobody waits for.
+    fn clear_at(&mut self, place: usize)
+        requires oldest { position (λ letter. is_some letter.request) self.old.letters.items ≡ Some place }
+        requires cancelled { (letter : Letter Request F) → slice_get self.old.letters.items place ≡ Some letter → letter.fate ≡ Fate.Cancelled }
+        ensures clears { Changes ClearsOldest self.old self.new }
+        ensures fewer { vec_len self.new.letters + 1 ≡ vec_len self.old.letters }
+    {
+        strike(&mut self.letters, place);
+    }
+
+    // The oldest queued message, which somebody waits for.
+    fn take_at(&mut self, place: usize) -> MailReply<Request, F, E>
+        requires oldest { position (λ letter. is_some letter.request) self.old.letters.items ≡ Some place }
+        requires open { (letter : Letter Request F) → slice_get self.old.letters.items place ≡ Some letter → letter.fate ≡ Fate.Open }
+        ensures { (id : ℕ) × (request : Request) × (result ≡ MailReply.Message id request) × Changes (λ old new. TakesOldest old id request new) self.old self.new }
+    {
+        let (id, request) = open_letter(&mut self.letters, place);
+        MailReply::Message(id, request)
+    }
+
+    pub(crate) fn live(&mut self, id: u64) -> MailReply<Request, F, E>
+        ensures { Follows self.old (MailStep.Live id) result self.new }
+    {
+        let Some(place) = taken(&self.letters, id) else {
+            return MailReply::Unknown;
+        };
+        if is_open_at(&self.letters, place) {
+            return MailReply::Truth(true);
+        }
+        strike(&mut self.letters, place);
+        MailReply::Truth(false)
+    }
+
+    pub(crate) fn answer(&mut self, id: u64, future: F) -> MailReply<Request, F, E>
+        ensures { Follows self.old (MailStep.Answer id future) result self.new }
+    {
+        let Some(place) = taken(&self.letters, id) else {
+            return MailReply::Unknown;
+        };
+        if is_open_at(&self.letters, place) {
+            settle(&mut self.letters, place, Fate::Answered(future));
+            return MailReply::Done;
+        }
+        strike(&mut self.letters, place);
+        MailReply::Back(future)
+    }
+
+    pub(crate) fn forget(&mut self, id: u64) -> MailReply<Request, F, E>
+        ensures { Follows self.old (MailStep.Forget id) result self.new }
+    {
+        let Some(place) = known(&self.letters, id) else {
+            return MailReply::Unknown;
+        };
+        if is_open_at(&self.letters, place) {
+            settle(&mut self.letters, place, Fate::Cancelled);
+            return MailReply::Done;
+        }
+        strike(&mut self.letters, place);
+        MailReply::Done
+    }
+
+    pub(crate) fn fail(&mut self, id: u64, error: E) -> MailReply<Request, F, E>
+        ensures { Follows self.old (MailStep.Fail id error) result self.new }
+    {
+        let Some(place) = taken(&self.letters, id) else {
+            return MailReply::Unknown;
+        };
+        finish(&mut self.letters, place, Fate::Failed);
+        self.keys.clear();
+        self.closed = true;
+        self.stored = Some(self.stored.take().unwrap_or(error));
+        MailReply::Done
+    }
+
+    pub(crate) fn fail_stored(&mut self, id: u64) -> MailReply<Request, F, E>
+        ensures { Follows self.old (MailStep.FailStored id) result self.new }
+    {
+        if self.stored.is_none() {
+            return MailReply::Unknown;
+        }
+        let Some(place) = taken(&self.letters, id) else {
+            return MailReply::Unknown;
+        };
+        finish(&mut self.letters, place, Fate::Failed);
+        MailReply::Done
+    }
+
+    pub(crate) fn worker_gone(&mut self) -> MailReply<Request, F, E>
+        ensures { Follows self.old MailStep.WorkerGone result self.new }
+    {
+        abandon(&mut self.letters);
+        self.keys.clear();
+        self.closed = true;
+        self.has_worker = false;
+        MailReply::Done
+    }
+}
+
+impl<Request: Drop, F: Drop, E: Clone> Mailbox<Request, F, E> {
+    ghost use Rattle.tower_pool.specs.Mailbox.{Follows};
+
+    pub(crate) fn outcome(&mut self, id: u64) -> MailReply<Request, F, E>
+        requires { (x y : E) → E.is_clone x y → y ≡ x }
+        ensures { Follows self.old (MailStep.Outcome id) result self.new }
+    {
+        let Some(place) = known(&self.letters, id) else {
+            return MailReply::Unknown;
+        };
+        if is_open_at(&self.letters, place) {
+            return MailReply::Waiting(id);
+        }
+        if is_failed_at(&self.letters, place) {
+            return self.tell_failure(id, place);
+        }
+        match strike(&mut self.letters, place) {
+            Fate::Answered(future) => MailReply::Future(future),
+            Fate::Lost => MailReply::Lost,
+            Fate::Open | Fate::Failed | Fate::Cancelled => unreachable!(),
+        }
+    }
+
+    // The stored error. Without memory for its clone the message stays.
+    fn tell_failure(&mut self, id: u64, place: usize) -> MailReply<Request, F, E>
+        requires same { (x y : E) → E.is_clone x y → y ≡ x }
+        requires low { place < vec_len self.old.letters }
+        requires failed { (letter : Letter Request F) → slice_get self.old.letters.items place ≡ Some letter → (letter.id ≡ id) × (letter.fate ≡ Fate.Failed) }
+        ensures { Follows self.old (MailStep.Outcome id) result self.new }
+    {
+        match shut(&self.stored) {
+            MailReply::Memory => MailReply::Memory,
+            reply => {
+                strike(&mut self.letters, place);
+                reply
+            }
+        }
+    }
+}
+
 // What closed mail tells.
 fn shut<Request, F, E: Clone>(stored: &Option<E>) -> MailReply<Request, F, E>
     requires { (x y : E) → E.is_clone x y → y ≡ x }
@@ -232,4 +403,134 @@ fn place_of(keys: &[u64], key: u64) -> Option<usize>
     ensures missing { IfNone result (All (λ other. other ≢ key) keys.now) }
 {
     keys.iter().position(|other| *other == key)
+}
+
+// The message of this id, which was taken, and has no outcome or isn't waited for.
+fn taken<Request, F>(letters: &[Letter<Request, F>], id: u64) -> Option<usize>
+    ensures { result ≡ position (is_taken id) letters.now }
+{
+    letters.iter().position(|letter| letter.id == id
+        && letter.request.is_none()
+        && letter.fate.is_unsettled())
+}
+
+// The message of this id, if somebody may wait for it.
+fn known<Request, F>(letters: &[Letter<Request, F>], id: u64) -> Option<usize>
+    ensures { result ≡ position (is_known id) letters.now }
+{
+    letters
+        .iter()
+        .position(|letter| letter.id == id && !letter.fate.is_cancelled())
+}
+
+// The oldest message that is queued.
+fn oldest<Request, F>(letters: &[Letter<Request, F>]) -> Option<usize>
+    ensures { result ≡ position (λ letter. is_some letter.request) letters.now }
+{
+    letters.iter().position(|letter| letter.request.is_some())
+}
+
+fn is_open_at<Request, F>(letters: &[Letter<Request, F>], place: usize) -> bool
+    requires { place < length letters.now }
+    ensures { (letter : Letter Request F) → slice_get letters.now place ≡ Some letter → result ≡ is_open letter.fate }
+{
+    letters[place].fate.is_open()
+}
+
+// This becomes of the message at that place.
+fn settle<Request, F: Drop>(letters: &mut Vec<Letter<Request, F>>, place: usize, fate: Fate<F>)
+    requires { place < vec_len letters.old }
+    ensures items { (letter : Letter Request F) → slice_get letters.old.items place ≡ Some letter
+        → letters.new.items ≡ slice_set letters.old.items place (record letter { fate = fate }) }
+    ensures len { vec_len letters.new ≡ vec_len letters.old }
+    ensures capacity { vec_capacity letters.new ≡ vec_capacity letters.old }
+{
+    letters[place].fate = fate;
+}
+
+// The message at that place is known no more.
+fn strike<Request: Drop, F: Drop>(letters: &mut Vec<Letter<Request, F>>, place: usize) -> Fate<F>
+    requires { place < vec_len letters.old }
+    ensures fate { (letter : Letter Request F) → slice_get letters.old.items place ≡ Some letter → result ≡ letter.fate }
+    ensures items { letters.new.items ≡ remove letters.old.items place }
+    ensures len { vec_len letters.new + 1 ≡ vec_len letters.old }
+    ensures capacity { vec_capacity letters.new ≡ vec_capacity letters.old }
+{
+    let Letter {
+        id: _,
+        request: _,
+        fate,
+    } = letters.remove(place);
+    fate
+}
+
+fn is_failed_at<Request, F>(letters: &[Letter<Request, F>], place: usize) -> bool
+    requires { place < length letters.now }
+    ensures { (letter : Letter Request F) → slice_get letters.now place ≡ Some letter → result ≡ is_failed letter.fate }
+{
+    letters[place].fate.is_failed()
+}
+
+// A message without an outcome has this one now, and any other is known no more.
+fn finish<Request: Drop, F: Drop>(
+    letters: &mut Vec<Letter<Request, F>>,
+    place: usize,
+    fate: Fate<F>,
+)
+    requires { place < vec_len letters.old }
+    ensures finishes { Finishes letters.old.items place fate letters.new.items }
+    ensures len { vec_len letters.new ≤ vec_len letters.old }
+    ensures capacity { vec_capacity letters.new ≡ vec_capacity letters.old }
+{
+    if is_open_at(letters, place) {
+        settle(letters, place, fate);
+        return;
+    }
+    strike(letters, place);
+}
+
+fn is_cancelled_at<Request, F>(letters: &[Letter<Request, F>], place: usize) -> bool
+    requires { place < length letters.now }
+    ensures { (letter : Letter Request F) → slice_get letters.now place ≡ Some letter → result ≡ is_cancelled letter.fate }
+{
+    letters[place].fate.is_cancelled()
+}
+
+// The id and the request of the message at that place, which was queued.
+fn open_letter<Request: Drop, F>(
+    letters: &mut Vec<Letter<Request, F>>,
+    place: usize,
+) -> (u64, Request)
+    requires low { place < vec_len letters.old }
+    requires queued { (letter : Letter Request F) → slice_get letters.old.items place ≡ Some letter → is_some letter.request ≡ true }
+    ensures items { (letter : Letter Request F) → slice_get letters.old.items place ≡ Some letter
+        → letters.new.items ≡ slice_set letters.old.items place (record letter { request = None }) }
+    ensures id { (letter : Letter Request F) → slice_get letters.old.items place ≡ Some letter → result.0 ≡ letter.id }
+    ensures request { (letter : Letter Request F) → slice_get letters.old.items place ≡ Some letter → letter.request ≡ Some result.1 }
+    ensures len { vec_len letters.new ≡ vec_len letters.old }
+    ensures capacity { vec_capacity letters.new ≡ vec_capacity letters.old }
+{
+    let id = letters[place].id;
+    let Some(request) = letters[place].request.take() else {
+        unreachable!();
+    };
+    (id, request)
+}
+
+// The worker is gone: those without an outcome are lost, and those that nobody waits for are gone.
+fn abandon<Request: Drop, F: Drop>(letters: &mut Vec<Letter<Request, F>>)
+    ensures items { letters.new.items ≡ filter is_kept (map lost letters.old.items) }
+    ensures len { vec_len letters.new ≤ vec_len letters.old }
+    ensures capacity { vec_capacity letters.new ≡ vec_capacity letters.old }
+{
+    lose_each(letters);
+    letters.retain(|letter| !letter.fate.is_cancelled());
+}
+
+fn lose_each<Request: Drop, F: Drop>(letters: &mut [Letter<Request, F>])
+    ensures { letters.new ≡ map lost letters.old }
+{
+    for letter in letters.iter_mut() {
+        letter.lose();
+    }
 }

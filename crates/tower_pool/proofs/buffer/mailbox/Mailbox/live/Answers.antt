@@ -1,0 +1,50 @@
+use Rattle.std.proofs.Common.{◌≡◌, ◌∙◌, None, Some, position, slice_set, refl, sym, ap, arith}
+use Rattle.tower_pool.specs.Letters.{is_taken, queued_letters}
+use Rattle.tower_pool.specs.Mail.{Entry, IsTaken}
+use Rattle.tower_pool.specs.declared.buffer.letter.Fate.TheVariants.{Cancelled}
+use Rattle.tower_pool.proofs.Moves.{there, not_there}
+use Rattle.tower_pool.proofs.Positions.{at_position, closed_now, fewer, not_taken, one_queued, open_is, taken_tells}
+use Rattle.tower_pool.proofs.buffer.mailbox.Mailbox.live.Goals as goal
+
+pub returns-in_default : goal.returns-in_default
+returns-in_default g c = λ messages line p s.
+    let old = c.args.self.now in
+    let e : position (is_taken c.args.id) old.letters.items ≡ None = cc (c.in_default.ensures, c.deref.ensures.value) in
+    (messages, line, (not_there IsTaken messages old.letters.items (is_taken c.args.id) c.args.id p e (not_taken c.args.id), refl), p, s)
+
+pub returns-then-is_open_at : goal.returns-then-is_open_at
+returns-then-is_open_at g c = λ messages line p s.
+    let old = c.args.self.now in
+    let e : position (is_taken c.args.id) old.letters.items ≡ Some c.in-Some.place = cc (c.in-Some.ensures, c.deref.ensures.value) in
+    let t = there messages old.letters.items (is_taken c.args.id) c.in-Some.place p e in
+    let w = taken_tells c.args.id t.letter t.is in
+    let o = sym (c.is_open_at.ensures t.letter (rw c.deref-2.ensures.value t.item)) ∙ c.if-is_open_at.true in
+    (messages, line, (t.spot, t.letter, (t.at, w.0, w.1), open_is t.letter.fate o, refl), p, s)
+
+pub invariant_of-self : goal.invariant_of-self
+invariant_of-self g c =
+    let old = c.args.self.now in
+    let e : position (is_taken c.args.id) old.letters.items ≡ Some c.in-Some.place = cc (c.in-Some.ensures, c.deref.ensures.value) in
+    let a = at_position (is_taken c.args.id) old.letters.items c.in-Some.place e in
+    let less = fewer old.next_id old.stored old.letters.items c.in-Some.place a.0 a.1 old.sent in record {
+      fits = omega (arith, old.fits, less.queued, ap queued_letters c.strike.ensures.items);
+      room = omega (arith, old.room, c.strike.ensures.len, c.strike.ensures.capacity);
+      numbers = old.numbers;
+      given = old.given;
+      sent = rw c.strike.ensures.items less.fit;
+    }
+
+pub returns : goal.returns
+returns g c = λ messages line p s.
+    let old = c.args.self.now in
+    let e : position (is_taken c.args.id) old.letters.items ≡ Some c.in-Some.place = cc (c.in-Some.ensures, c.deref.ensures.value) in
+    let t = there messages old.letters.items (is_taken c.args.id) c.in-Some.place p e in
+    let w = taken_tells c.args.id t.letter t.is in
+    let o = sym (c.is_open_at.ensures t.letter (rw c.deref-2.ensures.value t.item)) ∙ c.if-is_open_at.false in
+    let less = fewer old.next_id old.stored old.letters.items c.in-Some.place t.letter t.item old.sent in (
+      slice_set messages t.spot (Entry.gone Cancelled),
+      line,
+      (t.spot, t.letter, (t.at, w.0, w.1), closed_now t.letter.fate w.2 o, refl),
+      t.leaves Cancelled ∙ sym c.strike.ensures.items,
+      (omega (arith, s.0, less.queued, ap one_queued w.1, ap queued_letters c.strike.ensures.items), s.1, s.2),
+    )

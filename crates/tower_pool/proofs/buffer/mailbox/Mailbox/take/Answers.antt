@@ -1,0 +1,52 @@
+use Rattle.std.proofs.Common.{◌≡◌, ◌∙◌, ◌<◌, ◌≤◌, zero, suc, not, nat_lt, None, Some, true, false, is_some, unwrap_or, position, refl, sym, ap, arith}
+use Rattle.std.proofs.lemmas.Bool.{lt-ltb, ltb-false, ltb-true}
+use Rattle.tower_pool.specs.Letters.{Fits, is_cancelled, is_unsettled}
+use Rattle.tower_pool.proofs.Messages.{holds_at}
+use Rattle.tower_pool.proofs.Moves.{cleared_none, cleared_some, none_queued}
+use Rattle.tower_pool.proofs.Positions.{at_position, cancelled_is, open_queued, still_unsettled}
+use Rattle.tower_pool.proofs.buffer.mailbox.Mailbox.take.Goals as goal
+
+pub take_at-requires-clause-open : goal.take_at-requires-clause-open
+take_at-requires-clause-open g c = λ letter at.
+    let now = c.clearing.self in
+    let e : position (λ letter. is_some letter.request) now.letters.items ≡ Some c.in-Some.place = cc (c.in-Some.ensures, c.deref.ensures.value) in
+    let a = at_position (λ letter. is_some letter.request) now.letters.items c.in-Some.place e in
+    let some = ap (λ o. is_some (unwrap_or o letter).request) (sym at ∙ a.1) ∙ a.2 in
+    let fits = holds_at (Fits now.next_id now.stored) now.letters.items c.in-Some.place letter now.sent at in
+    let waited = sym (c.is_cancelled_at.ensures letter (rw c.deref-in-Some.ensures.value at)) ∙ c.if-not-is_cancelled_at.true in
+    open_queued letter.fate (still_unsettled letter.request letter.fate some fits.2) waited
+
+pub clear_at-requires-clause-cancelled : goal.clear_at-requires-clause-cancelled
+clear_at-requires-clause-cancelled g c = λ letter at.
+    cancelled_is letter.fate (sym (c.is_cancelled_at.ensures letter (rw c.deref-in-Some.ensures.value at)) ∙ c.if-not-is_cancelled_at.false)
+
+pub clearing-preserved : goal.clearing-preserved
+clearing-preserved g c = (
+  suc c.clearing.invariant.0,
+  λ messages line p s.
+      let r = c.clearing.invariant.1 messages line p s in
+      let q = c.clear_at.ensures.clears r.0 r.1 r.3 r.4 in
+      (q.0, q.1, (_, r.2, q.2), q.3, q.4),
+  sym (lt-ltb 0 (suc c.clearing.invariant.0) (omega arith)),
+)
+
+pub returns-then-cleared : goal.returns-then-cleared
+returns-then-cleared g c = λ messages line p s.
+    let r = c.clearing.invariant.1 messages line p s in
+    let e : position (λ letter. is_some letter.request) c.clearing.self.letters.items ≡ None = cc (c.in_default.ensures, c.deref.ensures.value) in
+    let some = ltb-true 0 c.clearing.invariant.0 (sym c.clearing.invariant.2 ∙ c.if-cleared.true) in
+    (r.0, r.1, cleared_some _ _ c.clearing.invariant.0 some r.2 (none_queued r.0 c.clearing.self.letters.items r.3 e), r.3, r.4)
+
+pub returns-then-is_over : goal.returns-then-is_over
+returns-then-is_over g c = λ messages line p s.
+    let r = c.clearing.invariant.1 messages line p s in
+    let e : position (λ letter. is_some letter.request) c.clearing.self.letters.items ≡ None = cc (c.in_default.ensures, c.deref.ensures.value) in
+    let few = ltb-false 0 c.clearing.invariant.0 (sym c.clearing.invariant.2 ∙ c.if-cleared.false) in
+    (r.0, r.1, cleared_none _ _ c.clearing.invariant.0 true few r.2 (none_queued r.0 c.clearing.self.letters.items r.3 e) (sym c.is_over.ensures ∙ c.if-is_over.true), r.3, r.4)
+
+pub returns : goal.returns
+returns g c = λ messages line p s.
+    let r = c.clearing.invariant.1 messages line p s in
+    let e : position (λ letter. is_some letter.request) c.clearing.self.letters.items ≡ None = cc (c.in_default.ensures, c.deref.ensures.value) in
+    let few = ltb-false 0 c.clearing.invariant.0 (sym c.clearing.invariant.2 ∙ c.if-cleared.false) in
+    (r.0, r.1, cleared_none _ _ c.clearing.invariant.0 false few r.2 (none_queued r.0 c.clearing.self.letters.items r.3 e) (sym c.is_over.ensures ∙ c.if-is_over.false), r.3, r.4)

@@ -1,0 +1,91 @@
+//! The core of a `Buffer` and its worker.
+ghost use Rattle.std.specs.Prelude.{◌≡◌, ◌<◌};
+
+use crate::buffer::mail::{MailReply, MailStep};
+use crate::buffer::mailbox::Mailbox;
+use std::alloc::Global;
+use std::marker::Model;
+use tower_base::latch::Core;
+
+/// Messages on their way to a worker, the places for them, and those who wait for places.
+///
+/// A place reserved has room for its message, so that only `Join`, `Reserve` and the clone of the stored
+/// error may find no memory.
+pub struct MailCore<Request, F, E: Clone> {
+    mail: Mailbox<Request, F, E>,
+}
+
+impl<Request, F, E: Clone> Model for MailCore<Request, F, E> {
+    ghost use Rattle.std.specs.Prelude.{◌≡◌};
+    ghost use Rattle.tower_pool.specs.declared.buffer.mailbox.Mailbox.{Mailbox};
+
+    ghost Value = { Mailbox Request F E };
+
+    ghost view = { λ core. core.mail };
+
+    // What is told of the stored error are its clones.
+    ghost invariant = { λ core. (x y : E) → E.is_clone x y → y ≡ x };
+}
+
+impl<Request: Drop, F: Drop, E: Clone> Drop for MailCore<Request, F, E> {
+    fn drop(self) {
+        let MailCore { mail: _ } = self;
+    }
+}
+
+impl<Request, F, E: Clone> MailCore<Request, F, E> {
+    ghost use Rattle.tower_pool.specs.Mail.{blank};
+    ghost use Rattle.tower_pool.specs.Mailbox.{StandsFor};
+
+    /// Mail of so many places, for one `Buffer` and its worker. It asks for a bound that isn't 0, and for
+    /// errors whose clones equal what was cloned.
+    pub fn new(alloc: Global, bound: usize) -> MailCore<Request, F, E>
+        requires positive { 0 < bound }
+        requires same { (x y : E) → E.is_clone x y → y ≡ x }
+        ensures { StandsFor result (blank bound) }
+    {
+        MailCore {
+            mail: Mailbox::new(alloc, bound),
+        }
+    }
+}
+
+impl<Request: Drop, F: Drop, E: Clone> Core for MailCore<Request, F, E> {
+    type Step = MailStep<Request, F, E>;
+
+    type Reply = MailReply<Request, F, E>;
+
+    ghost use Rattle.tower_base.specs.Latch.{StepsAs};
+    ghost use Rattle.tower_pool.specs.Mail.{MailSteps, is_waiting};
+    ghost use Rattle.tower_pool.specs.Mailbox.{Opens, StandsFor};
+
+    ghost opens = { Opens };
+
+    ghost steps = { StepsAs StandsFor MailSteps };
+
+    ghost is_wait = { is_waiting };
+
+    fn step(&mut self, step: MailStep<Request, F, E>) -> MailReply<Request, F, E> {
+        match step {
+            MailStep::Join => self.mail.join(),
+            MailStep::Part => self.mail.part(),
+            MailStep::Reserve => self.mail.reserve(),
+            MailStep::Look(key) => self.mail.look(key),
+            MailStep::Cancel(key) => self.mail.cancel(key),
+            MailStep::Unreserve => self.mail.unreserve(),
+            MailStep::Send(request) => self.mail.send(request),
+            MailStep::Take => self.mail.take(),
+            MailStep::Live(id) => self.mail.live(id),
+            MailStep::Answer(id, future) => self.mail.answer(id, future),
+            MailStep::Fail(id, error) => self.mail.fail(id, error),
+            MailStep::FailStored(id) => self.mail.fail_stored(id),
+            MailStep::Outcome(id) => self.mail.outcome(id),
+            MailStep::Forget(id) => self.mail.forget(id),
+            MailStep::WorkerGone => self.mail.worker_gone(),
+        }
+    }
+
+    fn waits(reply: &MailReply<Request, F, E>) -> bool {
+        matches!(reply, MailReply::Waiting(_) | MailReply::Empty)
+    }
+}
