@@ -10,6 +10,8 @@ mod histogram;
 #[cfg(test)]
 mod latency;
 #[cfg(test)]
+mod making;
+#[cfg(test)]
 mod nest;
 #[cfg(test)]
 mod parts;
