@@ -1,10 +1,12 @@
-//! Tests of services, layers, clocks and `drive` at concrete types.
+//! Tests of services, layers, clocks, words and `drive` at concrete types.
 #![tactic(auto)]
 
 #[cfg(test)]
 mod drive;
 #[cfg(test)]
 mod layer;
+#[cfg(test)]
+mod rng;
 #[cfg(test)]
 mod service;
 #[cfg(test)]

@@ -4,7 +4,11 @@
 #[cfg(test)]
 mod budget;
 #[cfg(test)]
+mod count;
+#[cfg(test)]
 mod fixtures;
+#[cfg(test)]
+mod histogram;
 #[cfg(test)]
 mod line;
 #[cfg(test)]

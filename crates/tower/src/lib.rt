@@ -9,7 +9,7 @@ pub use builder::ServiceBuilder;
 pub use layer::Layer;
 pub use tower_base::service::Service;
 pub use tower_base::{drive, latch, service};
-pub use tower_limit::limit;
+pub use tower_limit::{discover, limit, load};
 pub use tower_retry::{hedge, retry};
 pub use tower_util::make;
 pub use tower_util::make::MakeService;
