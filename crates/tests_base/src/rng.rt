@@ -79,6 +79,10 @@ fn two_words_draw_two_indexes(rt: HostRuntime) {
         (u64::MAX, [u64::MAX, u64::MAX], [1, 0]),
     ] {
         let mut rng = Turns { words };
-        assert_eq!(rt; sample_floyd2(&mut rng, length), drawn, "{words:?} below {length}");
+        assert_eq!(rt;
+            sample_floyd2(&mut rng, length),
+            drawn,
+            "{words:?} below {length}"
+        );
     }
 }

@@ -1,5 +1,9 @@
-//! Tests of services in pools.
+//! Tests of services in pools: `tower::ready_cache`, and mail.
 #![tactic(auto)]
 
 #[cfg(test)]
+mod cache_story;
+#[cfg(test)]
 mod mail_core;
+#[cfg(test)]
+mod ready_cache;

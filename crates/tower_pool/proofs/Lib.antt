@@ -1,7 +1,11 @@
 pub mod Abandoned
+pub mod AskLemmas
+pub mod CacheLemmas
 pub mod Lines
 pub mod Machine
 pub mod Messages
 pub mod Moves
+pub mod PendingLemmas
+pub mod PlaceLemmas
 pub mod Positions
 pub mod Replies

@@ -1,3 +1,6 @@
 pub mod Letters
 pub mod Mail
 pub mod Mailbox
+pub mod ReadyCache
+pub mod ReadyCacheLends
+pub mod ReadyCachePoll
