@@ -8,6 +8,8 @@ mod layer;
 #[cfg(test)]
 mod service;
 #[cfg(test)]
+mod silent;
+#[cfg(test)]
 mod sleep;
 #[cfg(test)]
 mod system;
