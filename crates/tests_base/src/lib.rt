@@ -10,6 +10,8 @@ mod rng;
 #[cfg(test)]
 mod service;
 #[cfg(test)]
+mod silent;
+#[cfg(test)]
 mod sleep;
 #[cfg(test)]
 mod system;
