@@ -12,6 +12,8 @@ mod orders;
 #[cfg(test)]
 mod reconnect;
 #[cfg(test)]
+mod silent;
+#[cfg(test)]
 mod steer;
 #[cfg(test)]
 mod timeout;
