@@ -1,6 +1,7 @@
 pub mod Abandoned
 pub mod Lines
 pub mod Machine
+pub mod MailRuns
 pub mod Messages
 pub mod Moves
 pub mod Positions

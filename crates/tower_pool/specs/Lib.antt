@@ -1,3 +1,4 @@
 pub mod Letters
 pub mod Mail
+pub mod MailLaws
 pub mod Mailbox
