@@ -3,6 +3,7 @@ pub mod AskLemmas
 pub mod CacheLemmas
 pub mod Lines
 pub mod Machine
+pub mod MailRuns
 pub mod Messages
 pub mod Moves
 pub mod PendingLemmas

@@ -1,5 +1,6 @@
 pub mod Letters
 pub mod Mail
+pub mod MailLaws
 pub mod Mailbox
 pub mod ReadyCache
 pub mod ReadyCacheLends

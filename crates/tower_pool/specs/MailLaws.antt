@@ -1,0 +1,51 @@
+-- What holds of every list of steps that mail makes.
+use Rattle.std.specs.Prelude.{◌≡◌, ◌⊎◌, ◌<◌, ℕ, suc, true, unwrap_or, Option, Some, None, List, slice_get}
+use Rattle.tower_base.specs.Latch.{Serves}
+use Rattle.tower_pool.specs.Mail.{At, Entry, Mail, MailSteps, Settles}
+use Rattle.tower_pool.specs.declared.buffer.letter.Fate.{Fate}
+use Rattle.tower_pool.specs.declared.buffer.letter.Fate.TheVariants.{Open, Failed}
+use Rattle.tower_pool.specs.declared.buffer.letter.Letter.{Letter}
+use Rattle.tower_pool.specs.declared.buffer.mail.MailStep.{MailStep}
+use Rattle.tower_pool.specs.declared.buffer.mail.MailStep.TheVariants.{Fail, Take}
+use Rattle.tower_pool.specs.declared.buffer.mail.MailReply.{MailReply}
+use Rattle.tower_pool.specs.declared.buffer.mail.MailReply.TheVariants.{Done, Message}
+
+module _ {Q F : Type 0} where
+  -- what became of a message so far
+  abbrev pub fate_of : Entry Q F → Fate F
+  fate_of (Entry.here letter) = letter.fate
+  fate_of (Entry.gone fate) = fate
+
+  -- its request, while it is queued
+  abbrev pub request_of : Entry Q F → Option Q
+  request_of (Entry.here letter) = letter.request
+  request_of (Entry.gone fate) = None
+
+  -- an outcome is kept, and who has left the queue stays out of it
+  pub record Lasts (old new : Entry Q F) : Type 0 where
+    pub outcome : (fate_of old ≡ Open) ⊎ (fate_of new ≡ fate_of old)
+    pub out : (request_of new ≡ None) ⊎ (request_of new ≡ request_of old)
+
+  -- each message has its place in the order of sending still, and lasts
+  abbrev pub Grow : List (Entry Q F) → List (Entry Q F) → Type 0
+  Grow old new = (place : ℕ) (entry : Entry Q F) → slice_get old place ≡ Some entry → (after : Entry Q F) × (slice_get new place ≡ Some after) × Lasts entry after
+
+-- each message has one outcome at most, and is taken once at most
+abbrev pub EachOnce : (Q F E : Type 0) → Type 0
+EachOnce Q F E = (old new : Mail Q F E) (steps : List (MailStep Q F E × MailReply Q F E)) → Serves MailSteps old steps new → Grow old.messages new.messages
+
+-- what is taken leaves the queue, where no older message is queued
+abbrev pub InOrder : (Q F E : Type 0) → Type 0
+InOrder Q F E = (old new : Mail Q F E) (id : ℕ) (request : Q) → MailSteps old Take (Message id request) new
+    → (place : ℕ) × (letter : Letter Q F) × At new.messages place letter × (letter.id ≡ id)
+    × ((before : ℕ) (other : Letter Q F) → before < suc place → At new.messages before other → other.request ≡ None)
+
+-- a failure stores the first error, closes, and fails its message unless nobody waits for that, in one step
+abbrev pub FailsAtOnce : (Q F E : Type 0) → Type 0
+FailsAtOnce Q F E = (old new : Mail Q F E) (id : ℕ) (e : E) → MailSteps old (Fail id e) Done new
+    → (new.stored ≡ Some (unwrap_or old.stored e)) × (new.is_closed ≡ true) × Settles Failed old.messages id new.messages
+
+-- closed mail stays closed, and the stored error is the first for good
+abbrev pub StaysShut : (Q F E : Type 0) → Type 0
+StaysShut Q F E = (old new : Mail Q F E) (steps : List (MailStep Q F E × MailReply Q F E)) → Serves MailSteps old steps new
+    → (old.is_closed ≡ true → new.is_closed ≡ true) × ((e : E) → old.stored ≡ Some e → new.stored ≡ Some e)
