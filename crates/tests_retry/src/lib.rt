@@ -11,3 +11,5 @@ mod budget;
 mod parts;
 #[cfg(test)]
 mod retry;
+#[cfg(test)]
+mod silent;
