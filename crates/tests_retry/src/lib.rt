@@ -13,3 +13,5 @@ mod parts;
 mod policy;
 #[cfg(test)]
 mod retry;
+#[cfg(test)]
+mod silent;
