@@ -16,6 +16,7 @@ impl Model for Count {
 }
 
 impl Count {
+    #[inline(always)]
     pub(crate) fn new(number: usize) -> Count
         ensures { result ≡ number }
     {

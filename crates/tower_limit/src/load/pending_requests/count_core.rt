@@ -46,6 +46,7 @@ impl CountCore {
         CountCore { count: 0 }
     }
 
+    #[inline(always)]
     fn take(&mut self) -> CountReply
         ensures { FollowsMachine StandsFor HolderSteps self.old CountStep.Take result self.new }
     {
@@ -56,6 +57,7 @@ impl CountCore {
         CountReply::Counted
     }
 
+    #[inline(always)]
     fn give(&mut self) -> CountReply
         ensures { FollowsMachine StandsFor HolderSteps self.old CountStep.Give result self.new }
     {
@@ -78,6 +80,7 @@ impl Core for CountCore {
 
     ghost is_wait = { λ _. false };
 
+    #[inline(always)]
     fn step(&mut self, step: CountStep) -> CountReply {
         match step {
             CountStep::Take => self.take(),
@@ -86,6 +89,7 @@ impl Core for CountCore {
         }
     }
 
+    #[inline(always)]
     fn waits(_reply: &CountReply) -> bool {
         false
     }
