@@ -1,0 +1,4 @@
+pub mod AskLemmas
+pub mod CacheLemmas
+pub mod PendingLemmas
+pub mod PlaceLemmas

@@ -1,0 +1,189 @@
+-- Pending entries: marks, and distinct keys.
+use Rattle.std.proofs.Common.{All, ℕ, suc, ◌+◌, ◌≤◌, ◌≡◌, Bool, true, false, not, cond, ◌&&◌, ◌||◌, List, [], ◌∷◌, ◌++◌, Some, None, length, length-append, slice_set, slice_index_or, position, is_some, nat_lt, if◌then◌else◌, refl, sym, ap, ◌∙◌, subst, true≢false, arith, unwrap_or, lt-ltb, ltb-true}
+use Rattle.std.specs.Cmp.{IsEquivalence, both_ways}
+use Rattle.std.specs.List.{position_or_len, AllByRecursion}
+use Rattle.std.proofs.lemmas.List.Folds.{list_any-append}
+use Rattle.std.proofs.lemmas.List.Elements.{All-from_recursion, recursion_from_All, All-append, All-cons, All-nil}
+use Rattle.tower_pool.specs.ReadyCache.{PendingView}
+use Rattle.tower_pool.specs.ReadyCache.{Apart, awaited, cancel, put_back, waiting, waits}
+
+none_some : {A : Type 0} {x : A} → None ≡ Some x → ⊥
+none_some e = true≢false (sym (ap is_some e))
+
+pub left_false : (a b : Bool) → (a || b) ≡ false → a ≡ false
+left_false true b h = absurd (true≢false h)
+left_false false b h = refl
+
+pub right_false : (a b : Bool) → (a || b) ≡ false → b ≡ false
+right_false true b h = absurd (true≢false h)
+right_false false b h = h
+
+one_more : (n : ℕ) → 1 + n ≡ suc n
+one_more n = omega arith
+
+shift : (a b : ℕ) → nat_lt (suc a) (suc b) ≡ nat_lt a b
+shift a b = both_ways _ _ (λ t. lt-ltb a b (omega (arith, ltb-true (suc a) (suc b) t))) (λ t. lt-ltb (suc a) (suc b) (omega (arith, ltb-true a b t)))
+
+module _ {K S : Type 0} (eq : K → K → Bool) where
+  module _ (k : K) where
+    -- where an entry waits, there is one
+    or_len : (ps : List (PendingView K S)) → nat_lt (position_or_len (waits eq k) ps) (length ps) ≡ awaited eq k ps
+    or_len [] = refl
+    or_len (p ∷ ps) = by (or_len ps) (waits eq k p)
+      where
+        by : nat_lt (position_or_len (waits eq k) ps) (length ps) ≡ awaited eq k ps → (b : Bool) → nat_lt (cond (not b) (1 + position_or_len (waits eq k) ps) 0) (suc (length ps)) ≡ (b || awaited eq k ps)
+        by rest true = lt-ltb 0 (suc (length ps)) (omega arith)
+        by rest false = ap (λ m. nat_lt m (suc (length ps))) (one_more (position_or_len (waits eq k) ps)) ∙ shift (position_or_len (waits eq k) ps) (length ps) ∙ rest
+
+    pub found : (ps : List (PendingView K S)) → is_some (position (waits eq k) ps) ≡ awaited eq k ps
+    found ps = by (nat_lt (position_or_len (waits eq k) ps) (length ps)) refl ∙ or_len ps
+      where
+        by : (b : Bool) → nat_lt (position_or_len (waits eq k) ps) (length ps) ≡ b → is_some (cond b (Some (position_or_len (waits eq k) ps)) None) ≡ b
+        by true e = refl
+        by false e = refl
+
+    -- it gets the mark
+    mark_len : (ps : List (PendingView K S)) (d : PendingView K S) → awaited eq k ps ≡ true
+        → slice_set ps (position_or_len (waits eq k) ps) (record (slice_index_or ps (position_or_len (waits eq k) ps) d) { cancelled = true }) ≡ cancel eq k ps
+    mark_len [] d h = absurd (true≢false (sym h))
+    mark_len (p ∷ ps) d h = by (mark_len ps d) (waits eq k p) h
+      where
+        by : (awaited eq k ps ≡ true → slice_set ps (position_or_len (waits eq k) ps) (record (slice_index_or ps (position_or_len (waits eq k) ps) d) { cancelled = true }) ≡ cancel eq k ps)
+            → (b : Bool) → (b || awaited eq k ps) ≡ true
+            → slice_set (p ∷ ps) (cond (not b) (1 + position_or_len (waits eq k) ps) 0) (record (slice_index_or (p ∷ ps) (cond (not b) (1 + position_or_len (waits eq k) ps) 0) d) { cancelled = true })
+            ≡ (if b then (record p { cancelled = true }) ∷ ps else p ∷ cancel eq k ps)
+        by rest true h = refl
+        by rest false h = subst (λ m. slice_set (p ∷ ps) m (record (slice_index_or (p ∷ ps) m d) { cancelled = true }) ≡ p ∷ cancel eq k ps) (let e : suc (position_or_len (waits eq k) ps) ≡ 1 + position_or_len (waits eq k) ps = omega arith in e) (ap (λ l. p ∷ l) (rest h))
+
+    position_is : (ps : List (PendingView K S)) (i : ℕ) → position (waits eq k) ps ≡ Some i → position_or_len (waits eq k) ps ≡ i
+    position_is ps i = by (nat_lt (position_or_len (waits eq k) ps) (length ps))
+      where
+        by : (b : Bool) → cond b (Some (position_or_len (waits eq k) ps)) None ≡ Some i → position_or_len (waits eq k) ps ≡ i
+        by true e = ap (λ r. unwrap_or r i) e
+        by false e = absurd (none_some e)
+
+    pub marked : (ps : List (PendingView K S)) (i : ℕ) (d : PendingView K S) → position (waits eq k) ps ≡ Some i
+        → slice_set ps i (record (slice_index_or ps i d) { cancelled = true }) ≡ cancel eq k ps
+    marked ps i d e = subst (λ m. slice_set ps m (record (slice_index_or ps m d) { cancelled = true }) ≡ cancel eq k ps) (position_is ps i e) (mark_len ps d (sym (found ps) ∙ ap is_some e))
+
+    pub marked_by : (ps : List (PendingView K S)) (i : ℕ) (d w : PendingView K S) → position (waits eq k) ps ≡ Some i → w ≡ record d { cancelled = true } → d ≡ slice_index_or ps i d
+        → slice_set ps i w ≡ cancel eq k ps
+    marked_by ps i d w e is there = ap (slice_set ps i) (is ∙ with_mark) ∙ marked ps i d e
+      where
+        with_mark : (let a : PendingView K S = record d { cancelled = true } in let b : PendingView K S = record (slice_index_or ps i d) { cancelled = true } in a ≡ b)
+        with_mark = λ j. record (there j) { cancelled = true }
+
+    -- without one, nothing changes
+    pub unmarked : (ps : List (PendingView K S)) → awaited eq k ps ≡ false → cancel eq k ps ≡ ps
+    unmarked [] h = refl
+    unmarked (p ∷ ps) h = by (unmarked ps) (waits eq k p) h
+      where
+        by : (awaited eq k ps ≡ false → cancel eq k ps ≡ ps) → (b : Bool) → (b || awaited eq k ps) ≡ false → (if b then (record p { cancelled = true }) ∷ ps else p ∷ cancel eq k ps) ≡ p ∷ ps
+        by rest true h = absurd (true≢false h)
+        by rest false h = ap (λ l. p ∷ l) (rest h)
+
+    pub length-cancel : (ps : List (PendingView K S)) → length (cancel eq k ps) ≡ length ps
+    length-cancel [] = refl
+    length-cancel (p ∷ ps) = by (length-cancel ps) (waits eq k p)
+      where
+        by : length (cancel eq k ps) ≡ length ps → (b : Bool) → length (if b then (record p { cancelled = true }) ∷ ps else p ∷ cancel eq k ps) ≡ suc (length ps)
+        by rest true = refl
+        by rest false = ap suc rest
+
+    each_cancel : (P : S → Type 0) (ps : List (PendingView K S)) → AllByRecursion (λ p. P p.service) ps → AllByRecursion (λ p. P p.service) (cancel eq k ps)
+    each_cancel P [] h = h
+    each_cancel P (p ∷ ps) h = by (each_cancel P ps h.1) (waits eq k p)
+      where
+        by : AllByRecursion (λ p. P p.service) (cancel eq k ps) → (b : Bool) → AllByRecursion (λ p. P p.service) (if b then (record p { cancelled = true }) ∷ ps else p ∷ cancel eq k ps)
+        by rest true = h
+        by rest false = (h.0, rest)
+
+    -- the services stay
+    pub All-cancel : (P : S → Type 0) (ps : List (PendingView K S)) → All (λ p. P p.service) ps → All (λ p. P p.service) (cancel eq k ps)
+    All-cancel P ps h = All-from_recursion _ _ (each_cancel P ps (recursion_from_All _ ps h))
+
+    -- also with a new one behind
+    pub All-new : (P : S → Type 0) (s : S) (ps : List (PendingView K S)) → P s → All (λ p. P p.service) ps → All (λ p. P p.service) (cancel eq k ps ++ waiting k s ∷ [])
+    All-new P s ps now h =
+        All-append (λ p. P p.service) (cancel eq k ps) (waiting k s ∷ []) (All-cancel P ps h) (All-cons (λ p. P p.service) (waiting k s) [] now (All-nil (λ p. P p.service)))
+
+    -- no other entry comes to wait
+    still_none : (j : K) (ps : List (PendingView K S)) → awaited eq j ps ≡ false → awaited eq j (cancel eq k ps) ≡ false
+    still_none j [] h = refl
+    still_none j (p ∷ ps) h = by (still_none j ps (right_false (waits eq j p) (awaited eq j ps) h)) (waits eq k p)
+      where
+        by : awaited eq j (cancel eq k ps) ≡ false → (b : Bool) → awaited eq j (if b then (record p { cancelled = true }) ∷ ps else p ∷ cancel eq k ps) ≡ false
+        by rest true = right_false (waits eq j p) (awaited eq j ps) h
+        by rest false = (λ i. left_false (waits eq j p) (awaited eq j ps) h i || rest i)
+
+    pub apart_cancel : (ps : List (PendingView K S)) → Apart eq ps → Apart eq (cancel eq k ps)
+    apart_cancel [] h = h
+    apart_cancel (p ∷ ps) h = by (apart_cancel ps h.1) (waits eq k p)
+      where
+        by : Apart eq (cancel eq k ps) → (b : Bool) → Apart eq (if b then (record p { cancelled = true }) ∷ ps else p ∷ cancel eq k ps)
+        by rest true = (λ e. absurd (true≢false e), h.1)
+        by rest false = (λ e. still_none p.key ps (h.0 e), rest)
+
+  module _ (laws : IsEquivalence eq) where
+    -- equal keys wait alike
+    alike : (j k : K) (ps : List (PendingView K S)) → eq j k ≡ true → awaited eq j ps ≡ awaited eq k ps
+    alike j k [] e = refl
+    alike j k (p ∷ ps) e = (λ i. (not p.cancelled && laws.congr j k p.key e i) || alike j k ps e i)
+
+    abbrev after : K → PendingView K S → List (PendingView K S) → Bool → Bool → Type 0
+    after k p ps c b = awaited eq k (if not c && b then (record p { cancelled = true }) ∷ ps else p ∷ cancel eq k ps) ≡ false
+
+    -- after the mark none waits
+    pub none_after : (k : K) (ps : List (PendingView K S)) → Apart eq ps → awaited eq k (cancel eq k ps) ≡ false
+    none_after k [] h = refl
+    none_after k (p ∷ ps) h = by (none_after k ps h.1) p.cancelled refl (eq k p.key) refl
+      where
+        by : awaited eq k (cancel eq k ps) ≡ false → (c : Bool) → p.cancelled ≡ c → (b : Bool) → eq k p.key ≡ b → after k p ps p.cancelled (eq k p.key)
+        by rest true c b e = subst (λ x. after k p ps x (eq k p.key)) (sym c) (λ i. (not (c i) && eq k p.key) || rest i)
+        by rest false c true e = subst (λ x. after k p ps x (eq k p.key)) (sym c) (subst (after k p ps false) (sym e) (alike k p.key ps e ∙ h.0 c))
+        by rest false c false e = subst (λ x. after k p ps x (eq k p.key)) (sym c) (subst (after k p ps false) (sym e) (λ i. (not (c i) && e i) || rest i))
+
+    pub apart_push : (ps : List (PendingView K S)) (q : PendingView K S) → awaited eq q.key ps ≡ false → Apart eq ps → Apart eq (ps ++ q ∷ [])
+    apart_push [] q none h = (λ c. refl, tt)
+    apart_push (p ∷ ps) q none h = (
+      λ c. list_any-append (waits eq p.key) ps (q ∷ []) ∙ (λ i. h.0 c i || (other c i || false)),
+      apart_push ps q (right_false (waits eq q.key p) (awaited eq q.key ps) none) h.1,
+    )
+      where
+        apart : p.cancelled ≡ false → eq p.key q.key ≡ false
+        apart c = laws.symm p.key q.key ∙ (let e = left_false (waits eq q.key p) (awaited eq q.key ps) none in rw c at e)
+
+        other : p.cancelled ≡ false → waits eq p.key q ≡ false
+        other c = by q.cancelled
+          where
+            by : (b : Bool) → (not b && eq p.key q.key) ≡ false
+            by true = refl
+            by false = apart c
+
+    -- a new entry, after the mark
+    pub apart_new : (k : K) (s : S) (ps : List (PendingView K S)) → Apart eq ps → Apart eq (cancel eq k ps ++ waiting k s ∷ [])
+    apart_new k s ps h = apart_push (cancel eq k ps) (waiting k s) (none_after k ps h) (apart_cancel k ps h)
+
+    -- one that comes back
+    pub apart_back : (k : K) (s : S) (ps : List (PendingView K S)) → Apart eq ps → Apart eq (put_back eq k s ps)
+    apart_back k s ps h = by (awaited eq k ps) refl
+      where
+        by : (b : Bool) → awaited eq k ps ≡ b → Apart eq (if b then ps else ps ++ waiting k s ∷ [])
+        by true e = h
+        by false e = apart_push ps (waiting k s) e h
+
+    -- it has room
+    pub length-put_back : (k : K) (s : S) (ps : List (PendingView K S)) → length (put_back eq k s ps) ≤ length ps + 1
+    length-put_back k s ps = by (awaited eq k ps)
+      where
+        by : (b : Bool) → length (if b then ps else ps ++ waiting k s ∷ []) ≤ length ps + 1
+        by true = omega arith
+        by false = omega (arith, length-append ps (waiting k s ∷ []))
+
+    -- and its service is sound
+    pub All-put_back : (P : S → Type 0) (k : K) (s : S) (ps : List (PendingView K S)) → P s → All (λ p. P p.service) ps → All (λ p. P p.service) (put_back eq k s ps)
+    All-put_back P k s ps now h = by (awaited eq k ps)
+      where
+        by : (b : Bool) → All (λ p. P p.service) (if b then ps else ps ++ waiting k s ∷ [])
+        by true = h
+        by false = All-append (λ p. P p.service) ps (waiting k s ∷ []) h (All-cons (λ p. P p.service) (waiting k s) [] now (All-nil (λ p. P p.service)))

@@ -1,0 +1,98 @@
+use Rattle.std.proofs.Common.{All, rules, Err, is_some, refl, sym, ap, subst, ◌∙◌, arith}
+use Rattle.futures.specs.declared.task.Poll.TheVariants.{Ready}
+use Rattle.tower_pool.specs.ReadyCache.{Sound, put_back}
+use Rattle.tower_pool.proofs.CacheLemmas.{checked_of, kept_back, kept_ready, same_view}
+use Rattle.tower_pool.proofs.PlaceLemmas.{All-swap_remove, All-written, as_long, at_written, for_some, inside, one_less, swap_written, taken, within}
+use Rattle.tower_pool.proofs.PendingLemmas.{All-put_back}
+use Rattle.tower_pool.proofs.ready_cache.cache.ReadyCache.check_ready_index.Goals as goal
+
+pub invariant_of-self : goal.invariant_of-self
+invariant_of-self g c = kept_ready _ _ _ _ _ _ (omega (arith, as_long c.self.inside.ready.entries c.args.index c.poll_ready.new.self)) c.self.invariant
+
+pub unwrap-key-requires : goal.unwrap-key-requires
+unwrap-key-requires g c =
+    ap is_some (c.swap_remove_index.ensures.entry ∙ at_written _ c.args.index _ _ c.poll_ready.new.self c.pair_mut-service.ensures.value)
+
+pub invariant_of-self-in-Ready-Err : goal.invariant_of-self-in-Ready-Err
+invariant_of-self-in-Ready-Err g c =
+    kept_ready _ _ _ _ _ _ (omega (arith, as_long c.self.inside.ready.entries c.args.index c.poll_ready.new.self, one_less _ _ _ _ c.unwrap-key.ensures c.swap_remove_index.ensures.len)) c.self.invariant
+
+pub unwrap-key-requires-in-Pending : goal.unwrap-key-requires-in-Pending
+unwrap-key-requires-in-Pending g c =
+    ap is_some (c.swap_remove_index-in-Pending.ensures.entry ∙ at_written _ c.args.index _ _ c.poll_ready.new.self c.pair_mut-service.ensures.value)
+
+pub invariant_of-self-in-Pending : goal.invariant_of-self-in-Pending
+invariant_of-self-in-Pending g c =
+    kept_back g.K.PartialEq.eq g.K.Clone.is_clone g.met.K.Eq.laws _ _ _ _ _ _ _ _
+    (one_less _ _ _ _ c.unwrap-key-in-Pending.ensures c.swap_remove_index-in-Pending.ensures.len ∙ as_long c.self.inside.ready.entries c.args.index c.poll_ready.new.self)
+    c.put_back.ensures.items c.put_back.ensures.capacity c.self.invariant
+
+pub returns-in-Ready-Ok-clause-checked : goal.returns-in-Ready-Ok-clause-checked
+returns-in-Ready-Ok-clause-checked g c =
+    let came = rw c.in-Ready-Ok.field-0-is at c.in-Ready-Ok.ensures.polled in
+    checked_of g.K.PartialEq.eq g.S.Service _ _ c.self.view_is c.args.index _ _ _ _ c.poll_ready.new.self c.pair_mut-service.ensures.value came (refl, refl)
+
+pub returns-in-Ready-Ok-clause-ready : goal.returns-in-Ready-Ok-clause-ready
+returns-in-Ready-Ok-clause-ready g c = λ e.
+    let came = rw c.in-Ready-Ok.field-0-is at c.in-Ready-Ok.ensures.polled in
+    (_, at_written _ c.args.index _ _ c.poll_ready.new.self c.pair_mut-service.ensures.value, g.met.S.Service.readies _ _ came)
+
+pub returns-in-Ready-Ok-clause-sound : goal.returns-in-Ready-Ok-clause-sound
+returns-in-Ready-Ok-clause-sound g c =
+    let s = subst (Sound g.S.Service.sound) (sym c.self.view_is) c.requires in
+    record { ready = All-written g.S.Service.sound _ _ _ c.poll_ready.ensures.sound s.ready; pending = s.pending }
+
+pub returns-in-Ready-Err-clause-checked : goal.returns-in-Ready-Err-clause-checked
+returns-in-Ready-Err-clause-checked g c =
+    let es = c.self.inside.ready.entries in
+    let w = c.poll_ready.new.self in
+    let at = c.pair_mut-service.ensures.value in
+    let k = c.pair_mut-service.result.0.now in
+    let v = c.pair_mut-service.result.1.now in
+    let came : g.S.Service.polled v (Ready (Err c.in-Ready-Err.error)) w = search rules in
+    let there = sym c.swap_remove_index.ensures.entry ∙ c.unwrap-key.ensures in
+    let is = taken _ c.args.index _ c.unwrap-key.result (at_written es c.args.index k v w at) there in
+    let out = for_some _ c.unwrap-key.result _ c.unwrap-key.ensures c.swap_remove_index.ensures.entries in
+    (checked_of g.K.PartialEq.eq g.S.Service _ _ c.self.view_is c.args.index _ _ (k, v) _ w at came
+    ((λ j. Err (record { 0 = (is j).0; 1 = c.in-Ready-Err.error })), same_view _ _ _ _ (out ∙ swap_written es c.args.index w _ (k, v) (within es c.args.index _ at)) refl))
+
+pub returns-in-Ready-Err-clause-sound : goal.returns-in-Ready-Err-clause-sound
+returns-in-Ready-Err-clause-sound g c =
+    let s = subst (Sound g.S.Service.sound) (sym c.self.view_is) c.requires in
+    let there = sym c.swap_remove_index.ensures.entry ∙ c.unwrap-key.ensures in
+    record {
+      ready = subst (All (λ e. g.S.Service.sound e.1)) (sym (for_some _ c.unwrap-key.result _ c.unwrap-key.ensures c.swap_remove_index.ensures.entries))
+          (All-swap_remove (λ e. g.S.Service.sound e.1) _ _ _ (inside _ _ _ there) (All-written g.S.Service.sound _ _ _ c.poll_ready.ensures.sound s.ready));
+      pending = s.pending;
+    }
+
+pub returns-in-Pending-clause-checked : goal.returns-in-Pending-clause-checked
+returns-in-Pending-clause-checked g c =
+    let es = c.self.inside.ready.entries in
+    let w = c.poll_ready.new.self in
+    let at = c.pair_mut-service.ensures.value in
+    let k = c.pair_mut-service.result.0.now in
+    let v = c.pair_mut-service.result.1.now in
+    let u = c.unwrap-key-in-Pending.result in
+    let there = sym c.swap_remove_index-in-Pending.ensures.entry ∙ c.unwrap-key-in-Pending.ensures in
+    let is = taken _ c.args.index _ u (at_written es c.args.index k v w at) there in
+    let out = for_some _ u _ c.unwrap-key-in-Pending.ensures c.swap_remove_index-in-Pending.ensures.entries in
+    (checked_of g.K.PartialEq.eq g.S.Service _ _ c.self.view_is c.args.index _ _ (k, v) _ w at c.in-Pending.ensures.polled (
+      refl,
+      same_view _ _ _ _ (out ∙ swap_written es c.args.index w _ (k, v) (within es c.args.index _ at))
+          (c.put_back.ensures.items ∙ ap (λ p. put_back g.K.PartialEq.eq p.0 p.1 c.self.inside.pending.items) is),
+    ))
+
+pub returns-in-Pending-clause-sound : goal.returns-in-Pending-clause-sound
+returns-in-Pending-clause-sound g c =
+    let s = subst (Sound g.S.Service.sound) (sym c.self.view_is) c.requires in
+    let es = c.self.inside.ready.entries in
+    let w = c.poll_ready.new.self in
+    let there = sym c.swap_remove_index-in-Pending.ensures.entry ∙ c.unwrap-key-in-Pending.ensures in
+    let is = taken _ c.args.index _ c.unwrap-key-in-Pending.result (at_written es c.args.index _ _ w c.pair_mut-service.ensures.value) there in
+    record {
+      ready = subst (All (λ e. g.S.Service.sound e.1)) (sym (for_some _ c.unwrap-key-in-Pending.result _ c.unwrap-key-in-Pending.ensures c.swap_remove_index-in-Pending.ensures.entries))
+          (All-swap_remove (λ e. g.S.Service.sound e.1) _ _ _ (inside _ _ _ there) (All-written g.S.Service.sound _ _ _ c.poll_ready.ensures.sound s.ready));
+      pending = subst (All (λ p. g.S.Service.sound p.service)) (sym c.put_back.ensures.items)
+          (All-put_back _ g.met.K.Eq.laws g.S.Service.sound _ _ _ (subst (λ p. g.S.Service.sound p.1) (sym is) c.poll_ready.ensures.sound) s.pending);
+    }

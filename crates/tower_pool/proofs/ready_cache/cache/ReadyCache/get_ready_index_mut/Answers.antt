@@ -1,0 +1,17 @@
+use Rattle.std.proofs.Common.{◌∙◌, ap, slice_get}
+use Rattle.std.specs.Option.{option_map}
+use Rattle.tower_pool.proofs.CacheLemmas.{kept_lent}
+use Rattle.tower_pool.proofs.PlaceLemmas.{value_there}
+use Rattle.tower_pool.proofs.ready_cache.cache.ReadyCache.get_ready_index_mut.Goals as goal
+
+pub invariant_of-self-lent : goal.invariant_of-self-lent
+invariant_of-self-lent g c = λ _. (λ w. kept_lent g.K.PartialEq.eq g.K.Clone.is_clone _ _ _ c.args.index w c.self.invariant, c.self.invariant)
+
+pub returns : goal.returns
+returns g c = (
+  rw (← c.self.view_is),
+  record {
+    writes_back = tt;
+    value = c.get_index_mut.ensures.value ∙ value_there c.self.inside.ready.entries c.args.index ∙ ap (λ v. option_map (λ e. e.1) (slice_get v.ready c.args.index)) c.self.view_is;
+  },
+)

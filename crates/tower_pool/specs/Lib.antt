@@ -1,0 +1,3 @@
+pub mod ReadyCache
+pub mod ReadyCacheLends
+pub mod ReadyCachePoll

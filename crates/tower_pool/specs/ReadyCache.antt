@@ -1,0 +1,101 @@
+-- The machine of `ready_cache`: a list of ready endpoints, each under its key, and a list of pending ones, longest waiting first.
+use Rattle.std.specs.Prelude.{All, ℕ, ◌+◌, ◌≡◌, ◌≤◌, Bool, true, false, not, ◌&&◌, List, [], ◌∷◌, ◌++◌, Option, Some, length, slice_get, position, if◌then◌else◌, Result, Ok, Err}
+use Rattle.std.specs.List.{list_any, swap_remove}
+use Rattle.std.specs.Map.{keys_of}
+use Rattle.std.specs.Option.{MatchOption}
+use Rattle.futures.specs.declared.task.Poll.{Poll}
+use Rattle.futures.specs.declared.task.Poll.TheVariants.{Ready, Pending}
+use Rattle.indexmap.specs.IndexMap.{set_value_at}
+use Rattle.tower_base.specs.declared.service.Service.{Ghosts as ServiceOf}
+use Rattle.tower_pool.specs.declared.ready_cache.error.Failed.{Failed}
+
+-- a pending endpoint; a cancelled one leaves at the next poll, and isn't asked
+pub record PendingView (K S : Type 0) : Type 0 where
+  pub key : K
+  pub service : S
+  pub cancelled : Bool
+
+-- a `ReadyCache`
+pub record ReadyCacheView (K S : Type 0) : Type 0 where
+  pub ready : List (K × S)
+  pub pending : List (PendingView K S)
+
+-- a new pending endpoint
+abbrev pub waiting : {K S : Type 0} → K → S → PendingView K S
+waiting k s = record { key = k; service = s; cancelled = false }
+
+module _ {K S : Type 0} (eq : K → K → Bool) where
+  -- the entry is the key's, and isn't cancelled
+  abbrev pub waits : K → PendingView K S → Bool
+  waits k p = not p.cancelled && eq k p.key
+
+  -- some entry is
+  abbrev pub awaited : K → List (PendingView K S) → Bool
+  awaited k ps = list_any (waits k) ps
+
+  -- that entry is marked as cancelled
+  abbrev pub cancel : K → List (PendingView K S) → List (PendingView K S)
+  cancel k [] = []
+  cancel k (p ∷ ps) = if waits k p then (record p { cancelled = true }) ∷ ps else p ∷ cancel k ps
+
+  -- an endpoint that was ready goes last, unless a newer one of its key is pending, where it is dropped
+  abbrev pub put_back : K → S → List (PendingView K S) → List (PendingView K S)
+  put_back k s ps = if awaited k ps then ps else ps ++ waiting k s ∷ []
+
+  -- the keys of entries that aren't cancelled are distinct
+  abbrev pub Apart : List (PendingView K S) → Type 0
+  Apart [] = Unit {0}
+  Apart (p ∷ ps) = (p.cancelled ≡ false → awaited p.key ps ≡ false) × Apart ps
+
+  -- the index of the key's ready endpoint
+  abbrev pub place : K → List (K × S) → Option ℕ
+  place k es = position (eq k) (keys_of es)
+
+  -- What each cache keeps: clones of keys equal what was cloned, pending keys are distinct, and ready endpoints have room to come back.
+  pub record Kept (is_clone : K → K → Type 0) (ready : List (K × S)) (pending : List (PendingView K S)) (room : ℕ) : Type 0 where
+    pub clones : (x y : K) → is_clone x y → y ≡ x
+    pub apart : Apart pending
+    pub fits : length ready + length pending ≤ room
+
+-- each service is sound
+pub record Sound {K S : Type 0} (sound : S → Type 0) (v : ReadyCacheView K S) : Type 0 where
+  pub ready : All (λ e. sound e.1) v.ready
+  pub pending : All (λ p. sound p.service) v.pending
+
+-- what stands at the index, which is there, meets P
+abbrev pub At : {X : Type 0} → List X → ℕ → (X → Type 0) → Type 0
+At {X} xs i P = (x : X) × (slice_get xs i ≡ Some x) × P x
+
+-- the key has a ready endpoint, whose index meets P
+abbrev pub AtKey : {K S : Type 0} → (K → K → Bool) → K → List (K × S) → (ℕ → Type 0) → Type 0
+AtKey eq k es P = (i : ℕ) × (place eq k es ≡ Some i) × P i
+
+module _ {K S Q A E G : Type 0} (eq : K → K → Bool) (s : ServiceOf S Q A E G) where
+  -- a checked endpoint that is ready stays, a failed one leaves, and one that isn't ready any more goes back to the pending ones
+  abbrev pub Settles : ReadyCacheView K S → ℕ → K × S → S → Poll (Result (Unit {0}) E) → Result Bool (Failed K E) → ReadyCacheView K S → Type 0
+  Settles old index e left (Ready (Ok u)) answer new = (answer ≡ Ok true) × (new ≡ record old { ready = set_value_at old.ready index left })
+  Settles old index e left (Ready (Err x)) answer new =
+      (answer ≡ Err (record { 0 = e.0; 1 = x })) × (new ≡ record old { ready = swap_remove old.ready index e })
+  Settles old index e left Pending answer new =
+      (answer ≡ Ok false) × (new ≡ record { ready = swap_remove old.ready index e; pending = put_back eq e.0 left old.pending })
+
+  -- a check asks the ready endpoint at the index, once; past the end there is none
+  abbrev pub Checked : ReadyCacheView K S → ℕ → Result Bool (Failed K E) → ReadyCacheView K S → Type 0
+  Checked old index answer new =
+      MatchOption (slice_get old.ready index) ((answer ≡ Ok false) × (new ≡ old))
+      (λ e. (inner : Poll (Result (Unit {0}) E)) × (left : S) × s.polled e.1 inner left × Settles old index e left inner answer new)
+
+  -- a check of the key's ready endpoint, if there is one
+  abbrev pub CheckedKey : ReadyCacheView K S → K → Result Bool (Failed K E) → ReadyCacheView K S → Type 0
+  CheckedKey old k answer new =
+      MatchOption (place eq k old.ready) ((answer ≡ Ok false) × (new ≡ old)) (λ index. Checked old index answer new)
+
+  -- a call of the endpoint at the index, which was ready, and then goes back to the pending ones
+  pub record Called (old : ReadyCacheView K S) (index : ℕ) (request : Q) (future : G) (new : ReadyCacheView K S) : Type 0 where
+    pub key : K
+    pub service : S
+    pub left : S
+    pub there : slice_get old.ready index ≡ Some (key, service)
+    pub ready : s.ready service
+    pub called : s.called service request future left
+    pub same : new ≡ record { ready = swap_remove old.ready index (key, service); pending = put_back eq key left old.pending }

@@ -1,0 +1,329 @@
+//! The cache of endpoints.
+ghost use Rattle.std.specs.Prelude.{◌≡◌, ◌<◌, ◌+◌, ◌++◌, ◌||◌, ◌↔◌, [], ◌∷◌, length, slice_get, is_some, true, false, Some, IsTrue, IfSome, OnOk, OnErr, IfErr, IfOk, if◌then◌else◌};
+ghost use Rattle.std.specs.List.{IsDistinct};
+ghost use Rattle.std.specs.Map.{keys_of, lookup};
+ghost use Rattle.std.specs.Map.Iter.{deref_pair};
+ghost use Rattle.std.specs.Option.{option_map};
+ghost use Rattle.futures.specs.Poll.{OnPending};
+ghost use Rattle.futures.specs.Task.{IsArmed, Keeps};
+ghost use Rattle.futures.specs.declared.task.Poll.TheVariants.{Ready};
+ghost use Rattle.indexmap.specs.IndexMap.{swap_remove_entry};
+ghost use Rattle.tower_pool.specs.ReadyCache.{awaited, cancel, place, waiting, Apart, At, AtKey, Called, Checked, CheckedKey, Sound};
+ghost use Rattle.tower_pool.specs.ReadyCachePoll.{AskedAt, PendingPolled};
+
+use crate::ready_cache::error::{Error, Failed};
+use crate::ready_cache::iter::IterReady;
+use crate::ready_cache::pending::{Pending, awaited, cancel, put_back};
+use futures::task::{Context, Poll};
+use indexmap::IndexMap;
+use std::alloc::Global;
+use std::hash::Hash;
+use std::marker::{Model, PhantomData};
+use tower_base::service::Service;
+
+/// Ready endpoints by key, and endpoints that wait to be ready: the Rust's `tower::ready_cache::ReadyCache`.
+///
+/// An endpoint is pushed as pending. `poll_pending` asks the pending ones, and those that are ready join the ready
+/// ones. A call makes its endpoint pending again, and so does a check that finds it busy. Of one key there is at
+/// most one ready endpoint and one pending that isn't cancelled.
+///
+/// Keys are asked for clones that equal what was cloned.
+#[derive(Drop)]
+pub struct ReadyCache<K: Eq + Hash + Clone, S, Req> {
+    ready: IndexMap<K, S>,
+    pending: Vec<Pending<K, S>>,
+    of: PhantomData<Req>,
+}
+
+impl<K: Eq + Hash + Clone, S, Req> Model for ReadyCache<K, S, Req> {
+    ghost use Rattle.std.specs.Vec.{vec_capacity};
+    ghost use Rattle.tower_pool.specs.ReadyCache.{Kept, ReadyCacheView};
+
+    ghost Value = { ReadyCacheView K S };
+
+    ghost view = { λ c. record { ready = c.ready.entries; pending = c.pending.items } };
+
+    ghost invariant = { λ c. Kept K.eq K.is_clone c.ready.entries c.pending.items (vec_capacity c.pending) };
+}
+
+// Removes the key's ready endpoint, whose place the last one takes. Answers whether there was one.
+fn take_out<K: Eq + Hash + Drop, S: Drop>(ready: &mut IndexMap<K, S>, key: &K) -> bool
+    ensures found { result ≡ is_some (lookup (K.eq key.now) ready.old.entries) }
+    ensures entries { ready.new.entries ≡ swap_remove_entry (K.eq key.now) ready.old.entries }
+    ensures len { length ready.new.entries + (if result then 1 else 0) ≡ length ready.old.entries }
+{
+    ready.swap_remove(key).is_some()
+}
+
+impl<K: Eq + Hash + Clone + Drop, S: Service<Req>, Req> ReadyCache<K, S, Req> {
+    /// A cache without endpoints. It takes no memory. The Rust's `default`.
+    pub fn new(alloc: Global) -> ReadyCache<K, S, Req>
+        requires { (x y : K) → K.is_clone x y → y ≡ x }
+        ensures empty { result ≡ record { ready = []; pending = [] } }
+        ensures sound { Sound S.sound result }
+    {
+        ReadyCache {
+            ready: IndexMap::new(alloc),
+            pending: Vec::new(alloc),
+            of: PhantomData,
+        }
+    }
+
+    /// How many endpoints there are. Cancelled ones count until a poll removes them.
+    pub fn len(&self) -> usize
+        ensures { result ≡ length self.now.ready + length self.now.pending }
+    {
+        self.ready.len() + self.pending.len()
+    }
+
+    /// Whether there is none, not even a cancelled one.
+    pub fn is_empty(&self) -> bool
+        ensures { IsTrue result ↔ (length self.now.ready + length self.now.pending ≡ 0) }
+    {
+        self.len() == 0
+    }
+
+    /// How many are ready.
+    pub fn ready_len(&self) -> usize
+        ensures len { result ≡ length self.now.ready }
+        ensures distinct { IsDistinct K.eq (keys_of self.now.ready) }
+    {
+        self.ready.len()
+    }
+
+    /// How many are pending, cancelled ones among them.
+    pub fn pending_len(&self) -> usize
+        ensures len { result ≡ length self.now.pending }
+        ensures apart { Apart K.eq self.now.pending }
+    {
+        self.pending.len()
+    }
+
+    /// Whether an endpoint of the key is pending and isn't cancelled.
+    pub fn pending_contains(&self, key: &K) -> bool
+        ensures { result ≡ awaited K.eq key.now self.now.pending }
+    {
+        awaited(&self.pending, key)
+    }
+
+    /// The key's ready endpoint: its index, its key as it was pushed, and its service.
+    pub fn get_ready(&self, key: &K) -> Option<(usize, &K, &S)>
+        ensures index { option_map (λ p. p.0) result ≡ place K.eq key.now self.now.ready }
+        ensures entry { IfSome result (λ p. slice_get self.now.ready p.0 ≡ Some (p.1.now, p.2.now)) }
+    {
+        self.ready.get_full(key)
+    }
+
+    /// The ready endpoint at the index.
+    pub fn get_ready_index(&self, index: usize) -> Option<(&K, &S)>
+        ensures { option_map deref_pair result ≡ slice_get self.now.ready index }
+    {
+        self.ready.get_index(index)
+    }
+
+    /// The ready endpoints in the order of their indexes.
+    pub fn iter_ready(&self) -> IterReady<'_, K, S>
+        ensures { result ≡ self.now.ready }
+    {
+        IterReady::new(self.ready.iter())
+    }
+
+    /// Adds a pending endpoint, in the place of an older pending one of its key, which is cancelled. Makes the room in
+    /// which endpoints come back from the ready ones. Where that is refused, it gives back what it was given, and the
+    /// cache stays as it was.
+    pub fn push(&mut self, key: K, service: S) -> Result<(), (K, S)>
+        ensures ready { self.new.ready ≡ self.old.ready }
+        ensures pending { OnOk result (self.new.pending ≡ cancel K.eq key self.old.pending ++ waiting key service ∷ []) }
+        ensures same { OnErr result (self.new ≡ self.old) }
+        ensures given_back { IfErr result (λ back. back ≡ (key, service)) }
+        ensures sound { Sound S.sound self.old → S.sound service → Sound S.sound self.new }
+    {
+        let more = self.ready.len() + 1;
+        match self.pending.reserve(more) {
+            Ok(()) => {
+                cancel(&mut self.pending, &key);
+                self.pending.push_reserved(Pending::new(key, service));
+                Ok(())
+            }
+            Err(_) => Err((key, service)),
+        }
+    }
+
+    /// Cancels the key's pending endpoint and removes its ready one, whose place the last one takes. Answers whether
+    /// there was one.
+    pub fn evict(&mut self, key: &K) -> bool
+        ensures found { result ≡ (awaited K.eq key.now self.old.pending || is_some (lookup (K.eq key.now) self.old.ready)) }
+        ensures ready { self.new.ready ≡ swap_remove_entry (K.eq key.now) self.old.ready }
+        ensures pending { self.new.pending ≡ cancel K.eq key.now self.old.pending }
+        ensures sound { Sound S.sound self.old → Sound S.sound self.new }
+    {
+        let was_pending = cancel(&mut self.pending, key);
+        let was_ready = take_out(&mut self.ready, key);
+        was_pending || was_ready
+    }
+
+    // Asks the pending endpoint at the index, unless it is cancelled. Answers whether it is pending still.
+    fn ask(&mut self, cx: &mut Context<'_>, index: usize) -> Result<bool, Error<K, S::Error>>
+        requires sound { Sound S.sound self.old }
+        requires within { index < length self.old.pending }
+        ensures asked { AskedAt K.eq S.Service self.old index result self.new }
+        ensures len { IfOk result (λ waits. length self.new.pending + (if waits then 0 else 1) ≡ length self.old.pending) }
+        ensures sound { Sound S.sound self.new }
+        ensures armed { result ≡ Ok true → IsArmed cx.new }
+        ensures kept { Keeps cx.old cx.new }
+    {
+        if self.pending[index].is_cancelled() {
+            let _ = self.pending.remove(index);
+            return Ok(false);
+        }
+        if self.ready.reserve(1).is_err() {
+            return Err(Error::Memory);
+        }
+        match self.pending[index].poll(cx) {
+            Poll::Pending => Ok(true),
+            Poll::Ready(Ok(())) => {
+                let (key, service) = self.pending.remove(index).into_parts();
+                let _ = self.ready.insert(key, service).unwrap();
+                Ok(false)
+            }
+            Poll::Ready(Err(error)) => {
+                let (key, _) = self.pending.remove(index).into_parts();
+                Err(Error::Failed(key, error))
+            }
+        }
+    }
+
+    /// Asks each pending endpoint once, longest waiting first, but drops the cancelled ones unasked.
+    ///
+    /// One that is ready goes last among the ready ones, or to the place of its key, whose older endpoint is dropped.
+    /// One that fails leaves, and the poll stops with its error. `Memory` comes before an endpoint is asked, where there
+    /// is no room for one more ready one; that endpoint is pending still. After `Ok` none is left, and after pending
+    /// each one left was asked in this poll.
+    pub fn poll_pending(&mut self, cx: &mut Context<'_>) -> Poll<Result<(), Error<K, S::Error>>>
+        requires { Sound S.sound self.old }
+        ensures polled { PendingPolled K.eq S.Service self.old result self.new }
+        ensures done { result ≡ Ready (Ok tt) → self.new.pending ≡ [] }
+        ensures sound { Sound S.sound self.new }
+        ensures armed { OnPending result (IsArmed cx.new) }
+        ensures kept { Keeps cx.old cx.new }
+    {
+        let mut index = 0usize;
+        while index < self.pending_len() {
+            match self.ask(cx, index) {
+                Ok(true) => index += 1,
+                Ok(false) => {}
+                Err(error) => return Poll::Ready(Err(error)),
+            }
+        }
+        if index == 0 {
+            Poll::Ready(Ok(()))
+        } else {
+            Poll::Pending
+        }
+    }
+
+    /// Asks the key's ready endpoint whether it is still ready. `Ok(false)` where the key has none. One that isn't ready
+    /// any more becomes pending, unless a newer one of its key is, where it is dropped; a failed one leaves.
+    pub fn check_ready(
+        &mut self,
+        cx: &mut Context<'_>,
+        key: &K,
+    ) -> Result<bool, Failed<K, S::Error>>
+        requires { Sound S.sound self.old }
+        ensures checked { CheckedKey K.eq S.Service self.old key.now result self.new }
+        ensures ready { IfOk result (λ is_ready. is_ready ≡ true → AtKey K.eq key.now self.new.ready (λ index. At self.new.ready index (λ e. S.ready e.1))) }
+        ensures sound { Sound S.sound self.new }
+        ensures kept { Keeps cx.old cx.new }
+    {
+        match self.ready.get_index_of(key) {
+            Some(index) => self.check_ready_index(cx, index),
+            None => Ok(false),
+        }
+    }
+
+    /// Asks the ready endpoint at the index whether it is still ready. `Ok(false)` past the end. One that isn't ready any
+    /// more becomes pending, unless a newer one of its key is, where it is dropped; a failed one leaves. The last one takes
+    /// the place of one that leaves.
+    pub fn check_ready_index(
+        &mut self,
+        cx: &mut Context<'_>,
+        index: usize,
+    ) -> Result<bool, Failed<K, S::Error>>
+        requires { Sound S.sound self.old }
+        ensures checked { Checked K.eq S.Service self.old index result self.new }
+        ensures ready { IfOk result (λ is_ready. is_ready ≡ true → At self.new.ready index (λ e. S.ready e.1)) }
+        ensures sound { Sound S.sound self.new }
+        ensures armed { IfOk result (λ is_ready. is_ready ≡ false → index < length self.old.ready → IsArmed cx.new) }
+        ensures kept { Keeps cx.old cx.new }
+    {
+        if index >= self.ready.len() {
+            return Ok(false);
+        }
+        let (_, service) = self.ready.pair_mut(index);
+        match service.poll_ready(cx) {
+            Poll::Ready(Ok(())) => Ok(true),
+            Poll::Ready(Err(error)) => {
+                let (key, _) = self.ready.swap_remove_index(index).unwrap();
+                Err(Failed(key, error))
+            }
+            Poll::Pending => {
+                let (key, service) = self.ready.swap_remove_index(index).unwrap();
+                put_back(&mut self.pending, key, service);
+                Ok(false)
+            }
+        }
+    }
+
+    /// Calls the key's ready endpoint, which then becomes pending, unless a newer one of its key is, where it is dropped.
+    /// `check_ready` answers whether the key has an endpoint that may be called.
+    pub fn call_ready(&mut self, key: &K, request: Req) -> S::Future
+        requires sound { Sound S.sound self.old }
+        requires ready { AtKey K.eq key.now self.old.ready (λ index. At self.old.ready index (λ e. S.ready e.1)) }
+        ensures called { AtKey K.eq key.now self.old.ready (λ index. Called K.eq S.Service self.old index request result self.new) }
+        ensures sound { Sound S.sound self.new }
+        ensures fresh { S.Future.can_poll result }
+    {
+        let index = self.ready.get_index_of(key).unwrap();
+        self.call_ready_index(index, request)
+    }
+
+    /// Calls the ready endpoint at the index, which then becomes pending, unless a newer one of its key is, where it is
+    /// dropped. The last one takes its place. `check_ready_index` answers whether an endpoint may be called.
+    pub fn call_ready_index(&mut self, index: usize, request: Req) -> S::Future
+        requires sound { Sound S.sound self.old }
+        requires ready { At self.old.ready index (λ e. S.ready e.1) }
+        ensures called { Called K.eq S.Service self.old index request result self.new }
+        ensures sound { Sound S.sound self.new }
+        ensures fresh { S.Future.can_poll result }
+    {
+        let (key, mut service) = self.ready.swap_remove_index(index).unwrap();
+        let future = service.call(request);
+        put_back(&mut self.pending, key, service);
+        future
+    }
+}
+
+impl<K: Eq + Hash + Clone + Drop, S: Service<Req>, Req> ReadyCache<K, S, Req> {
+    ghost use Rattle.std.specs.Borrow.{sem};
+    ghost use Rattle.std.specs.Option.{option_copied_mut};
+    ghost use Rattle.tower_pool.specs.ReadyCacheLends.{LendsReady};
+
+    /// The service of the key's ready endpoint, to be changed.
+    pub fn get_ready_mut(&mut self, key: &K) -> Option<&mut S>
+        ensures* writes_back { sem 𝓛 (LendsReady K.row S.row Req.row K.Hash K.Clone self.entry (place K.eq key.now self.old.ready) result) }
+        ensures value { option_copied_mut result ≡ lookup (K.eq key.now) self.old.ready }
+    {
+        match self.ready.get_index_of(key) {
+            Some(index) => self.ready.get_index_mut(index),
+            None => None,
+        }
+    }
+
+    /// The service of the ready endpoint at the index, to be changed.
+    pub fn get_ready_index_mut(&mut self, index: usize) -> Option<&mut S>
+        ensures* writes_back { sem 𝓛 (LendsReady K.row S.row Req.row K.Hash K.Clone self.entry (Some index) result) }
+        ensures value { option_copied_mut result ≡ option_map (λ e. e.1) (slice_get self.old.ready index) }
+    {
+        self.ready.get_index_mut(index)
+    }
+}
