@@ -283,7 +283,7 @@ impl<Request: Drop, F: Drop, E: Drop> Mailbox<Request, F, E> {
         MailReply::Back(future)
     }
 
-    pub(crate) fn forget(&mut self, id: u64) -> MailReply<Request, F, E>
+    pub(crate) fn give_up(&mut self, id: u64) -> MailReply<Request, F, E>
         ensures { Follows self.old (MailStep.Forget id) result self.new }
     {
         let Some(place) = known(&self.letters, id) else {
