@@ -1,5 +1,5 @@
 //! Mail: the messages on their way to a worker, and the line for places.
-ghost use Rattle.std.specs.Prelude.{◌≡◌, ◌≢◌, ◌<◌, ◌≤◌, ◌+◌, ◌^◌, All, IfSome, IfNone, position, remove, slice_get, slice_set, Some, None, true, filter, map, vec_len, vec_capacity, count_by, is_some, length};
+ghost use Rattle.std.specs.Prelude.{◌≡◌, ◌≢◌, ◌<◌, ◌≤◌, ◌+◌, ◌^◌, All, IfSome, IfNone, position, remove, unwrap_or, slice_get, slice_set, Some, None, true, filter, map, vec_len, vec_capacity, count_by, is_some, length};
 ghost use Rattle.tower_pool.specs.Letters.{Finishes, Fits, is_cancelled, is_failed, is_kept, is_known, is_open, lost, is_taken, queued_letters};
 ghost use Rattle.tower_pool.specs.Mail.{Tells};
 ghost use Rattle.tower_pool.specs.declared.buffer.letter.Letter.{Letter};
@@ -283,7 +283,7 @@ impl<Request: Drop, F: Drop, E: Drop> Mailbox<Request, F, E> {
         MailReply::Back(future)
     }
 
-    pub(crate) fn forget(&mut self, id: u64) -> MailReply<Request, F, E>
+    pub(crate) fn give_up(&mut self, id: u64) -> MailReply<Request, F, E>
         ensures { Follows self.old (MailStep.Forget id) result self.new }
     {
         let Some(place) = known(&self.letters, id) else {
@@ -306,7 +306,7 @@ impl<Request: Drop, F: Drop, E: Drop> Mailbox<Request, F, E> {
         finish(&mut self.letters, place, Fate::Failed);
         self.keys.clear();
         self.closed = true;
-        self.stored = Some(self.stored.take().unwrap_or(error));
+        keep_first(&mut self.stored, error);
         MailReply::Done
     }
 
@@ -533,4 +533,11 @@ fn lose_each<Request: Drop, F: Drop>(letters: &mut [Letter<Request, F>])
     for letter in letters.iter_mut() {
         letter.lose();
     }
+}
+
+// The first error is stored for good.
+fn keep_first<E: Drop>(stored: &mut Option<E>, error: E)
+    ensures { stored.new ≡ Some (unwrap_or stored.old error) }
+{
+    *stored = Some(stored.take().unwrap_or(error));
 }

@@ -41,7 +41,7 @@ pub returns-in-Outcome : goal.returns-in-Outcome
 returns-in-Outcome g c = served c.self.inside.mail c.args.self.now c.outcome.new.self c.args.step _ c.outcome.result c.self.view_is c.in-Outcome.is c.outcome.ensures
 
 pub returns-in-Forget : goal.returns-in-Forget
-returns-in-Forget g c = served c.self.inside.mail c.args.self.now c.forget.new.self c.args.step _ c.forget.result c.self.view_is c.in-Forget.is c.forget.ensures
+returns-in-Forget g c = served c.self.inside.mail c.args.self.now c.give_up.new.self c.args.step _ c.give_up.result c.self.view_is c.in-Forget.is c.give_up.ensures
 
 pub returns-in-WorkerGone : goal.returns-in-WorkerGone
 returns-in-WorkerGone g c = served c.self.inside.mail c.args.self.now c.worker_gone.new.self c.args.step _ c.worker_gone.result c.self.view_is c.in-WorkerGone.is c.worker_gone.ensures

@@ -1,4 +1,4 @@
-use Rattle.std.proofs.Common.{◌≡◌, ◌∙◌, None, Some, position, refl, sym, ap, arith}
+use Rattle.std.proofs.Common.{is_some, ◌≡◌, ◌∙◌, None, Some, position, refl, sym, ap, arith}
 use Rattle.tower_pool.specs.Letters.{is_taken, queued_letters}
 use Rattle.tower_pool.specs.Mail.{IsTaken, holding}
 use Rattle.tower_pool.proofs.Lines.{closes}
@@ -16,7 +16,7 @@ pub invariant_of-self : goal.invariant_of-self
 invariant_of-self g c =
     let old = c.args.self.now in
     let e : position (is_taken c.args.id) old.letters.items ≡ Some c.in-Some.place = cc (c.in-Some.ensures, c.deref.ensures.value) in
-    let well = stays_well old.next_id old.stored (Some c.unwrap_or.result) old.letters.items c.finish.new.letters.items c.args.id c.in-Some.place e refl old.sent c.finish.ensures.finishes in record {
+    let well = stays_well old.next_id old.stored c.keep_first.new.stored old.letters.items c.finish.new.letters.items c.args.id c.in-Some.place e (ap is_some c.keep_first.ensures) old.sent c.finish.ensures.finishes in record {
       fits = omega (arith, old.fits, well.queued);
       room = omega (arith, old.room, c.finish.ensures.len, c.finish.ensures.capacity, c.clear.ensures.len);
       numbers = omega (arith, old.numbers, c.clear.ensures.len);
@@ -28,7 +28,7 @@ pub returns : goal.returns
 returns g c = λ messages line p s.
     let old = c.args.self.now in
     let e : position (is_taken c.args.id) old.letters.items ≡ Some c.in-Some.place = cc (c.in-Some.ensures, c.deref.ensures.value) in
-    let well = stays_well old.next_id old.stored (Some c.unwrap_or.result) old.letters.items c.finish.new.letters.items c.args.id c.in-Some.place e refl old.sent c.finish.ensures.finishes in
+    let well = stays_well old.next_id old.stored c.keep_first.new.stored old.letters.items c.finish.new.letters.items c.args.id c.in-Some.place e (ap is_some c.keep_first.ensures) old.sent c.finish.ensures.finishes in
     let r = finished messages old.letters.items c.finish.new.letters.items c.args.id c.in-Some.place p e c.finish.ensures.finishes in
     let shut = closes _ _ _ line s in
-    (r.left, holding line, (r.settles, rw (c.unwrap_or.ensures, c.take.ensures.value) refl), r.same, (omega (arith, shut.0, well.queued), shut.1 ∙ sym c.clear.ensures.items, shut.2))
+    (r.left, holding line, (r.settles, rw c.keep_first.ensures refl), r.same, (omega (arith, shut.0, well.queued), shut.1 ∙ sym c.clear.ensures.items, shut.2))

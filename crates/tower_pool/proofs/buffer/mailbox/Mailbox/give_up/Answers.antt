@@ -6,7 +6,7 @@ use Rattle.tower_pool.specs.declared.buffer.letter.Letter.{Letter}
 use Rattle.tower_pool.proofs.Messages.{holds_at}
 use Rattle.tower_pool.proofs.Moves.{there, not_there}
 use Rattle.tower_pool.proofs.Positions.{at_position, changed, fewer, known_tells, not_known, not_open, one_queued, open_is, settled}
-use Rattle.tower_pool.proofs.buffer.mailbox.Mailbox.forget.Goals as goal
+use Rattle.tower_pool.proofs.buffer.mailbox.Mailbox.give_up.Goals as goal
 
 pub returns-in_default : goal.returns-in_default
 returns-in_default g c = λ messages line p s.
