@@ -10,6 +10,7 @@ pub use layer::Layer;
 pub use tower_base::service::Service;
 pub use tower_base::{drive, latch, service};
 pub use tower_limit::{discover, limit, load};
+pub use tower_pool::ready_cache;
 pub use tower_retry::{hedge, retry};
 pub use tower_util::make;
 pub use tower_util::make::MakeService;

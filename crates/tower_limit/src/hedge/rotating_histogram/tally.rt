@@ -53,8 +53,12 @@ impl Tally {
         if self.total == u64::MAX {
             return HistoReply::Full;
         }
-        let count = self.counts.get(&millis).copied().unwrap_or(0);
-        let Ok(_) = self.counts.insert(millis, count + 1) else {
+        if let Some(count) = self.counts.get_mut(&millis) {
+            *count += 1;
+            self.total += 1;
+            return HistoReply::Done;
+        }
+        let Ok(_) = self.counts.insert(millis, 1) else {
             return HistoReply::Memory;
         };
         self.total += 1;

@@ -1,0 +1,242 @@
+//! `ServiceBuilder`: the order of its layers, and its methods for closures and predicates.
+
+use futures::future::{Ready, ready};
+use std::alloc::AllocError;
+use std::test::Fail;
+use tests_support::future::After;
+use tests_support::log::Log;
+use tests_support::plain::Plain;
+use tests_support::run::{fire, task};
+use tests_support::script::{Reply, Script};
+use tests_support::service::Scripted;
+use tower::ServiceBuilder;
+use tower::filter::{AsyncPredicateFn, Error, PredicateFn};
+use tower::layer::Layer;
+use tower::layer::util::Identity;
+use tower::util::MapErrLayer;
+
+#[test]
+fn layer_that_is_added_first_is_asked_first(rt: HostRuntime) -> Result<(), Fail> {
+    let log = Log::new(rt.alloc())?;
+    let script = Script::new(&log);
+    let solo = task(&rt)?;
+    let stack = ServiceBuilder::new()
+        .map_request(|x: u8| {
+            log.note(format_args!("outer asked {x}"));
+            x.wrapping_add(1)
+        })
+        .map_request(|x: u8| {
+            log.note(format_args!("inner asked {x}"));
+            x.wrapping_mul(2)
+        })
+        .service(Scripted::new(&script, 's'))?;
+    assert_eq!(rt; fire(&solo, stack, 6), Some(Ok(14)));
+    assert_eq!(rt;
+        log.told(rt.alloc())?.as_str(),
+        "s ready;outer asked 6;inner asked 7;s called 14;s(14) ready;s(14) dropped;s dropped;"
+    );
+    Ok(())
+}
+
+#[test]
+fn builder_without_layers_gives_the_service(rt: HostRuntime) -> Result<(), Fail> {
+    let log = Log::new(rt.alloc())?;
+    let script = Script::new(&log);
+    let solo = task(&rt)?;
+    let service = ServiceBuilder::default().service(Scripted::new(&script, 's'))?;
+    assert_eq!(rt; fire(&solo, service, 6), Some(Ok(6)));
+    assert_eq!(rt;
+        log.told(rt.alloc())?.as_str(),
+        "s ready;s called 6;s(6) ready;s(6) dropped;s dropped;"
+    );
+    Ok(())
+}
+
+#[test]
+fn closures_over_answers_go_from_the_inner_to_the_outer(rt: HostRuntime) -> Result<(), Fail> {
+    let log = Log::new(rt.alloc())?;
+    let script = Script::new(&log);
+    let solo = task(&rt)?;
+    let halved = |x: u8| {
+        log.note(format_args!("response {x}"));
+        x / 2
+    };
+    let raised = |error: u8| {
+        log.note(format_args!("error {error}"));
+        error.wrapping_add(100)
+    };
+    let builder = ServiceBuilder::new().map_response(halved).map_err(raised);
+    script.replies(&[Reply::Echo(0), Reply::Fail(0)]);
+    let service = builder.service(Scripted::new(&script, 's'))?;
+    assert_eq!(rt; fire(&solo, service, 6), Some(Ok(3)));
+    let service = builder.service(Scripted::new(&script, 't'))?;
+    assert_eq!(rt; fire(&solo, service, 6), Some(Err(106)));
+    assert_eq!(rt;
+        log.told(rt.alloc())?.as_str(),
+        "s ready;s called 6;s(6) ready;response 6;s(6) dropped;s dropped;\
+         t ready;t called 6;t(6) ready;error 6;t(6) dropped;t dropped;"
+    );
+    Ok(())
+}
+
+#[test]
+fn closure_over_results_sees_both(rt: HostRuntime) -> Result<(), Fail> {
+    let log = Log::new(rt.alloc())?;
+    let script = Script::new(&log);
+    let solo = task(&rt)?;
+    let turned = |answer: Result<u8, u8>| match answer {
+        Ok(x) => Err(x),
+        Err(x) => Ok(x),
+    };
+    let builder = ServiceBuilder::new().map_result(turned);
+    script.replies(&[Reply::Echo(0), Reply::Fail(0)]);
+    let service = builder.service(Scripted::new(&script, 's'))?;
+    assert_eq!(rt; fire(&solo, service, 6), Some(Err(6u8)));
+    let service = builder.service(Scripted::new(&script, 't'))?;
+    assert_eq!(rt; fire(&solo, service, 7), Some(Ok(7u8)));
+    assert_eq!(rt;
+        log.told(rt.alloc())?.as_str(),
+        "s ready;s called 6;s(6) ready;s(6) dropped;s dropped;\
+         t ready;t called 7;t(7) ready;t(7) dropped;t dropped;"
+    );
+    Ok(())
+}
+
+#[test]
+fn second_future_follows_a_response(rt: HostRuntime) -> Result<(), Fail> {
+    let log = Log::new(rt.alloc())?;
+    let script = Script::new(&log);
+    let solo = task(&rt)?;
+    let again = |x: u8| {
+        log.note(format_args!("asked {x}"));
+        After::new(&log, 'n', 1, Ok::<u8, u8>(x.wrapping_add(1)))
+    };
+    let service = ServiceBuilder::new()
+        .and_then(again)
+        .service(Scripted::new(&script, 's'))?;
+    assert_eq!(rt; fire(&solo, service, 6), Some(Ok(7)));
+    assert_eq!(rt;
+        log.told(rt.alloc())?.as_str(),
+        "s ready;s called 6;s(6) ready;asked 6;s(6) dropped;n pending;n ready;n dropped;s dropped;"
+    );
+    Ok(())
+}
+
+#[test]
+fn closure_over_futures_is_given_each_once(rt: HostRuntime) -> Result<(), Fail> {
+    let log = Log::new(rt.alloc())?;
+    let solo = task(&rt)?;
+    let service = ServiceBuilder::new()
+        .map_future(|future: Ready<Result<u8, u8>>| {
+            log.note("given");
+            future
+        })
+        .service_fn(|x: u8| {
+            log.note(format_args!("called {x}"));
+            ready(Ok::<u8, u8>(x))
+        })?;
+    assert_eq!(rt; fire(&solo, service, 6), Some(Ok::<u8, u8>(6)));
+    assert_eq!(rt; log.told(rt.alloc())?.as_str(), "called 6;given;");
+    Ok(())
+}
+
+#[test]
+fn predicates_keep_requests_outside(rt: HostRuntime) -> Result<(), Fail> {
+    let log = Log::new(rt.alloc())?;
+    let script = Script::new(&log);
+    let solo = task(&rt)?;
+    let small = |x: u8| {
+        log.note(format_args!("checked {x}"));
+        if x < 100 { Ok(x) } else { Err(x) }
+    };
+    let builder = ServiceBuilder::new().filter(PredicateFn::new(small));
+    let service = builder.service(Scripted::new(&script, 's'))?;
+    assert_eq!(rt; fire(&solo, service, 6), Some(Ok(6)));
+    let service = builder.service(Scripted::new(&script, 't'))?;
+    assert!(rt; matches!(fire(&solo, service, 200), Some(Err(Error::Rejected(200)))));
+    assert_eq!(rt;
+        log.told(rt.alloc())?.as_str(),
+        "s ready;checked 6;s called 6;s(6) ready;s(6) dropped;s dropped;\
+         t ready;checked 200;t dropped;"
+    );
+    Ok(())
+}
+
+#[test]
+fn predicate_that_answers_later_is_waited_for(rt: HostRuntime) -> Result<(), Fail> {
+    let log = Log::new(rt.alloc())?;
+    let script = Script::new(&log);
+    let solo = task(&rt)?;
+    let small = |x: u8| After::new(&log, 'c', 1, if x < 100 { Ok(x) } else { Err(x) });
+    let builder = ServiceBuilder::new().filter_async(AsyncPredicateFn::new(small));
+    let service = builder.service(Scripted::new(&script, 's'))?;
+    assert_eq!(rt; fire(&solo, service, 6), Some(Ok(6)));
+    assert_eq!(rt;
+        log.told(rt.alloc())?.as_str(),
+        "s ready;s cloned s1;c pending;c ready;s called 6;c dropped;s dropped;s(6) ready;s(6) dropped;\
+         s1 dropped;"
+    );
+    let service = builder.service(Scripted::new(&script, 't'))?;
+    assert!(rt; matches!(fire(&solo, service, 200), Some(Err(Error::Rejected(200)))));
+    Ok(())
+}
+
+#[test]
+fn layer_that_may_be_left_out(rt: HostRuntime) -> Result<(), Fail> {
+    let log = Log::new(rt.alloc())?;
+    let script = Script::new(&log);
+    let solo = task(&rt)?;
+    script.replies(&[Reply::Fail(0)]);
+    let raised = |error: u8| error.wrapping_add(100);
+    let with = ServiceBuilder::new()
+        .option_layer(Some(MapErrLayer::new(raised)))
+        .service(Scripted::new(&script, 's'))?;
+    assert_eq!(rt; fire(&solo, with, 6), Some(Err(106)));
+    let without = ServiceBuilder::new()
+        .option_layer(None::<MapErrLayer<fn(u8) -> u8>>)
+        .service(Scripted::new(&script, 't'))?;
+    assert_eq!(rt; fire(&solo, without, 6), Some(Err(6)));
+    Ok(())
+}
+
+#[test]
+fn layers_by_closures_and_as_they_are(rt: HostRuntime) -> Result<(), Fail> {
+    let log = Log::new(rt.alloc())?;
+    let ten = |x: u32| -> Result<u32, AllocError> {
+        log.note(format_args!("ten {x}"));
+        Ok(x.wrapping_mul(10))
+    };
+    let one = |x: u32| -> Result<u32, AllocError> {
+        log.note(format_args!("one {x}"));
+        Ok(x.wrapping_add(1))
+    };
+    let builder = ServiceBuilder::new()
+        .layer_fn(one)
+        .layer(Identity::new())
+        .layer_fn(ten);
+    assert_eq!(rt; builder.service(4u32)?, 41);
+    assert_eq!(rt; builder.into_inner().layer(5u32)?, 51);
+    assert_eq!(rt;
+        log.told(rt.alloc())?.as_str(),
+        "ten 4;one 40;ten 5;one 50;"
+    );
+    Ok(())
+}
+
+#[test]
+fn builder_is_a_layer_and_has_clones(rt: HostRuntime) -> Result<(), Fail> {
+    let log = Log::new(rt.alloc())?;
+    let script = Script::new(&log);
+    let solo = task(&rt)?;
+    let builder = ServiceBuilder::new()
+        .map_request(|x: u8| x.wrapping_add(1))
+        .check_clone()
+        .check_service_clone::<Scripted<'_>>()
+        .check_service::<Scripted<'_>, u8, u8, u8>();
+    let inside = ServiceBuilder::new().layer(builder.clone()?);
+    let service = Layer::layer(&inside, Scripted::new(&script, 's'))?;
+    assert_eq!(rt; fire(&solo, service, 6), Some(Ok(7)));
+    let plain = ServiceBuilder::new().layer(Plain::refusing(&log, 'r'));
+    assert!(rt; plain.clone().is_err());
+    Ok(())
+}
