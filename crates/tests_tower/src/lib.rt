@@ -1,9 +1,7 @@
-//! Tests of `tower::ServiceBuilder` and `tower::ServiceExt`: what each of their methods adds.
+//! Tests of `tower::ServiceBuilder`: what each of its methods adds.
 #![tactic(auto)]
 
 #[cfg(test)]
 mod builder;
-#[cfg(test)]
-mod ext;
 #[cfg(test)]
 mod limits;

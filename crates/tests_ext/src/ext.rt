@@ -1,0 +1,132 @@
+//! `ServiceExt`: its methods that wrap.
+
+use futures::future::{Ready, ready};
+use futures::task::{Poll, Solo};
+use std::test::Fail;
+use tests_support::future::After;
+use tests_support::log::Log;
+use tests_support::run::{fire, task};
+use tests_support::script::{Reply, Script};
+use tests_support::service::Scripted;
+use tests_support::stream::{Outbox, Requests};
+use tower::ServiceExt;
+use tower::filter::{AsyncPredicateFn, Error, PredicateFn};
+use tower::service::Flow;
+use tower::util::service_fn;
+
+fn next<Q: Flow>(solo: &Solo, answers: &mut Q) -> Poll<Option<Q::Item>> {
+    let mut cx = solo.begin();
+    let answer = answers.flow(&mut cx);
+    cx.cancel();
+    answer
+}
+
+#[test]
+fn call_all_answers_each_request(rt: HostRuntime) -> Result<(), Fail> {
+    let log = Log::new(rt.alloc())?;
+    let script = Script::new(&log);
+    let solo = task(&rt)?;
+    let outbox = Outbox::new(2, true);
+    let requests = Requests::new(&log, &outbox);
+    let mut answers = Scripted::new(&script, 's').call_all(rt.alloc(), requests);
+    assert!(rt; matches!(next(&solo, &mut answers), Poll::Ready(Some(Ok(0)))));
+    assert!(rt; matches!(next(&solo, &mut answers), Poll::Ready(Some(Ok(1)))));
+    assert!(rt; matches!(next(&solo, &mut answers), Poll::Ready(None)));
+    Ok(())
+}
+
+#[test]
+fn predicates_keep_requests_outside(rt: HostRuntime) -> Result<(), Fail> {
+    let log = Log::new(rt.alloc())?;
+    let script = Script::new(&log);
+    let solo = task(&rt)?;
+    let small = |x: u8| if x < 100 { Ok(x) } else { Err(x) };
+    let service = Scripted::new(&script, 's').filter(PredicateFn::new(small));
+    assert!(rt; matches!(fire(&solo, service, 200u8), Some(Err(Error::Rejected(200)))));
+    let later = |x: u8| After::new(&log, 'c', 1, if x < 100 { Ok(x) } else { Err(x) });
+    let service = Scripted::new(&script, 't').filter_async(AsyncPredicateFn::new(later));
+    assert!(rt; matches!(fire(&solo, service, 200u8), Some(Err(Error::Rejected(200)))));
+    assert_eq!(rt;
+        log.told(rt.alloc())?.as_str(),
+        "s ready;s dropped;t ready;t cloned t1;c pending;c ready;c dropped;t dropped;t1 dropped;"
+    );
+    Ok(())
+}
+
+#[test]
+fn closure_over_requests(rt: HostRuntime) -> Result<(), Fail> {
+    let log = Log::new(rt.alloc())?;
+    let script = Script::new(&log);
+    let solo = task(&rt)?;
+    let service = Scripted::new(&script, 's').map_request(|x: u8| x.wrapping_add(1));
+    assert_eq!(rt; fire(&solo, service, 6u8), Some(Ok(7)));
+    assert_eq!(rt;
+        log.told(rt.alloc())?.as_str(),
+        "s ready;s called 7;s(7) ready;s(7) dropped;s dropped;"
+    );
+    Ok(())
+}
+
+#[test]
+fn closures_over_answers(rt: HostRuntime) -> Result<(), Fail> {
+    let log = Log::new(rt.alloc())?;
+    let script = Script::new(&log);
+    let solo = task(&rt)?;
+    script.replies(&[Reply::Echo(0), Reply::Fail(0)]);
+    let plus = |x: u8| x.wrapping_add(1);
+    let service = || Scripted::new(&script, 's');
+    assert_eq!(rt; fire(&solo, service().map_response(plus), 7), Some(Ok(8)));
+    assert_eq!(rt; fire(&solo, service().map_err(plus), 9), Some(Err(10)));
+    Ok(())
+}
+
+// The answer to a 6 of the service under the closure.
+fn by_result<F>(solo: &Solo, service: Scripted<'_>, f: F) -> Option<Result<u8, u8>>
+where
+    F: Fn(Result<u8, u8>) -> Result<u8, u8> + Copy,
+    requires { F.IsAlwaysCallable f }
+{
+    fire(solo, service.map_result(f), 6)
+}
+
+#[test]
+fn closure_over_results(rt: HostRuntime) -> Result<(), Fail> {
+    let log = Log::new(rt.alloc())?;
+    let script = Script::new(&log);
+    let solo = task(&rt)?;
+    let turned = |answer: Result<u8, u8>| match answer {
+        Ok(x) => Err(x),
+        Err(x) => Ok(x),
+    };
+    assert_eq!(rt;
+        by_result(&solo, Scripted::new(&script, 's'), turned),
+        Some(Err(6))
+    );
+    Ok(())
+}
+
+#[test]
+fn second_future_follows_a_response(rt: HostRuntime) -> Result<(), Fail> {
+    let log = Log::new(rt.alloc())?;
+    let script = Script::new(&log);
+    let solo = task(&rt)?;
+    let again = |x: u8| After::new(&log, 'n', 1, Ok::<u8, u8>(x.wrapping_add(1)));
+    let service = Scripted::new(&script, 's').and_then(again);
+    assert_eq!(rt; fire(&solo, service, 8), Some(Ok(9)));
+    Ok(())
+}
+
+#[test]
+fn closure_over_futures_is_given_each_once(rt: HostRuntime) -> Result<(), Fail> {
+    let log = Log::new(rt.alloc())?;
+    let solo = task(&rt)?;
+    let inner = service_fn(|x: u8| ready(Ok::<u8, u8>(x)));
+    let same = |future: Ready<Result<u8, u8>>| {
+        log.note("given");
+        future
+    };
+    let service = inner.map_future(same);
+    assert_eq!(rt; fire(&solo, service, 6u8), Some(Ok::<u8, u8>(6)));
+    assert_eq!(rt; log.told(rt.alloc())?.as_str(), "given;");
+    Ok(())
+}
