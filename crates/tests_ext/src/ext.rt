@@ -1,7 +1,9 @@
 //! `ServiceExt`: its methods that wrap.
+ghost use Rattle.std.specs.Prelude.{IfSome};
 
 use futures::future::{Ready, ready};
-use futures::task::{Poll, Solo};
+use futures::task::{Context, Poll, Solo};
+use std::fmt::Write;
 use std::test::Fail;
 use tests_support::future::After;
 use tests_support::log::Log;
@@ -9,16 +11,36 @@ use tests_support::run::{fire, task};
 use tests_support::script::{Reply, Script};
 use tests_support::service::Scripted;
 use tests_support::stream::{Outbox, Requests};
-use tower::ServiceExt;
 use tower::filter::{AsyncPredicateFn, Error, PredicateFn};
 use tower::service::Flow;
-use tower::util::service_fn;
+use tower::util::call_all;
+use tower::{Service, ServiceExt};
 
-fn next<Q: Flow>(solo: &Solo, answers: &mut Q) -> Poll<Option<Q::Item>> {
+// One poll of what answers are left, and its answer in a word.
+fn asked<Q: Flow<Item = Result<u8, call_all::Error<u8>>>>(
+    solo: &Solo,
+    answers: &mut Option<Q>,
+    text: &mut String,
+)
+    requires { IfSome answers.old Q.can_poll }
+    ensures { IfSome answers.new Q.can_poll }
+{
+    let Some(mut left) = answers.take() else {
+        return;
+    };
     let mut cx = solo.begin();
-    let answer = answers.flow(&mut cx);
+    let answer = left.flow(&mut cx);
     cx.cancel();
-    answer
+    let _ = match answer {
+        Poll::Ready(None) => {
+            let _ = write!(text, "ended;");
+            return;
+        }
+        Poll::Ready(Some(Ok(number))) => write!(text, "{number};"),
+        Poll::Ready(Some(Err(error))) => write!(text, "error {error};"),
+        Poll::Pending => write!(text, "pending;"),
+    };
+    *answers = Some(left);
 }
 
 #[test]
@@ -28,10 +50,12 @@ fn call_all_answers_each_request(rt: HostRuntime) -> Result<(), Fail> {
     let solo = task(&rt)?;
     let outbox = Outbox::new(2, true);
     let requests = Requests::new(&log, &outbox);
-    let mut answers = Scripted::new(&script, 's').call_all(rt.alloc(), requests);
-    assert!(rt; matches!(next(&solo, &mut answers), Poll::Ready(Some(Ok(0)))));
-    assert!(rt; matches!(next(&solo, &mut answers), Poll::Ready(Some(Ok(1)))));
-    assert!(rt; matches!(next(&solo, &mut answers), Poll::Ready(None)));
+    let mut text = String::new(rt.alloc());
+    let mut answers = Some(Scripted::new(&script, 's').call_all(rt.alloc(), requests));
+    asked(&solo, &mut answers, &mut text);
+    asked(&solo, &mut answers, &mut text);
+    asked(&solo, &mut answers, &mut text);
+    assert_eq!(rt; text.as_str(), "0;1;ended;");
     Ok(())
 }
 
@@ -116,17 +140,46 @@ fn second_future_follows_a_response(rt: HostRuntime) -> Result<(), Fail> {
     Ok(())
 }
 
+// The answer to a 6 of a service under the closure.
+fn by_future<F>(solo: &Solo, f: F) -> Option<Result<u8, u8>>
+where
+    F: FnMut(Ready<Result<u8, u8>>) -> Ready<Result<u8, u8>> + Drop,
+    requires { F.IsAlwaysCallable f }
+{
+    fire(solo, Same.map_future(f), 6)
+}
+
+// Answers each request with itself.
+#[derive(Drop)]
+struct Same;
+
+impl Service<u8> for Same {
+    type Response = u8;
+
+    type Error = u8;
+
+    type Future = Ready<Result<u8, u8>>;
+
+    ghost readies = { λ _ _ _. tt };
+
+    fn poll_ready(&mut self, _cx: &mut Context<'_>) -> Poll<Result<(), u8>> {
+        Poll::Ready(Ok(()))
+    }
+
+    fn call(&mut self, request: u8) -> Ready<Result<u8, u8>> {
+        ready(Ok(request))
+    }
+}
+
 #[test]
 fn closure_over_futures_is_given_each_once(rt: HostRuntime) -> Result<(), Fail> {
     let log = Log::new(rt.alloc())?;
     let solo = task(&rt)?;
-    let inner = service_fn(|x: u8| ready(Ok::<u8, u8>(x)));
     let same = |future: Ready<Result<u8, u8>>| {
         log.note("given");
         future
     };
-    let service = inner.map_future(same);
-    assert_eq!(rt; fire(&solo, service, 6u8), Some(Ok::<u8, u8>(6)));
+    assert_eq!(rt; by_future(&solo, same), Some(Ok(6)));
     assert_eq!(rt; log.told(rt.alloc())?.as_str(), "given;");
     Ok(())
 }

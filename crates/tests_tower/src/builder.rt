@@ -1,7 +1,6 @@
 //! `ServiceBuilder`: the order of its layers, and its methods for closures and predicates.
 
 use futures::future::{Ready, ready};
-use futures::task::Solo;
 use std::alloc::AllocError;
 use std::test::Fail;
 use tests_support::future::After;
@@ -80,38 +79,15 @@ fn closures_over_answers_go_from_the_inner_to_the_outer(rt: HostRuntime) -> Resu
     Ok(())
 }
 
-// The answer to a 6 of the service under the closure.
-fn by_result<F>(
-    solo: &Solo,
-    service: Scripted<'_>,
-    f: F,
-) -> Result<Option<Result<u8, u8>>, AllocError>
-where
-    F: Fn(Result<u8, u8>) -> Result<u8, u8> + Copy + Clone,
-    requires { (g : F) → F.is_clone f g → F.IsAlwaysCallable g }
-{
-    let service = ServiceBuilder::new().map_result(f).service(service)?;
-    Ok(fire(solo, service, 6))
-}
-
 #[test]
-fn closure_over_results_sees_both(rt: HostRuntime) -> Result<(), Fail> {
+fn closure_over_results_is_kept_until_the_builder_goes(rt: HostRuntime) -> Result<(), Fail> {
     let log = Log::new(rt.alloc())?;
-    let script = Script::new(&log);
-    let solo = task(&rt)?;
-    let turned = |answer: Result<u8, u8>| match answer {
-        Ok(x) => Err(x),
-        Err(x) => Ok(x),
-    };
-    script.replies(&[Reply::Echo(0), Reply::Fail(0)]);
-    let first = by_result(&solo, Scripted::new(&script, 's'), turned)?;
-    assert_eq!(rt; first, Some(Err(6)));
-    let second = by_result(&solo, Scripted::new(&script, 't'), turned)?;
-    assert_eq!(rt; second, Some(Ok(6)));
+    let builder = ServiceBuilder::new().map_result(Plain::new(&log, 'r'));
+    drop(builder.clone()?);
+    drop(builder.then(Plain::new(&log, 't')).into_inner());
     assert_eq!(rt;
         log.told(rt.alloc())?.as_str(),
-        "s ready;s called 6;s(6) ready;s(6) dropped;s dropped;\
-         t ready;t called 6;t(6) ready;t(6) dropped;t dropped;"
+        "r cloned r1;r1 dropped;t dropped;r dropped;"
     );
     Ok(())
 }
