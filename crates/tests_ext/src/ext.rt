@@ -140,15 +140,6 @@ fn second_future_follows_a_response(rt: HostRuntime) -> Result<(), Fail> {
     Ok(())
 }
 
-// The answer to a 6 of a service under the closure.
-fn by_future<F>(solo: &Solo, f: F) -> Option<Result<u8, u8>>
-where
-    F: FnMut(Ready<Result<u8, u8>>) -> Ready<Result<u8, u8>> + Drop,
-    requires { F.IsAlwaysCallable f }
-{
-    fire(solo, Same.map_future(f), 6)
-}
-
 // Answers each request with itself.
 #[derive(Drop)]
 struct Same;
@@ -179,7 +170,10 @@ fn closure_over_futures_is_given_each_once(rt: HostRuntime) -> Result<(), Fail> 
         log.note("given");
         future
     };
-    assert_eq!(rt; by_future(&solo, same), Some(Ok(6)));
+    assert_eq!(rt;
+        fire(&solo, Same.map_future(same), 6),
+        Some(Ok::<u8, u8>(6))
+    );
     assert_eq!(rt; log.told(rt.alloc())?.as_str(), "given;");
     Ok(())
 }
