@@ -1,5 +1,5 @@
 -- What the mailbox keeps once the worker is gone.
-use Rattle.std.proofs.Common.{◌≡◌, ◌≢◌, ℕ, ◌+◌, ◌<◌, zero, suc, Bool, true, false, not, cond, List, [], ◌∷◌, length, Option, Some, None, is_some, set, get_or, map, filter, count_by, All, refl, subst, sym, ap, ◌∙◌, ◌≤◌, arith}
+use Rattle.std.proofs.Common.{◌≡◌, ℕ, ◌+◌, ◌<◌, zero, suc, Bool, not, cond, List, [], ◌∷◌, length, Option, None, is_some, set, get_or, map, filter, All, refl, subst, sym, ap, ◌∙◌, ◌≤◌, arith}
 use Rattle.std.proofs.lemmas.List.Sums.{sum_by-cons}
 use Rattle.tower_pool.specs.Letters.{Fits, is_cancelled, is_kept, is_unsettled, lost, lost_by, queued_letters}
 use Rattle.tower_pool.specs.Mail.{Entry, abandoned, left_by, queued}

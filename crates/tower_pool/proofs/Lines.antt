@@ -1,10 +1,8 @@
 -- What holds of each line that a mailbox stands for.
 use Rattle.std.proofs.Common.{◌≡◌, ◌≢◌, ℕ, ◌+◌, ◌-◌, ◌<◌, ◌≤◌, zero, suc, List, [], ◌∷◌, ◌++◌, length, Some, slice_get, slice_set, remove, All, refl, ap, ◌∙◌, arith}
 use Rattle.std.proofs.lemmas.Option.{slice_get_within, get_or_from_slice_get}
-use Rattle.tower_limit.specs.Line.{Ticket, At, Lacks, Steps, keys_of}
+use Rattle.tower_limit.specs.Line.{Ticket, At, Lacks, keys_of}
 use Rattle.tower_limit.specs.LineCore.{holders, HoldersBelow, Stands}
-use Rattle.tower_limit.specs.declared.limit.concurrency.line_core.LineStep.TheVariants.{Release}
-use Rattle.tower_limit.specs.declared.limit.concurrency.line_core.LineReply.TheVariants.{Left}
 use Rattle.tower_pool.specs.Mail.{Leave, holding}
 
 pub counted : (line : List Ticket) → length line ≡ holders line + length (keys_of line)

@@ -1,7 +1,6 @@
 -- What a mailbox serves is the machine's.
-use Rattle.std.proofs.Common.{◌≡◌, List, [], ◌∷◌, length, refl, ◌+◌, ap, subst, sym}
+use Rattle.std.proofs.Common.{◌≡◌, List, [], ◌∷◌, refl, ◌+◌, ap, subst, sym}
 use Rattle.tower_base.specs.Latch.{FollowsMachine, StepsAs}
-use Rattle.tower_limit.specs.Line.{Ticket}
 use Rattle.tower_pool.specs.Letters.{queued_letters}
 use Rattle.tower_pool.specs.Mail.{Entry, Mail, MailSteps}
 use Rattle.tower_pool.specs.Mailbox.{Follows, StandsFor, plain_of, present}

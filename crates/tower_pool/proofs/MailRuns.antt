@@ -1,8 +1,8 @@
 -- The laws of mail.
-use Rattle.std.proofs.Common.{◌≡◌, ◌⊎◌, inl, inr, ℕ, zero, suc, ◌<◌, true, false, unwrap_or, Option, Some, None, List, [], ◌∷◌, ◌++◌, slice_get, slice_set, refl, sym, ap, subst, ◌∙◌, arith}
+use Rattle.std.proofs.Common.{◌≡◌, inl, inr, ℕ, zero, suc, ◌<◌, true, false, unwrap_or, Option, Some, None, List, [], ◌∷◌, ◌++◌, slice_set, refl, sym, ap, subst, ◌∙◌, arith}
 use Rattle.tower_base.specs.Latch.{Serves}
 use Rattle.tower_pool.specs.Mail.{At, Clears, Entry, Mail, MailSteps, Settles, abandoned, left_by}
-use Rattle.tower_pool.specs.MailLaws.{Grow, Lasts, fate_of, request_of}
+use Rattle.tower_pool.specs.MailLaws.{Grow, Lasts}
 use Rattle.tower_pool.specs.declared.buffer.letter.Fate.{Fate}
 use Rattle.tower_pool.specs.declared.buffer.letter.Fate.TheVariants.{Open, Answered, Failed as HasFailed, Cancelled, Lost as WasLost}
 use Rattle.tower_pool.specs.declared.buffer.letter.Letter.{Letter}

@@ -1,14 +1,14 @@
 -- One message among all that were sent, as the mailbox finds it.
-use Rattle.std.proofs.Common.{◌≡◌, ◌≢◌, ◌⊎◌, inl, inr, ℕ, zero, suc, ◌+◌, ◌<◌, ◌≤◌, Bool, true, false, length, List, Option, Some, None, is_some, slice_get, slice_set, remove, position, All, refl, subst, sym, ap, ◌∙◌, arith}
+use Rattle.std.proofs.Common.{◌≡◌, inl, inr, ℕ, zero, suc, ◌<◌, ◌≤◌, Bool, true, false, length, List, Option, Some, None, is_some, slice_get, slice_set, remove, position, All, refl, subst, sym, ap, ◌∙◌, arith}
 use Rattle.std.proofs.lemmas.Option.{slice_get_cases}
-use Rattle.tower_pool.specs.Letters.{Finishes, Fits, is_failed, is_taken, is_unsettled, queued_letters}
+use Rattle.tower_pool.specs.Letters.{Finishes, Fits, is_taken, queued_letters}
 use Rattle.tower_pool.specs.Mail.{Clears, Entry, At, Mail, NoneQueued, NoneWith, Settles, is_over}
 use Rattle.tower_pool.specs.Mailbox.{present}
 use Rattle.tower_pool.specs.declared.buffer.letter.Fate.{Fate}
-use Rattle.tower_pool.specs.declared.buffer.letter.Fate.TheVariants.{Open, Failed, Cancelled}
+use Rattle.tower_pool.specs.declared.buffer.letter.Fate.TheVariants.{Failed, Cancelled}
 use Rattle.tower_pool.specs.declared.buffer.letter.Letter.{Letter}
 use Rattle.tower_pool.proofs.Messages.{found, holds_at, index_of, none_with}
-use Rattle.tower_pool.proofs.Positions.{at_position, changed, closed_now, fewer, no_position, not_some, one_queued, taken_tells}
+use Rattle.tower_pool.proofs.Positions.{at_position, changed, fewer, no_position, not_some, one_queued, taken_tells}
 
 -- there is one at a place below the length
 pub item_at : {X : Type 0} (xs : List X) (i : ℕ) → i < length xs → (x : X) × (slice_get xs i ≡ Some x)

@@ -1,5 +1,5 @@
 -- What a closed mail tells.
-use Rattle.std.proofs.Common.{◌≡◌, ◌≢◌, ◌<◌, ◌-◌, ℕ, true, false, is_some, slice_set, ap, sym, Option, Some, None, List, remove, refl}
+use Rattle.std.proofs.Common.{◌≡◌, ◌≢◌, ◌<◌, ◌-◌, ℕ, true, false, is_some, slice_set, ap, sym, Option, Some, None, remove, refl}
 use Rattle.tower_limit.specs.Line.{Ticket, At as TicketAt}
 use Rattle.tower_pool.specs.Mail.{At, Entry, Mail, MailSteps, Tells}
 use Rattle.tower_pool.specs.declared.buffer.mail.MailStep.TheVariants.{Outcome, Send}

@@ -1,7 +1,7 @@
 -- The messages that have their ids.
-use Rattle.std.specs.Prelude.{◌≡◌, ◌≢◌, ◌⊎◌, slice_get, slice_set, remove, ◌<◌, ◌==◌, ◌&&◌, ℕ, Bool, true, false, not, Option, Some, None, List, [], ◌∷◌, count_by, is_some, is_none}
+use Rattle.std.specs.Prelude.{◌≡◌, ◌≢◌, ◌⊎◌, slice_get, slice_set, remove, ◌<◌, ◌==◌, ◌&&◌, ℕ, Bool, true, false, not, Option, Some, None, List, count_by, is_some, is_none}
 use Rattle.tower_pool.specs.declared.buffer.letter.Fate.{Fate}
-use Rattle.tower_pool.specs.declared.buffer.letter.Fate.TheVariants.{Open, Answered, Failed, Cancelled, Lost}
+use Rattle.tower_pool.specs.declared.buffer.letter.Fate.TheVariants.{Open, Failed, Cancelled, Lost}
 use Rattle.tower_pool.specs.declared.buffer.letter.Letter.{Letter}
 
 module _ {F : Type 0} where

@@ -1,7 +1,11 @@
+pub mod Buffer
+pub mod BufferReady
 pub mod Letters
 pub mod Mail
 pub mod MailLaws
 pub mod Mailbox
+pub mod Making
 pub mod ReadyCache
 pub mod ReadyCacheLends
 pub mod ReadyCachePoll
+pub mod Worker

@@ -1,6 +1,5 @@
 -- Which plain mails a `Mailbox` stands for.
-use Rattle.std.specs.Prelude.{◌≡◌, ◌<◌, ◌+◌, ℕ, List, [], ◌∷◌, count_by, is_some, Bool}
-use Rattle.tower_base.specs.Latch.{FollowsMachine}
+use Rattle.std.specs.Prelude.{◌≡◌, ◌<◌, ◌+◌, ℕ, List, [], ◌∷◌}
 use Rattle.tower_limit.specs.Line.{Ticket}
 use Rattle.tower_limit.specs.LineCore.{Stands}
 use Rattle.tower_pool.specs.Mail.{Entry, Mail, MailSteps, blank}

@@ -1,4 +1,4 @@
-use Rattle.std.proofs.Common.{◌≡◌, ◌<◌, arith, length, ◌∙◌, None, is_some, ap, slice_get, slice_set, sym}
+use Rattle.std.proofs.Common.{◌<◌, arith, length, ◌∙◌, is_some, ap, slice_set, sym}
 use Rattle.std.proofs.lemmas.Option.{get_or_from_slice_get, slice_get-get_or}
 use Rattle.tower_pool.specs.declared.buffer.letter.Letter.{Letter}
 use Rattle.tower_pool.proofs.Positions.{never}

@@ -1,4 +1,4 @@
-use Rattle.std.proofs.Common.{◌∙◌, inr, refl, remove, sym, ap}
+use Rattle.std.proofs.Common.{◌∙◌, inr, refl, remove}
 use Rattle.tower_pool.proofs.Lines.{found, lacks}
 use Rattle.tower_pool.proofs.buffer.mailbox.Mailbox.cancel.Goals as goal
 

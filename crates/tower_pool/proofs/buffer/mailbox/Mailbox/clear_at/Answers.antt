@@ -1,10 +1,10 @@
-use Rattle.std.proofs.Common.{◌≡◌, ◌<◌, ◌∙◌, false, is_some, remove, slice_set, refl, sym, ap, arith}
+use Rattle.std.proofs.Common.{◌<◌, ◌∙◌, is_some, remove, slice_set, refl, sym, ap, arith}
 use Rattle.tower_pool.specs.Letters.{queued_letters}
 use Rattle.tower_pool.specs.Mail.{Entry}
 use Rattle.tower_pool.specs.declared.buffer.letter.Fate.TheVariants.{Cancelled}
 use Rattle.tower_pool.proofs.Lines.{leaves}
 use Rattle.tower_pool.proofs.Moves.{there}
-use Rattle.tower_pool.proofs.Positions.{at_position, fewer, not_some, one_queued, one_some, some_of}
+use Rattle.tower_pool.proofs.Positions.{at_position, fewer, not_some, one_some, some_of}
 use Rattle.tower_pool.proofs.buffer.mailbox.Mailbox.clear_at.Goals as goal
 
 pub invariant_of-self : goal.invariant_of-self

@@ -1,5 +1,5 @@
 use Rattle.std.proofs.Common.{is_some, ◌≡◌, ◌∙◌, None, Some, position, refl, sym, ap, arith}
-use Rattle.tower_pool.specs.Letters.{is_taken, queued_letters}
+use Rattle.tower_pool.specs.Letters.{is_taken}
 use Rattle.tower_pool.specs.Mail.{IsTaken, holding}
 use Rattle.tower_pool.proofs.Lines.{closes}
 use Rattle.tower_pool.proofs.Moves.{finished, not_there, stays_well}

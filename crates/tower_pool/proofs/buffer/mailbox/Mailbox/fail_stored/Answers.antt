@@ -1,5 +1,5 @@
-use Rattle.std.proofs.Common.{◌≡◌, ◌∙◌, None, Some, not, true, is_some, position, inl, inr, refl, sym, ap, arith}
-use Rattle.tower_pool.specs.Letters.{is_taken, queued_letters}
+use Rattle.std.proofs.Common.{◌≡◌, ◌∙◌, None, Some, not, true, is_some, position, inr, refl, ap, arith}
+use Rattle.tower_pool.specs.Letters.{is_taken}
 use Rattle.tower_pool.specs.Mail.{IsTaken}
 use Rattle.tower_pool.proofs.Moves.{finished, not_there, stays_well}
 use Rattle.tower_pool.proofs.Positions.{not_taken}

@@ -1,4 +1,4 @@
-use Rattle.std.proofs.Common.{◌≤◌, ◌<◌, ◌∙◌, refl, remove, slice_set, arith}
+use Rattle.std.proofs.Common.{◌≤◌, ◌<◌, refl, slice_set, arith}
 use Rattle.tower_limit.specs.Line.{Ticket}
 use Rattle.tower_pool.proofs.Lines.{found, lacks}
 use Rattle.tower_pool.proofs.buffer.mailbox.Mailbox.look.Goals as goal

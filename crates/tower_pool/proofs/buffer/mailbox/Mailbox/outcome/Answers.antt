@@ -1,5 +1,4 @@
-use Rattle.std.proofs.Common.{inl, inr, ◌≡◌, ◌≢◌, ◌<◌, ◌∙◌, None, Some, length, position, slice_set, unwrap_or, refl, sym, ap, arith}
-use Rattle.std.proofs.lemmas.Option.{slice_get_within}
+use Rattle.std.proofs.Common.{inl, inr, ◌≡◌, ◌≢◌, ◌∙◌, None, Some, position, slice_set, unwrap_or, refl, sym, ap, arith}
 use Rattle.tower_pool.specs.Letters.{Fits, is_known, queued_letters}
 use Rattle.tower_pool.specs.Mail.{Entry}
 use Rattle.tower_pool.specs.declared.buffer.letter.Fate.TheVariants.{Cancelled}

@@ -1,4 +1,4 @@
-use Rattle.std.proofs.Common.{◌≡◌, ◌≤◌, ◌∙◌, ◌++◌, ◌∷◌, [], length, refl, sym, ap, inl, arith}
+use Rattle.std.proofs.Common.{◌≤◌, ◌∙◌, ◌++◌, ◌∷◌, [], length, refl, ap, arith}
 use Rattle.tower_limit.specs.Line.{Ticket}
 use Rattle.tower_pool.proofs.Lines.{counted, lacks, waits_last}
 use Rattle.tower_pool.proofs.buffer.mailbox.Mailbox.queue_up.Goals as goal

@@ -1,4 +1,4 @@
-use Rattle.std.proofs.Common.{◌≡◌, ◌<◌, ◌+◌, ◌++◌, ◌∷◌, [], ◌∙◌, true, Some, refl, sym, ap, arith}
+use Rattle.std.proofs.Common.{◌≡◌, ◌<◌, ◌+◌, ◌++◌, ◌∷◌, [], ◌∙◌, Some, refl, sym, ap, arith}
 use Rattle.tower_pool.specs.Letters.{queued_letters}
 use Rattle.tower_pool.specs.Mail.{Entry}
 use Rattle.tower_pool.specs.declared.buffer.letter.Fate.TheVariants.{Open}

@@ -1,6 +1,6 @@
-use Rattle.std.proofs.Common.{◌≡◌, ◌∙◌, ◌<◌, ◌≤◌, zero, suc, not, nat_lt, None, Some, true, false, is_some, unwrap_or, position, refl, sym, ap, arith}
+use Rattle.std.proofs.Common.{◌≡◌, ◌∙◌, suc, None, Some, true, false, is_some, unwrap_or, position, sym, ap, arith}
 use Rattle.std.proofs.lemmas.Bool.{lt-ltb, ltb-false, ltb-true}
-use Rattle.tower_pool.specs.Letters.{Fits, is_cancelled, is_unsettled}
+use Rattle.tower_pool.specs.Letters.{Fits}
 use Rattle.tower_pool.proofs.Messages.{holds_at}
 use Rattle.tower_pool.proofs.Moves.{cleared_none, cleared_some, none_queued}
 use Rattle.tower_pool.proofs.Positions.{at_position, cancelled_is, open_queued, still_unsettled}

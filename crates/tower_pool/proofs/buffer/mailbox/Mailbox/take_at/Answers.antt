@@ -1,9 +1,9 @@
-use Rattle.std.proofs.Common.{unwrap_or, ◌≡◌, ◌<◌, ◌∙◌, None, is_some, remove, slice_set, refl, sym, ap, arith}
+use Rattle.std.proofs.Common.{unwrap_or, ◌<◌, ◌∙◌, None, is_some, remove, slice_set, refl, sym, ap, arith}
 use Rattle.tower_pool.specs.Letters.{queued_letters}
 use Rattle.tower_pool.specs.Mail.{Entry}
 use Rattle.tower_pool.proofs.Lines.{leaves}
 use Rattle.tower_pool.proofs.Moves.{there}
-use Rattle.tower_pool.proofs.Positions.{at_position, not_some, one_some, opened}
+use Rattle.tower_pool.proofs.Positions.{at_position, not_some, opened}
 use Rattle.tower_pool.proofs.buffer.mailbox.Mailbox.take_at.Goals as goal
 
 pub invariant_of-self : goal.invariant_of-self

@@ -1,4 +1,4 @@
-use Rattle.std.proofs.Common.{◌≡◌, ◌<◌, ◌∙◌, Some, true, is_some, length, remove, slice_get, slice_set, refl, sym, ap, arith}
+use Rattle.std.proofs.Common.{◌<◌, ◌∙◌, length, remove, slice_set, refl, sym, ap, arith}
 use Rattle.tower_pool.specs.Letters.{Fits, is_failed, is_unsettled, queued_letters}
 use Rattle.tower_pool.specs.Mail.{Entry}
 use Rattle.tower_pool.proofs.Messages.{found, holds_at}

@@ -1,4 +1,4 @@
-use Rattle.std.proofs.Common.{◌≡◌, ◌∙◌, filter, map, refl, sym, ap, arith}
+use Rattle.std.proofs.Common.{◌∙◌, filter, map, refl, sym, ap, arith}
 use Rattle.tower_pool.specs.Letters.{is_kept, lost, queued_letters}
 use Rattle.tower_pool.specs.Mail.{abandoned, holding}
 use Rattle.tower_pool.proofs.Abandoned.{all_left, left, queued_present}

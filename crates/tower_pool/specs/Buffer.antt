@@ -1,0 +1,143 @@
+-- The machine of `Buffer` and of its response future.
+use Rattle.std.specs.Prelude.{◌≡◌, ◌⊎◌, ℕ, Option, None, Some, Result, Ok, Err, IsSome}
+use Rattle.std.specs.declared.alloc.AllocError.{AllocError}
+use Rattle.futures.specs.declared.task.Poll.{Poll}
+use Rattle.futures.specs.declared.task.Poll.TheVariants.{Ready, Pending}
+use Rattle.tower_pool.specs.declared.buffer.error.Error.{Error}
+use Rattle.tower_pool.specs.declared.buffer.error.Error.TheVariants.{Service as HasFailed, Closed as IsClosed, Memory as NoMemory}
+use Rattle.tower_pool.specs.declared.buffer.seat.Seat.{Seat}
+use Rattle.tower_pool.specs.declared.buffer.seat.Seat.TheVariants.{Away, Asking, Reserved}
+use Rattle.tower_pool.specs.declared.buffer.seat.Stage.{Stage}
+use Rattle.tower_pool.specs.declared.buffer.seat.Stage.TheVariants.{Told, Sent as IsSent, Polls}
+use Rattle.tower_pool.specs.declared.buffer.mail.MailStep.{MailStep}
+use Rattle.tower_pool.specs.declared.buffer.mail.MailStep.TheVariants.{Join, Reserve, Look, Cancel, Unreserve, Send, Outcome, Forget}
+use Rattle.tower_pool.specs.declared.buffer.mail.MailReply.{MailReply}
+use Rattle.tower_pool.specs.declared.buffer.mail.MailReply.TheVariants.{Done, Place, Waiting, Memory, Failed, Closed, Sent, Future, Lost, Unknown}
+
+-- a `Buffer`: its share of the mail, its seat there, and the share that it keeps for a response
+pub record BufferView (L : Type 0) : Type 0 where
+  pub latch : L
+  pub seat : Seat
+  pub share : Option L
+
+-- the step that asks for a place
+abbrev pub step_of : {Q F E : Type 0} → Seat → MailStep Q F E
+step_of (Asking key) = Look key
+step_of _ = Reserve
+
+-- the service's own error, as callers get it
+abbrev pub failed : {E : Type 0} → E → Error E
+failed e = HasFailed (record { error = e })
+
+module _ {L Q F E : Type 0} (gave : L → MailStep Q F E → MailReply Q F E → Type 0) (shares : L → Result L AllocError → Type 0) where
+  -- what the asker answers after the reply, and where it sits then
+  abbrev pub Replies : Seat → MailReply Q F E → Poll (Result (Unit {0}) (Error E)) → Seat → Type 0
+  Replies old Place answer new = (answer ≡ Ready (Ok tt)) × (new ≡ Reserved)
+  Replies old (Waiting key) answer new = (answer ≡ Pending) × (new ≡ Asking key)
+  Replies old Memory answer new = (answer ≡ Ready (Err NoMemory)) × (new ≡ old)
+  Replies old (Failed e) answer new = (answer ≡ Ready (Err (failed e))) × (new ≡ Away)
+  Replies old Closed answer new = (answer ≡ Ready (Err IsClosed)) × (new ≡ Away)
+  Replies old Unknown answer new = (answer ≡ Pending) × (new ≡ old)
+  Replies old _ answer new = ⊥
+
+  -- the response's share is refused, and that is all
+  abbrev pub Refused : BufferView L → Poll (Result (Unit {0}) (Error E)) → BufferView L → Type 0
+  Refused old answer new = (error : AllocError) × (old.share ≡ None) × shares old.latch (Err error) × (answer ≡ Ready (Err NoMemory)) × (new ≡ old)
+
+  -- the response's share is there or is made, and one step asks for a place
+  pub record Asked (old : BufferView L) (answer : Poll (Result (Unit {0}) (Error E))) (new : BufferView L) : Type 0 where
+    pub share : L
+    pub has : (old.share ≡ Some share) ⊎ ((old.share ≡ None) × shares old.latch (Ok share))
+    pub reply : MailReply Q F E
+    pub gave_reply : gave old.latch (step_of old.seat) reply
+    pub replies : Replies old.seat reply answer new.seat
+    pub kept : new.share ≡ Some share
+    pub same : new.latch ≡ old.latch
+
+  abbrev pub PolledAt : Seat → BufferView L → Poll (Result (Unit {0}) (Error E)) → BufferView L → Type 0
+  PolledAt Reserved old answer new = (answer ≡ Ready (Ok tt)) × (new ≡ old)
+  PolledAt _ old answer new = Refused old answer new ⊎ Asked old answer new
+
+  -- a poll of readiness: with a place it is `Ok` without a step
+  abbrev pub Polled : BufferView L → Poll (Result (Unit {0}) (Error E)) → BufferView L → Type 0
+  Polled old answer new = PolledAt old.seat old answer new
+
+  -- what a call gives after the reply: a message that was sent takes the share along
+  abbrev pub Sends : BufferView L → L → MailReply Q F E → Stage L F (Error E) → BufferView L → Type 0
+  Sends old share (Sent id) future new = (future ≡ IsSent share id) × (new ≡ record { latch = old.latch; seat = Away; share = None })
+  Sends old share (Failed e) future new = (future ≡ Told (Some (failed e))) × (new ≡ record old { seat = Away })
+  Sends old share Closed future new = (future ≡ Told (Some IsClosed)) × (new ≡ record old { seat = Away })
+  Sends old share Unknown future new = (future ≡ Told (Some IsClosed)) × (new ≡ record old { seat = Away })
+  Sends old share Memory future new = (future ≡ Told (Some NoMemory)) × (new ≡ old)
+  Sends old share _ future new = ⊥
+
+  -- a call: one step, which sends into the reserved place
+  pub record Called (old : BufferView L) (request : Q) (future : Stage L F (Error E)) (new : BufferView L) : Type 0 where
+    pub reserved : old.seat ≡ Reserved
+    pub share : L
+    pub has : old.share ≡ Some share
+    pub reply : MailReply Q F E
+    pub gave_reply : gave old.latch (Send request) reply
+    pub sends : Sends old share reply future new
+
+-- the inner future's answer, with the service's own error
+abbrev pub outward : {A E : Type 0} → Poll (Result A E) → Poll (Result A (Error E))
+outward (Ready (Ok x)) = Ready (Ok x)
+outward (Ready (Err e)) = Ready (Err (failed e))
+outward Pending = Pending
+
+-- one poll of the inner future
+abbrev pub Carries : {F E A : Type 0} → (F → Poll (Result A E) → F → Type 0) → F → Poll (Result A (Error E)) → F → Type 0
+Carries {E = E} {A = A} stepped old answer new = (inner : Poll (Result A E)) × stepped old inner new × (answer ≡ outward inner)
+
+module _ {L Q F E A : Type 0} (gave : L → MailStep Q F E → MailReply Q F E → Type 0) (stepped : F → Poll (Result A E) → F → Type 0) where
+  -- what a response answers after the reply to its question, and its stage then; a future that came is polled at once
+  abbrev pub Tells : L → ℕ → MailReply Q F E → Poll (Result A (Error E)) → Stage L F (Error E) → Type 0
+  Tells latch id (Waiting again) answer new = (answer ≡ Pending) × (new ≡ IsSent latch id)
+  Tells latch id Unknown answer new = (answer ≡ Pending) × (new ≡ IsSent latch id)
+  Tells latch id (Future future) answer new = (left : F) × Carries stepped future answer left × (new ≡ Polls left)
+  Tells latch id (Failed e) answer new = (answer ≡ Ready (Err (failed e))) × (new ≡ Told None)
+  Tells latch id Lost answer new = (answer ≡ Ready (Err IsClosed)) × (new ≡ Told None)
+  Tells latch id Memory answer new = (answer ≡ Ready (Err NoMemory)) × (new ≡ IsSent latch id)
+  Tells latch id _ answer new = ⊥
+
+  -- a poll of the response: what was told at the call; one step that asks for the outcome; or one poll of the inner future
+  abbrev pub Stepped : Stage L F (Error E) → Poll (Result A (Error E)) → Stage L F (Error E) → Type 0
+  Stepped (Told (Some error)) answer new = (answer ≡ Ready (Err error)) × (new ≡ Told None)
+  Stepped (Told None) answer new = ⊥
+  Stepped (IsSent latch id) answer new = (reply : MailReply Q F E) × gave latch (Outcome id) reply × Tells latch id reply answer new
+  Stepped (Polls future) answer new = (left : F) × Carries stepped future answer left × (new ≡ Polls left)
+
+-- a response may be polled: it has something to tell, or asks, or its inner future may be polled
+abbrev pub CanPoll : {L F E : Type 0} → (F → Type 0) → Stage L F (Error E) → Type 0
+CanPoll can_poll (Told (Some error)) = Unit {0}
+CanPoll can_poll (Told None) = ⊥
+CanPoll can_poll (IsSent latch id) = Unit {0}
+CanPoll can_poll (Polls future) = can_poll future
+
+-- the sources that a response waits for: those of its inner future
+abbrev pub Needs : {L F E : Type 0} → (F → ℕ → Type 0) → Stage L F E → ℕ → Type 0
+Needs needs (Polls future) = needs future
+Needs needs _ = λ source. ⊥
+
+-- one that goes away gives up its wait or its place, by one step
+abbrev pub GivesUp : {L Q F E : Type 0} → (L → MailStep Q F E → MailReply Q F E → Type 0) → L → Seat → Type 0
+GivesUp gave latch Away = Unit {0}
+GivesUp {Q = Q} {F = F} {E = E} gave latch (Asking key) = (reply : MailReply Q F E) × gave latch (Cancel key) reply
+GivesUp {Q = Q} {F = F} {E = E} gave latch Reserved = (reply : MailReply Q F E) × gave latch Unreserve reply
+
+-- a response that goes away before its outcome came makes the mail forget its message, by one step
+abbrev pub Forgets : {L Q F E X : Type 0} → (L → MailStep Q F E → MailReply Q F E → Type 0) → Stage L X (Error E) → Type 0
+Forgets {Q = Q} {F = F} {E = E} gave (IsSent latch id) = (reply : MailReply Q F E) × gave latch (Forget id) reply
+Forgets gave _ = Unit {0}
+
+-- a clone: over a share that its latch made, of one `Buffer` more, without a place, a wait or a kept share
+pub record IsClone {L Q F E : Type 0} (gave : L → MailStep Q F E → MailReply Q F E → Type 0) (shares : L → Result L AllocError → Type 0) (old copy : BufferView L) : Type 0 where
+  pub shared : shares old.latch (Ok copy.latch)
+  pub latch : (step : MailStep Q F E) (reply : MailReply Q F E) → gave copy.latch step reply → gave old.latch step reply
+  pub joined : gave old.latch Join Done
+  pub away : copy ≡ record { latch = copy.latch; seat = Away; share = None }
+
+-- with a place reserved, the response's share is there
+abbrev pub HasShare : {L : Type 0} → BufferView L → Type 0
+HasShare buffer = buffer.seat ≡ Reserved → IsSome buffer.share

@@ -1,0 +1,163 @@
+//! The response of a `Buffer`.
+ghost use Rattle.std.specs.Prelude.{◌≡◌, Some};
+ghost use Rattle.futures.specs.Poll.{IfReady, OnPending};
+ghost use Rattle.futures.specs.Task.{Covers, Keeps};
+ghost use Rattle.tower_base.specs.Gives.{MayGive};
+ghost use Rattle.tower_pool.specs.Buffer.{CanPoll, Carries, Forgets, Needs, Stepped};
+ghost use Rattle.tower_pool.specs.declared.buffer.seat.Stage.{Stage};
+ghost use Rattle.tower_pool.specs.declared.buffer.seat.Stage.TheVariants.{Told, Sent as IsSent};
+ghost use Rattle.tower_pool.specs.declared.buffer.error.Error.{Error as BufferError};
+
+use crate::buffer::error::{Error, ServiceError};
+use crate::buffer::mail::{MailReply, MailStep};
+use crate::buffer::mail_core::MailCore;
+use crate::buffer::seat::Stage;
+use futures::future::Future;
+use futures::task::{Context, Poll};
+use std::marker::{Model, PhantomData};
+use std::mem;
+use tower_base::latch::Latch;
+use tower_base::latch::held::Pollable;
+use tower_base::service::Steps;
+
+/// The response of a message: the Rust's `tower::buffer::future::ResponseFuture`.
+///
+/// It waits for the outcome of its message, and polls the inner future in the same poll. One that goes
+/// away before makes the mail forget its message.
+pub struct ResponseFuture<
+    Request: Drop,
+    F: Future + Drop,
+    E: Clone,
+    L: Latch<MailCore<Request, Pollable<F>, E>>,
+> {
+    stage: Stage<L, F, Error<E>>,
+    of: PhantomData<(Request, E)>,
+}
+
+impl<Request: Drop, F: Future + Drop, E: Clone, L: Latch<MailCore<Request, Pollable<F>, E>>> Model
+    for ResponseFuture<Request, F, E, L> {
+    ghost Value = { Stage L F (BufferError E) };
+
+    ghost view = { λ f. f.stage };
+}
+
+impl<Request: Drop, F: Future + Drop, E: Clone, L: Latch<MailCore<Request, Pollable<F>, E>>> Drop
+    for ResponseFuture<Request, F, E, L> {
+    fn drop(self)
+        ensures { Forgets L.gave self }
+    {
+        if let Stage::Sent(latch, id) = &self.stage {
+            latch.step(MailStep::Forget(*id));
+        }
+        let ResponseFuture { stage: _, of: _ } = self;
+    }
+}
+
+impl<
+    Request: Drop,
+    F: Future + Drop,
+    E: Clone,
+    L: Latch<MailCore<Request, Pollable<F>, E>>,
+> ResponseFuture<Request, F, E, L> {
+    pub(crate) fn sent(latch: L, id: u64) -> Self
+        ensures { result ≡ IsSent latch id }
+    {
+        ResponseFuture {
+            stage: Stage::Sent(latch, id),
+            of: PhantomData,
+        }
+    }
+
+    pub(crate) fn told(error: Error<E>) -> Self
+        ensures { result ≡ Told (Some error) }
+    {
+        ResponseFuture {
+            stage: Stage::Told(Some(error)),
+            of: PhantomData,
+        }
+    }
+}
+
+impl<Request, T, E, F, L> Future for ResponseFuture<Request, F, E, L>
+where
+    Request: Drop,
+    E: Clone,
+    F: Steps<Output = Result<T, E>> + Drop,
+    L: Latch<MailCore<Request, Pollable<F>, E>>,
+{
+    type Output = Result<T, Error<E>>;
+
+    ghost can_poll = { CanPoll F.can_poll };
+
+    ghost gives = { MayGive (Stepped L.gave F.stepped) };
+
+    ghost needs = { Needs F.needs };
+
+    fn poll(&mut self, cx: &mut Context<'_>) -> Poll<Self::Output>
+        requires { CanPoll F.can_poll self.old }
+        ensures step { Stepped L.gave F.stepped self.old result self.new }
+        ensures value { IfReady result (MayGive (Stepped L.gave F.stepped) self.old) }
+        ensures again { OnPending result (CanPoll F.can_poll self.new) }
+        ensures same { OnPending result ((x : _) → MayGive (Stepped L.gave F.stepped) self.new x → MayGive (Stepped L.gave F.stepped) self.old x) }
+        ensures registered { OnPending result (Covers cx.new (Needs F.needs self.new)) }
+        ensures kept { Keeps cx.old cx.new }
+    {
+        self.step(cx)
+    }
+}
+
+impl<Request, T, E, F, L> Steps for ResponseFuture<Request, F, E, L>
+where
+    Request: Drop,
+    E: Clone,
+    F: Steps<Output = Result<T, E>> + Drop,
+    L: Latch<MailCore<Request, Pollable<F>, E>>,
+{
+    ghost stepped = { Stepped L.gave F.stepped };
+
+    fn step(&mut self, cx: &mut Context<'_>) -> Poll<Self::Output> {
+        let (latch, id) = match &mut self.stage {
+            Stage::Told(error) => return Poll::Ready(Err(error.take().unwrap())),
+            Stage::Polls(future) => return carry(future, cx),
+            Stage::Sent(latch, id) => (latch, *id),
+        };
+        match latch.wait(MailStep::Outcome(id), cx) {
+            MailReply::Waiting(_) => Poll::Pending,
+            MailReply::Unknown => cx.yield_now(),
+            MailReply::Memory => Poll::Ready(Err(Error::Memory)),
+            MailReply::Failed(error) => {
+                self.stage = Stage::Told(None);
+                Poll::Ready(Err(Error::Service(ServiceError { error })))
+            }
+            MailReply::Lost => {
+                self.stage = Stage::Told(None);
+                Poll::Ready(Err(Error::Closed))
+            }
+            MailReply::Future(future) => {
+                self.stage = Stage::Polls(future.into_inner());
+                let Stage::Polls(future) = &mut self.stage else {
+                    unreachable!();
+                };
+                carry(future, cx)
+            }
+            _ => unreachable!(),
+        }
+    }
+}
+
+// One poll of the inner future, with the service's own error.
+fn carry<T, E, F>(future: &mut F, cx: &mut Context<'_>) -> Poll<Result<T, Error<E>>>
+where
+    F: Steps<Output = Result<T, E>>,
+    requires { F.can_poll future.old }
+    ensures step { Carries F.stepped future.old result future.new }
+    ensures again { OnPending result (F.can_poll future.new) }
+    ensures registered { OnPending result (Covers cx.new (F.needs future.new)) }
+    ensures kept { Keeps cx.old cx.new }
+{
+    match future.step(cx) {
+        Poll::Ready(Ok(value)) => Poll::Ready(Ok(value)),
+        Poll::Ready(Err(error)) => Poll::Ready(Err(Error::Service(ServiceError { error }))),
+        Poll::Pending => Poll::Pending,
+    }
+}

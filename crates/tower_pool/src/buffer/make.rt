@@ -1,0 +1,127 @@
+//! How a `Buffer` and its worker are made.
+ghost use Rattle.std.specs.Prelude.{◌≡◌, ◌<◌, ◌↔◌, IfOk, IsTrue};
+ghost use Rattle.tower_pool.specs.Making.{Begins, HandsOver, IsPair, Paired, idle};
+
+use crate::buffer::error::Error;
+use crate::buffer::mail_core::MailCore;
+use crate::buffer::service::Buffer;
+use crate::buffer::worker::Worker;
+use futures::future::Future;
+use std::alloc::{AllocError, Global};
+use std::sync::Wait;
+use tower_base::latch::held::Pollable;
+use tower_base::latch::{Guarded, Latch};
+use tower_base::service::{Executor, Service};
+
+impl<Request: Drop, F: Future + Drop, E: Clone, L: Latch<MailCore<Request, Pollable<F>, E>>> Buffer<
+    Request,
+    F,
+    E,
+    L,
+> {
+    /// A `Buffer` and its worker over a latch of the caller's, whose mail nobody has asked yet. Where the
+    /// latch refuses the worker's share, latch and service are dropped.
+    pub fn with_latch<S>(
+        latch: L,
+        service: S,
+    ) -> Result<(Self, Worker<S, Request, F, E, L>), AllocError>
+    where
+        S: Service<Request, Error = E, Future = F>,
+        ensures { IfOk result (λ made. Paired L.shares latch service made.0 made.1) }
+    {
+        let share = latch.share()?;
+        Ok((Buffer::away(latch), Worker::idle(share, service)))
+    }
+
+    // The executor has the worker.
+    fn begin<S, X>(latch: L, service: S, executor: &X) -> Result<Self, Error<E>>
+    where
+        S: Service<Request, Error = E, Future = F>,
+        X: Executor<Worker<S, Request, F, E, L>>,
+        requires can_spawn { (share : _) → X.can_spawn executor.now (idle share service) }
+        ensures { Begins X.spawned executor.now service result }
+    {
+        let Ok((buffer, worker)) = Buffer::with_latch(latch, service) else {
+            return Err(Error::Memory);
+        };
+        hand_over(executor, worker, buffer)
+    }
+
+    /// The bound is one that `pair`, `new` and `BufferLayer::new` take: it isn't 0.
+    pub fn fits(bound: usize) -> bool
+        ensures { IsTrue result ↔ (0 < bound) }
+    {
+        bound > 0
+    }
+}
+
+impl<Request: Drop, F: Future + Drop, E: Clone, R: Wait + Copy> Buffer<
+    Request,
+    F,
+    E,
+    Guarded<MailCore<Request, Pollable<F>, E>, R>,
+> {
+    /// A `Buffer` of so many places and its worker, which the caller drives: the Rust's
+    /// `tower::buffer::Buffer::pair`. It asks for what `fits` tests, and for errors whose clones equal what
+    /// was cloned. Without memory the service is dropped.
+    pub fn pair<S>(
+        rt: R,
+        alloc: Global,
+        service: S,
+        bound: usize,
+    ) -> Result<
+        (
+            Self,
+            Worker<S, Request, F, E, Guarded<MailCore<Request, Pollable<F>, E>, R>>,
+        ),
+        AllocError,
+    >
+    where
+        S: Service<Request, Error = E, Future = F>,
+        requires positive { 0 < bound }
+        requires same { (x y : E) → E.is_clone x y → y ≡ x }
+        ensures { IfOk result (λ made. IsPair service made.0 made.1) }
+    {
+        let latch = Guarded::new(rt, alloc, MailCore::new(alloc, bound))?;
+        Buffer::with_latch(latch, service)
+    }
+
+    /// A `Buffer` of so many places, whose worker the executor has: the Rust's
+    /// `tower::buffer::Buffer::new`. It asks for what `pair` does. Without memory it answers `Memory`, and
+    /// where the executor gives the worker back `NotSpawned`; the service is dropped then.
+    pub fn new<S, X>(
+        rt: R,
+        alloc: Global,
+        service: S,
+        bound: usize,
+        executor: &X,
+    ) -> Result<Self, Error<E>>
+    where
+        S: Service<Request, Error = E, Future = F>,
+        X: Executor<Worker<S, Request, F, E, Guarded<MailCore<Request, Pollable<F>, E>, R>>>,
+        requires positive { 0 < bound }
+        requires same { (x y : E) → E.is_clone x y → y ≡ x }
+        requires can_spawn { (latch : _) → X.can_spawn executor.now (idle latch service) }
+        ensures { Begins X.spawned executor.now service result }
+    {
+        let Ok(latch) = Guarded::new(rt, alloc, MailCore::new(alloc, bound)) else {
+            return Err(Error::Memory);
+        };
+        Buffer::begin(latch, service, executor)
+    }
+}
+
+// Hands the task over, and keeps the other value for it. Both are dropped where the task comes back.
+fn hand_over<T: Drop, B: Drop, E, X: Executor<T>>(
+    executor: &X,
+    task: T,
+    other: B,
+) -> Result<B, Error<E>>
+    requires { X.can_spawn executor.now task }
+    ensures { HandsOver X.spawned executor.now task other result }
+{
+    match executor.spawn(task) {
+        Ok(()) => Ok(other),
+        Err(_) => Err(Error::NotSpawned),
+    }
+}

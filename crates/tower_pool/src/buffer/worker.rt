@@ -1,0 +1,238 @@
+//! What takes messages to the service.
+ghost use Rattle.std.specs.Prelude.{◌≡◌, Some, None, false};
+ghost use Rattle.futures.specs.Poll.{IfReady, OnPending};
+ghost use Rattle.futures.specs.Task.{Covers, IsArmed, Keeps};
+ghost use Rattle.futures.specs.declared.task.Poll.TheVariants.{Pending};
+ghost use Rattle.tower_base.specs.Gives.{MayGive};
+ghost use Rattle.tower_pool.specs.Worker.{HandsOn, Pass, Serves, Stepped, WorkerView};
+
+use crate::buffer::mail::{MailReply, MailStep};
+use crate::buffer::mail_core::MailCore;
+use futures::future::Future;
+use futures::task::{Context, Poll};
+use std::marker::{Model, PhantomData};
+use tower_base::latch::Latch;
+use tower_base::latch::held::Pollable;
+use tower_base::passes::PASSES;
+use tower_base::service::{Service, Steps};
+
+/// Takes one message after another, waits until the service is ready, and calls it: the Rust's
+/// `tower::buffer::Worker`. It is handed to an executor, and ends once no message will come any more.
+///
+/// After a failure of the service each message that it takes gets that error. A poll makes `PASSES` passes
+/// at most; then it is pending and has woken its own task. One that goes away loses the messages without
+/// an outcome.
+pub struct Worker<
+    S: Drop,
+    Request: Drop,
+    F: Future + Drop,
+    E: Clone,
+    L: Latch<MailCore<Request, Pollable<F>, E>>,
+> {
+    latch: L,
+    service: S,
+    message: Option<(u64, Request)>,
+    has_failed: bool,
+    of: PhantomData<(F, E)>,
+}
+
+impl<
+    S: Drop,
+    Request: Drop,
+    F: Future + Drop,
+    E: Clone,
+    L: Latch<MailCore<Request, Pollable<F>, E>>,
+> Model for Worker<S, Request, F, E, L> {
+    ghost Value = { WorkerView L S Request };
+
+    ghost view = { λ w. record { latch = w.latch; service = w.service; message = w.message; has_failed = w.has_failed } };
+}
+
+/// The mail is told that the worker is gone, by one step at the latch.
+impl<
+    S: Drop,
+    Request: Drop,
+    F: Future + Drop,
+    E: Clone,
+    L: Latch<MailCore<Request, Pollable<F>, E>>,
+> Drop for Worker<S, Request, F, E, L> {
+    fn drop(self)
+        ensures { (reply : _) × L.gave self.latch MailStep.WorkerGone reply }
+    {
+        self.latch.step(MailStep::WorkerGone);
+        let Worker {
+            latch: _,
+            service: _,
+            message: _,
+            has_failed: _,
+            of: _,
+        } = self;
+    }
+}
+
+impl<
+    S: Drop,
+    Request: Drop,
+    F: Future + Drop,
+    E: Clone,
+    L: Latch<MailCore<Request, Pollable<F>, E>>,
+> Worker<S, Request, F, E, L> {
+    // It has taken nothing.
+    pub(crate) fn idle(latch: L, service: S) -> Self
+        ensures { result ≡ record { latch = latch; service = service; message = None; has_failed = false } }
+    {
+        Worker {
+            latch,
+            service,
+            message: None,
+            has_failed: false,
+            of: PhantomData,
+        }
+    }
+}
+
+impl<S, Request, F, E, L> Worker<S, Request, F, E, L>
+where
+    Request: Drop,
+    F: Future + Drop,
+    E: Clone,
+    S: Service<Request, Error = E, Future = F>,
+    L: Latch<MailCore<Request, Pollable<F>, E>>,
+{
+    // One pass: none where the next one follows.
+    fn pass(&mut self, cx: &mut Context<'_>) -> Option<Poll<()>>
+        requires { S.sound self.old.service }
+        ensures pass { Pass L.gave S.Service self.old result self.new }
+        ensures sound { S.sound self.new.service }
+        ensures armed { result ≡ Some Pending → IsArmed cx.new }
+        ensures kept { Keeps cx.old cx.new }
+    {
+        let Some((id, request)) = self.message.take() else {
+            return self.take(cx);
+        };
+        match self.latch.step(MailStep::Live(id)) {
+            MailReply::Truth(true) => self.serve(id, request, cx),
+            MailReply::Truth(false) | MailReply::Unknown => None,
+            _ => unreachable!(),
+        }
+    }
+
+    // No message is at hand.
+    fn take(&mut self, cx: &mut Context<'_>) -> Option<Poll<()>>
+        requires sound { S.sound self.old.service }
+        requires none { self.old.message ≡ None }
+        ensures pass { Pass L.gave S.Service self.old result self.new }
+        ensures sound { S.sound self.new.service }
+        ensures armed { result ≡ Some Pending → IsArmed cx.new }
+        ensures kept { Keeps cx.old cx.new }
+    {
+        match self.latch.wait(MailStep::Take, cx) {
+            MailReply::Message(id, request) => {
+                if self.has_failed {
+                    self.latch.step(MailStep::FailStored(id));
+                    return None;
+                }
+                self.serve(id, request, cx)
+            }
+            MailReply::Cleared => None,
+            MailReply::Empty => Some(Poll::Pending),
+            MailReply::End => Some(Poll::Ready(())),
+            _ => unreachable!(),
+        }
+    }
+
+    // The service is asked, and called where it is ready.
+    fn serve(&mut self, id: u64, request: Request, cx: &mut Context<'_>) -> Option<Poll<()>>
+        requires sound { S.sound self.old.service }
+        requires none { self.old.message ≡ None }
+        ensures serves { Serves L.gave S.Service self.old id request result self.new }
+        ensures sound { S.sound self.new.service }
+        ensures armed { result ≡ Some Pending → IsArmed cx.new }
+        ensures kept { Keeps cx.old cx.new }
+    {
+        match self.service.poll_ready(cx) {
+            Poll::Pending => {
+                self.message = Some((id, request));
+                Some(Poll::Pending)
+            }
+            Poll::Ready(Err(error)) => {
+                self.latch.step(MailStep::Fail(id, error));
+                self.has_failed = true;
+                None
+            }
+            Poll::Ready(Ok(())) => {
+                self.hand_on(id, request);
+                None
+            }
+        }
+    }
+
+    // The service is called, and the response gets the future.
+    fn hand_on(&mut self, id: u64, request: Request)
+        requires sound { S.sound self.old.service }
+        requires ready { S.ready self.old.service }
+        ensures hands_on { HandsOn L.gave S.Service self.old id request self.new }
+        ensures sound { S.sound self.new.service }
+    {
+        let future = self.service.call(request);
+        self.latch.step(MailStep::Answer(id, Pollable::new(future)));
+    }
+
+    // Passes up to an answer.
+    fn passes(&mut self, cx: &mut Context<'_>) -> Poll<()>
+        requires { S.sound self.old.service }
+        ensures passes { Stepped L.gave S.Service self.old result self.new }
+        ensures sound { S.sound self.new.service }
+        ensures armed { OnPending result (IsArmed cx.new) }
+        ensures kept { Keeps cx.old cx.new }
+    {
+        for _pass in 0..PASSES {
+            if let Some(answer) = self.pass(cx) {
+                return answer;
+            }
+        }
+        cx.yield_now()
+    }
+}
+
+impl<S, Request, F, E, L> Future for Worker<S, Request, F, E, L>
+where
+    Request: Drop,
+    F: Future + Drop,
+    E: Clone,
+    S: Service<Request, Error = E, Future = F>,
+    L: Latch<MailCore<Request, Pollable<F>, E>>,
+{
+    type Output = ();
+
+    ghost can_poll = { λ w. S.sound w.service };
+
+    ghost gives = { MayGive (Stepped L.gave S.Service) };
+
+    fn poll(&mut self, cx: &mut Context<'_>) -> Poll<()>
+        requires { S.sound self.old.service }
+        ensures step { Stepped L.gave S.Service self.old result self.new }
+        ensures value { IfReady result (MayGive (Stepped L.gave S.Service) self.old) }
+        ensures again { OnPending result (S.sound self.new.service) }
+        ensures same { OnPending result ((x : _) → MayGive (Stepped L.gave S.Service) self.new x → MayGive (Stepped L.gave S.Service) self.old x) }
+        ensures registered { OnPending result (Covers cx.new (⟦<Worker<S, Request, F, E, L> as Future>⟧.needs self.new)) }
+        ensures kept { Keeps cx.old cx.new }
+    {
+        self.step(cx)
+    }
+}
+
+impl<S, Request, F, E, L> Steps for Worker<S, Request, F, E, L>
+where
+    Request: Drop,
+    F: Future + Drop,
+    E: Clone,
+    S: Service<Request, Error = E, Future = F>,
+    L: Latch<MailCore<Request, Pollable<F>, E>>,
+{
+    ghost stepped = { Stepped L.gave S.Service };
+
+    fn step(&mut self, cx: &mut Context<'_>) -> Poll<()> {
+        self.passes(cx)
+    }
+}
