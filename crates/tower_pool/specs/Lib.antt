@@ -2,6 +2,9 @@ pub mod Letters
 pub mod Mail
 pub mod MailLaws
 pub mod Mailbox
+pub mod Balance
+pub mod BalanceReady
+pub mod MakeBalance
 pub mod ReadyCache
 pub mod ReadyCacheLends
 pub mod ReadyCachePoll
