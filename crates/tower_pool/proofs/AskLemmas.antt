@@ -238,7 +238,7 @@ module _ {K S Q A E G : Type 0} (eq : K → K → Bool) (s : ServiceOf S Q A E G
               )
 
   -- what an entry that isn't cancelled adds to a poll
-  abbrev pub OneAsked : List (PendingView K S) → PendingView K S → List (PendingView K S) → List (K × S) → Poll (Result (Unit {0}) (Error K E)) → ReadyCacheView K S → Type 0
+  abbrev OneAsked : List (PendingView K S) → PendingView K S → List (PendingView K S) → List (K × S) → Poll (Result (Unit {0}) (Error K E)) → ReadyCacheView K S → Type 0
   OneAsked asked p rest ready answer new =
       ((answer ≡ Ready (Err Memory)) × (new ≡ record { ready = ready; pending = asked ++ p ∷ rest }))
       ⊎ ((inner : Poll (Result (Unit {0}) E)) × (left : S) × s.polled p.service inner left × ByAnswer inner

@@ -1,10 +1,13 @@
 -- What the parts of a balancer's poll say of the whole.
-use Rattle.std.proofs.Common.{ℕ, zero, suc, ◌+◌, ◌-◌, ◌<◌, ◌≤◌, ◌≡◌, Bool, true, false, List, [], ◌∷◌, ◌++◌, Option, Some, None, Result, Ok, Err, inl, inr, ⊎_elim, nat_lt, length, length-append, slice_get, slice_index_or, slice_set, take, is_some, unwrap_or, if◌then◌else◌, refl, sym, ap, ◌∙◌, subst, arith, lt-ltb, ltb-true, true≢false}
+use Rattle.std.proofs.Common.{ℕ, zero, suc, ◌+◌, ◌-◌, ◌<◌, ◌≤◌, ◌≡◌, Bool, true, false, List, [], ◌∷◌, ◌++◌, Option, Some, None, Result, Ok, Err, ◌⊎◌, inl, inr, ⊎_elim, nat_lt, length, length-append, slice_get, slice_index_or, slice_set, take, is_some, unwrap_or, if◌then◌else◌, refl, sym, ap, ◌∙◌, subst, arith, lt-ltb, ltb-true, true≢false}
 use Rattle.std.specs.List.{swap_remove}
-use Rattle.std.specs.Option.{MatchOption}
+use Rattle.std.specs.List.Sorted.{IsPermutation}
+use Rattle.std.specs.Option.{MatchOption, option_map_or}
 use Rattle.std.specs.Ordering.{partial_le}
 use Rattle.std.specs.declared.cmp.Ordering.{Ordering}
-use Rattle.std.proofs.lemmas.List.{length-set, length-take}
+use Rattle.std.proofs.lemmas.List.{append_assoc, length-set, length-take}
+use Rattle.std.proofs.lemmas.List.Sorted.{IsPermutation-append_right, IsPermutation-refl, IsPermutation-swap_remove, IsPermutation-trans}
+use Rattle.std.proofs.lemmas.Option.{get_or_from_slice_get, slice_get_cases, slice_get_within}
 use Rattle.futures.specs.declared.task.Poll.{Poll}
 use Rattle.futures.specs.declared.task.Poll.TheVariants.{Ready, Pending}
 use Rattle.indexmap.specs.IndexMap.{insert_entry, set_value_at}
@@ -14,7 +17,7 @@ use Rattle.tower_base.specs.PassesLemmas.{goes_more, goes_start}
 use Rattle.tower_base.specs.declared.service.Service.{Ghosts as ServiceOf}
 use Rattle.tower_limit.specs.Discover.{Found, MayInsert, inserted}
 use Rattle.tower_limit.specs.DiscoverLemmas.{inserts_later, inserts_now}
-use Rattle.tower_pool.specs.Balance.{AfterCheck, BalanceView, Changed, ChangedAt, Chooses, Chosen, Pass, PassAt, Picked, PickedOf, Promotes, PromotesAfter, Reads, ReadsAll, Sound, answer_of, pushed}
+use Rattle.tower_pool.specs.Balance.{AfterCheck, BalanceView, Changed, ChangedAt, Chooses, Chosen, Pass, PassAt, Picked, PickedOf, Promotes, PromotesAfter, Reads, ReadsAll, Sound, Turn, answer_of, asked_at}
 use Rattle.tower_pool.specs.ReadyCache.{At, Checked, PendingView, ReadyCacheView, Settles}
 use Rattle.tower_pool.specs.ReadyCachePoll.{ByAnswer, ByTest, EachAsked, Ends, PendingPolled}
 use Rattle.tower_pool.specs.declared.balance.error.Error.{Error}
@@ -22,8 +25,6 @@ use Rattle.tower_pool.specs.declared.balance.error.Error.TheVariants.{Memory}
 use Rattle.tower_pool.specs.declared.ready_cache.error.Failed.{Failed}
 use Rattle.tower_pool.specs.declared.ready_cache.error.Error.{Error as CacheError}
 use Rattle.tower_pool.specs.declared.ready_cache.error.Error.TheVariants.{Failed as EndpointFailed, Memory as NoRoom}
-use Rattle.tower_pool.proofs.AskLemmas.{OneAsked}
-use Rattle.tower_pool.proofs.PlaceLemmas.{within}
 
 -- a drawn pair
 pair_is : (n : ℕ) (pair : List ℕ) → IsPair n pair → pair ≡ slice_index_or pair 0 0 ∷ slice_index_or pair 1 0 ∷ []
@@ -57,10 +58,19 @@ module _ {R K S M : Type 0} (loaded : S → M → Type 0) (cmp : M → M → Opt
   picked_there (u ∷ v ∷ us) all old new i e h = by (partial_le cmp h.2 h.3) h.7
     where
       by : (b : Bool) → Some i ≡ Some (if b then h.0 else h.1) → i < length all
-      by true is = subst (λ n. n < length all) (sym (ap (λ o. unwrap_or o i) is)) (within all h.0 h.5.0 h.5.1)
-      by false is = subst (λ n. n < length all) (sym (ap (λ o. unwrap_or o i) is)) (within all h.1 h.6.0 h.6.1)
+      by true is = subst (λ n. n < length all) (sym (ap (λ o. unwrap_or o i) is)) (slice_get_within all h.0 h.5.0 h.5.1)
+      by false is = subst (λ n. n < length all) (sym (ap (λ o. unwrap_or o i) is)) (slice_get_within all h.1 h.6.0 h.6.1)
 
 module _ {K S Q A E G : Type 0} (eq : K → K → Bool) (s : ServiceOf S Q A E G) where
+  -- what an entry that isn't cancelled adds to a poll
+  abbrev OneAsked : List (PendingView K S) → PendingView K S → List (PendingView K S) → List (K × S) → Poll (Result (Unit {0}) (CacheError K E)) → ReadyCacheView K S → Type 0
+  OneAsked asked p rest ready answer new =
+      ((answer ≡ Ready (Err NoRoom)) × (new ≡ record { ready = ready; pending = asked ++ p ∷ rest }))
+      ⊎ ((inner : Poll (Result (Unit {0}) E)) × (left : S) × s.polled p.service inner left × ByAnswer inner
+      (EachAsked eq s asked rest (insert_entry eq ready p.key left) answer new)
+      (λ e. (answer ≡ Ready (Err (EndpointFailed p.key e))) × (new ≡ record { ready = ready; pending = asked ++ rest }))
+      (EachAsked eq s (asked ++ (record p { service = left }) ∷ []) rest ready answer new))
+
   -- an endpoint that failed has left
   fewer_than : (rest asked : List (PendingView K S)) (ready : List (K × S)) (answer : Poll (Result (Unit {0}) (CacheError K E))) (new : ReadyCacheView K S)
       → EachAsked eq s asked rest ready answer new → (k : K) (e : E) → answer ≡ Ready (Err (EndpointFailed k e)) → length new.pending < length asked + length rest
@@ -81,7 +91,7 @@ module _ {K S Q A E G : Type 0} (eq : K → K → Bool) (s : ServiceOf S Q A E G
       by_answer again Pending left h = omega (arith, again (asked ++ (record p { service = left }) ∷ []) ready h, length-append asked ((record p { service = left }) ∷ []))
 
       by_entry : ((asked : List (PendingView K S)) (ready : List (K × S)) → EachAsked eq s asked rest ready answer new → length new.pending < length asked + length rest)
-          → (b : Bool) → ByTest b (EachAsked eq s asked rest ready answer new) (OneAsked eq s asked p rest ready answer new) → length new.pending < length asked + suc (length rest)
+          → (b : Bool) → ByTest b (EachAsked eq s asked rest ready answer new) (OneAsked asked p rest ready answer new) → length new.pending < length asked + suc (length rest)
       by_entry again true h = omega (arith, again asked ready h)
       by_entry again false (inl full) = let f : answer ≡ Ready (Err NoRoom) = full.0 in cc
       by_entry again false (inr t) = by_answer again t.0 t.1 t.3
@@ -142,9 +152,7 @@ left_over i n h = by (nat_lt i n) refl
 
 module _ {X : Type 0} where
   past : (xs : List X) (i : ℕ) → slice_get xs i ≡ None → length xs ≤ i
-  past [] i h = omega arith
-  past (x ∷ xs) zero h = let f : Some x ≡ None = h in cc
-  past (x ∷ xs) (suc i) h = omega (arith, past xs i h)
+  past xs i h = ⊎_elim (λ there. let f : Some there.0 ≡ None = sym there.2 ∙ h in cc) (λ over. over.0) (slice_get_cases xs i).1
 
   length-removed : (xs : List X) (i : ℕ) (d : X) → i < length xs → length (swap_remove xs i d) + 1 ≡ length xs
   length-removed xs i d h = omega (arith, length-take (length xs - 1) (slice_set xs i (slice_index_or xs (length xs - 1) d)), length-set xs i (slice_index_or xs (length xs - 1) d))
@@ -167,7 +175,42 @@ module _ {K S Q A E G : Type 0} (eq : K → K → Bool) (s : ServiceOf S Q A E G
       by : (o : Option (K × S)) → slice_get old.ready i ≡ o → MatchOption o ((inner ≡ Ok false) × (new ≡ old))
           (λ u. (r : Poll (Result (Unit {0}) E)) × (left : S) × s.polled u.1 r left × Settles eq s old i u left r inner new) → length new.ready + 1 ≤ left_of (Some i) (length old.ready)
       by None e h = omega (arith, ap (λ v. length v.ready) h.1, left_over i (length old.ready) (past old.ready i e))
-      by (Some u) e h = settled u h.0 h.1 (within old.ready i u e) h.3
+      by (Some u) e h = settled u h.0 h.1 (slice_get_within old.ready i u e) h.3
+
+  -- it takes the endpoint that it asked out of the ready ones
+  checked_asks : (old : ReadyCacheView K S) (i : ℕ) (inner : Result Bool (Failed K E)) (new : ReadyCacheView K S) → Checked eq s old i inner new → ¬ (inner ≡ Ok true)
+      → IsPermutation old.ready (asked_at (Some i) old.ready ++ new.ready)
+  checked_asks old i inner new h other = by (slice_get old.ready i) refl h
+    where
+      taken : (u : K × S) → slice_get old.ready i ≡ Some u → new.ready ≡ swap_remove old.ready i u → IsPermutation old.ready (u ∷ new.ready)
+      taken u there is = subst (λ ready. IsPermutation old.ready (u ∷ ready)) (sym is)
+          (IsPermutation-swap_remove old.ready i u (slice_get_within old.ready i u there) (sym (get_or_from_slice_get old.ready i u u there)))
+
+      settled : (u : K × S) (r : Poll (Result (Unit {0}) E)) (left : S) → slice_get old.ready i ≡ Some u → Settles eq s old i u left r inner new → IsPermutation old.ready (u ∷ new.ready)
+      settled u (Ready (Ok t)) left there h = absurd (other h.0)
+      settled u (Ready (Err x)) left there h = taken u there (ap (λ v. v.ready) h.1)
+      settled u Pending left there h = taken u there (ap (λ v. v.ready) h.1)
+
+      by : (o : Option (K × S)) → slice_get old.ready i ≡ o → MatchOption o ((inner ≡ Ok false) × (new ≡ old))
+          (λ u. (r : Poll (Result (Unit {0}) E)) × (left : S) × s.polled u.1 r left × Settles eq s old i u left r inner new)
+          → IsPermutation old.ready (option_map_or (λ e. e ∷ []) o [] ++ new.ready)
+      by None e h = subst (λ v. IsPermutation old.ready v.ready) (sym h.1) (IsPermutation-refl old.ready)
+      by (Some u) e h = settled u h.0 h.1 e h.3
+
+module _ {K S : Type 0} where
+  -- the last turn asks one at most of those that are ready
+  asked_last : (kept : Option ℕ) (ready : List (K × S)) → (rest : List (K × S)) × IsPermutation ready (asked_at kept ready ++ rest)
+  asked_last None ready = (ready, IsPermutation-refl ready)
+  asked_last (Some i) ready = by (slice_get ready i) refl
+    where
+      by : (o : Option (K × S)) → slice_get ready i ≡ o → (rest : List (K × S)) × IsPermutation ready (option_map_or (λ e. e ∷ []) o [] ++ rest)
+      by None there = (ready, IsPermutation-refl ready)
+      by (Some u) there = (swap_remove ready i u, IsPermutation-swap_remove ready i u (slice_get_within ready i u there) (sym (get_or_from_slice_get ready i u u there)))
+
+  -- what was asked before, and what is asked now
+  asked_more : (asked first ready now rest : List (K × S)) → IsPermutation first (asked ++ ready) → IsPermutation ready (now ++ rest) → IsPermutation first ((asked ++ now) ++ rest)
+  asked_more asked first ready now rest before turn = subst (IsPermutation first) (sym (append_assoc asked now rest))
+      (IsPermutation-trans first (asked ++ ready) (asked ++ (now ++ rest)) before (IsPermutation-append_right asked ready (now ++ rest) turn))
 
 module _ {D R K S Q A E G M : Type 0} (X : Type 0) (eq : K → K → Bool) (s : ServiceOf S Q A E G) (loaded : S → M → Type 0) (cmp : M → M → Option Ordering) (drew : R → ℕ → R → Type 0) where
   chosen_turns : (old new : BalanceView D R K S) → Chooses {X = X} eq s loaded cmp drew old None new → turns new ≡ length old.services.ready
@@ -188,20 +231,53 @@ module _ {D R K S Q A E G M : Type 0} (X : Type 0) (eq : K → K → Bool) (s : 
       by (Err x) checked after =
           omega (arith, chosen_turns (record old { services = h.1 }) new after, checked_less eq s old.services i (Err x) h.1 checked (λ e. cc), ap (λ k. left_of k (length old.services.ready)) is)
 
-  -- So many passes gave no answer, and so many are left.
+  -- a check that isn't answered by true takes the endpoint that it asked out of the ready ones
+  chosen_ready : (old : BalanceView D R K S) (answer : Option (Poll (Result (Unit {0}) (Error E X)))) (new : BalanceView D R K S) → Chooses eq s loaded cmp drew old answer new
+      → new.services.ready ≡ old.services.ready
+  chosen_ready old answer new h = ap (λ v. v.services.ready) h.4
+
+  pass_asks : (old : BalanceView D R K S) (kept : Option ℕ) (new : BalanceView D R K S) → PassAt {X = X} eq s loaded cmp drew kept old None new
+      → IsPermutation old.services.ready (asked_at kept old.services.ready ++ new.services.ready)
+  pass_asks old None new h = subst (IsPermutation old.services.ready) (sym (chosen_ready old None new h)) (IsPermutation-refl old.services.ready)
+  pass_asks old (Some i) new h = by h.0 h.2 h.3
+    where
+      goal : Option (K × S) → Type 0
+      goal o = IsPermutation old.services.ready (option_map_or (λ e. e ∷ []) o [] ++ new.services.ready)
+
+      left : (inner : Result Bool (Failed K E)) → Checked eq s old.services i inner h.1 → ¬ (inner ≡ Ok true) → new.services.ready ≡ h.1.ready → goal (slice_get old.services.ready i)
+      left inner checked other is = subst (λ ready. IsPermutation old.services.ready (asked_at (Some i) old.services.ready ++ ready)) (sym is)
+          (checked_asks eq s old.services i inner h.1 checked other)
+
+      by : (inner : Result Bool (Failed K E)) → Checked eq s old.services i inner h.1 → AfterCheck {X = X} eq s loaded cmp drew (record old { services = h.1 }) i inner None new
+          → goal (slice_get old.services.ready i)
+      by (Ok true) checked after = let f : (let a : Option (Poll (Result (Unit {0}) (Error E X))) = None in a ≡ Some (Ready (Ok tt))) = after.1 in cc
+      by (Ok false) checked after = left (Ok false) checked (λ e. cc) (chosen_ready (record old { services = h.1 }) None new after)
+      by (Err x) checked after = left (Err x) checked (λ e. cc) (chosen_ready (record old { services = h.1 }) None new after)
+
+  -- So many turns gave no answer, and so many are left. Those that were ready are those that were asked and those that are ready yet.
   pub record Settling (old now : BalanceView D R K S) : Type 0 where
     pub count : ℕ
-    pub went : Goes (Pass {X = X} eq s loaded cmp drew) count old now
+    pub asked : List (K × S)
+    pub went : Goes (Turn {X = X} eq s loaded cmp drew) count (old, []) (now, asked)
     pub left : count + turns now ≤ length old.services.ready + 1
+    pub once : IsPermutation old.services.ready (asked ++ now.services.ready)
 
   pub settling_begins : (old : BalanceView D R K S) → Settling old old
-  settling_begins old = record { count = 0; went = goes_start (Pass {X = X} eq s loaded cmp drew) old; left = omega (arith, at_most_left old.kept (length old.services.ready)) }
+  settling_begins old = record {
+    count = 0;
+    asked = [];
+    went = goes_start (Turn {X = X} eq s loaded cmp drew) (old, []);
+    left = omega (arith, at_most_left old.kept (length old.services.ready));
+    once = IsPermutation-refl old.services.ready;
+  }
 
   pub settling_goes : (old was now : BalanceView D R K S) → Pass {X = X} eq s loaded cmp drew was None now → Settling old was → Settling old now
   settling_goes old was now pass h = record {
     count = h.count + 1;
-    went = goes_more (Pass {X = X} eq s loaded cmp drew) h.count old was now h.went pass;
+    asked = h.asked ++ asked_at was.kept was.services.ready;
+    went = goes_more (Turn {X = X} eq s loaded cmp drew) h.count (old, []) (was, h.asked) (now, h.asked ++ asked_at was.kept was.services.ready) h.went (pass, refl);
     left = omega (arith, h.left, pass_less was was.kept refl now pass);
+    once = asked_more h.asked old.services.ready was.services.ready (asked_at was.kept was.services.ready) now.services.ready h.once (pass_asks was was.kept now pass);
   }
 
   pub settling_less : (was now : BalanceView D R K S) → Pass {X = X} eq s loaded cmp drew was None now → turns now < turns was
@@ -209,10 +285,15 @@ module _ {D R K S Q A E G M : Type 0} (X : Type 0) (eq : K → K → Bool) (s : 
 
   pub settling_ends : (old was : BalanceView D R K S) (answer : Poll (Result (Unit {0}) (Error E X))) (new : BalanceView D R K S) → Pass {X = X} eq s loaded cmp drew was (Some answer) new → Settling old was
       → Chosen eq s loaded cmp drew old answer new
-  settling_ends old was answer new pass h = record {
-    count = h.count;
-    last = was;
-    within = omega (arith, h.left, one_left was.kept (length was.services.ready));
-    went = h.went;
-    ends = pass;
-  }
+  settling_ends old was answer new pass h =
+      let last = asked_last was.kept was.services.ready in
+      record {
+        count = h.count;
+        last = was;
+        asked = h.asked;
+        rest = last.0;
+        within = omega (arith, h.left, one_left was.kept (length was.services.ready));
+        went = h.went;
+        ends = pass;
+        once = asked_more h.asked old.services.ready was.services.ready (asked_at was.kept was.services.ready) last.0 h.once last.1;
+      }

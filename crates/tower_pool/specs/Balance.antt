@@ -1,6 +1,7 @@
 -- The machine of `balance::p2c`: a discovery, a ready cache of what it inserted, and the index of the endpoint that is to be called next.
-use Rattle.std.specs.Prelude.{All, ℕ, zero, suc, ◌+◌, ◌≡◌, ◌≤◌, Bool, true, false, List, [], ◌∷◌, ◌++◌, Option, Some, None, IfSome, Result, Ok, Err, ◌⊎◌, length, if◌then◌else◌}
-use Rattle.std.specs.Option.{MatchOption}
+use Rattle.std.specs.Prelude.{All, ℕ, zero, suc, ◌+◌, ◌≡◌, ◌≤◌, Bool, true, false, List, [], ◌∷◌, ◌++◌, Option, Some, None, IfSome, Result, Ok, Err, ◌⊎◌, length, slice_get, if◌then◌else◌}
+use Rattle.std.specs.List.Sorted.{IsPermutation}
+use Rattle.std.specs.Option.{MatchOption, option_map_or}
 use Rattle.std.specs.Ordering.{partial_le}
 use Rattle.std.specs.declared.cmp.Ordering.{Ordering}
 use Rattle.futures.specs.declared.task.Poll.{Poll}
@@ -91,6 +92,11 @@ module _ {D R K S X : Type 0} (discovered : D → Found K S X → D → Type 0) 
   abbrev pub Changed : BalanceView D R K S → Result (Unit {0}) (Error E X) → BalanceView D R K S → Type 0
   Changed old answer new = ChangedAt old.change old answer new
 
+-- the ready endpoint that a pass asks, if there is one: that at the kept index
+abbrev pub asked_at : {K S : Type 0} → Option ℕ → List (K × S) → List (K × S)
+asked_at None ready = []
+asked_at (Some i) ready = option_map_or (λ e. e ∷ []) (slice_get ready i) []
+
 -- a pass that picked an endpoint goes on
 abbrev pub answer_of : {A : Type 0} → Option ℕ → Option (Poll A)
 answer_of None = Some Pending
@@ -150,13 +156,21 @@ module _ {D R K S Q A E G X M : Type 0} (eq : K → K → Bool) (s : ServiceOf S
   abbrev pub Pass : BalanceView D R K S → Option (Poll (Result (Unit {0}) (Error E X))) → BalanceView D R K S → Type 0
   Pass old answer new = PassAt old.kept old answer new
 
-  -- the choosing of a poll: at most one pass more than endpoints were ready as it began
+  -- a turn: a pass, and the endpoints that were asked so far
+  abbrev pub Turn : BalanceView D R K S × List (K × S) → Option (Poll (Result (Unit {0}) (Error E X))) → BalanceView D R K S × List (K × S) → Type 0
+  Turn old answer new = Pass old.0 answer new.0 × (new.1 ≡ old.1 ++ asked_at old.0.kept old.0.services.ready)
+
+  -- The choosing of a poll: at most one turn more than endpoints were ready as it began. Those that were ready are, in some order, those that were asked
+  -- and the rest, so that each is asked at most once.
   pub record Chosen (old : BalanceView D R K S) (answer : Poll (Result (Unit {0}) (Error E X))) (new : BalanceView D R K S) : Type 0 where
     pub count : ℕ
     pub last : BalanceView D R K S
+    pub asked : List (K × S)
+    pub rest : List (K × S)
     pub within : count ≤ length old.services.ready
-    pub went : Goes Pass count old last
+    pub went : Goes Turn count (old, []) (last, asked)
     pub ends : Pass last (Some answer) new
+    pub once : IsPermutation old.services.ready ((asked ++ asked_at last.kept last.services.ready) ++ rest)
 
   -- after the promotion, and after the changes before it
   abbrev pub AfterPromotion : Result (Unit {0}) (Error E X) → BalanceView D R K S → Poll (Result (Unit {0}) (Error E X)) → BalanceView D R K S → Type 0
