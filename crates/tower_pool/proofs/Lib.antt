@@ -1,8 +1,10 @@
 pub mod Abandoned
 pub mod AskLemmas
+pub mod BalanceLemmas
 pub mod CacheLemmas
 pub mod Lines
 pub mod Machine
+pub mod MakeLemmas
 pub mod MailRuns
 pub mod Messages
 pub mod Moves

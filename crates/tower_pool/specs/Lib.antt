@@ -1,9 +1,12 @@
+pub mod Balance
+pub mod BalanceReady
 pub mod Buffer
 pub mod BufferReady
 pub mod Letters
 pub mod Mail
 pub mod MailLaws
 pub mod Mailbox
+pub mod MakeBalance
 pub mod Making
 pub mod ReadyCache
 pub mod ReadyCacheLends
