@@ -5,3 +5,6 @@ pub mod Mailbox
 pub mod ReadyCache
 pub mod ReadyCacheLends
 pub mod ReadyCachePoll
+pub mod Slot
+pub mod SpawnReady
+pub mod SpawnReadyReady

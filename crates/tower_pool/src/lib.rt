@@ -3,3 +3,4 @@
 
 pub mod buffer;
 pub mod ready_cache;
+pub mod spawn_ready;
