@@ -11,4 +11,7 @@ pub mod Making
 pub mod ReadyCache
 pub mod ReadyCacheLends
 pub mod ReadyCachePoll
+pub mod Slot
+pub mod SpawnReady
+pub mod SpawnReadyReady
 pub mod Worker

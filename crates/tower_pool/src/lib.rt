@@ -4,3 +4,4 @@
 pub mod balance;
 pub mod buffer;
 pub mod ready_cache;
+pub mod spawn_ready;
