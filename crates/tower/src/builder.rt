@@ -1,7 +1,8 @@
 //! Layers on layers: the Rust's `tower::builder`.
-ghost use Rattle.std.specs.Prelude.{◌≡◌, ◌≢◌, IfOk, Some, None};
+ghost use Rattle.std.specs.Prelude.{◌≡◌, ◌≢◌, ◌<◌, IfOk, Some, None};
 ghost use Rattle.tower_util.specs.declared.util.either.Either.TheVariants.{Left, Right};
 
+use crate::buffer::BufferLayer;
 use crate::filter::{AsyncFilterLayer, FilterLayer};
 use crate::layer::util::{Identity, Stack};
 use crate::layer::{Layer, LayerFn, layer_fn};
@@ -81,6 +82,22 @@ impl<L> ServiceBuilder<L> {
         ensures { result ≡ record { inner = record { duration = duration; clock = clock }; outer = self } }
     {
         self.layer(TimeoutLayer::new(duration, clock))
+    }
+
+    /// Adds a queue of so many messages, whose worker goes to the executor. It asks for what
+    /// `Buffer::fits` tests, and for errors whose clones equal what was cloned.
+    pub fn buffer<Request, E: Clone, X, R>(
+        self,
+        rt: R,
+        alloc: Global,
+        bound: usize,
+        executor: X,
+    ) -> ServiceBuilder<Stack<BufferLayer<Request, E, X, R>, L>>
+        requires positive { 0 < bound }
+        requires same { (x y : E) → E.is_clone x y → y ≡ x }
+        ensures { result ≡ record { inner = record { bound = bound; executor = executor }; outer = self } }
+    {
+        self.layer(BufferLayer::new(rt, alloc, bound, executor))
     }
 
     /// Adds a limit on the calls in flight, one for each service that is made.

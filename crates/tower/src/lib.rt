@@ -1,8 +1,10 @@
 //! Middleware for services, each proved against its machine: the Rust's `tower`.
 #![tactic(auto)]
 
+pub mod balance;
 pub mod builder;
 pub mod layer;
+pub mod spawn_ready;
 pub mod util;
 
 pub use builder::ServiceBuilder;
@@ -10,7 +12,7 @@ pub use layer::Layer;
 pub use tower_base::service::Service;
 pub use tower_base::{drive, latch, service};
 pub use tower_limit::{discover, limit, load};
-pub use tower_pool::ready_cache;
+pub use tower_pool::{buffer, ready_cache};
 pub use tower_retry::{hedge, retry};
 pub use tower_util::make;
 pub use tower_util::make::MakeService;

@@ -1,10 +1,8 @@
 pub mod Abandoned
 pub mod AskLemmas
-pub mod BalanceLemmas
 pub mod CacheLemmas
 pub mod Lines
 pub mod Machine
-pub mod MakeLemmas
 pub mod MailRuns
 pub mod Messages
 pub mod Moves

@@ -1,17 +1,11 @@
-pub mod Balance
-pub mod BalanceReady
 pub mod Buffer
 pub mod BufferReady
 pub mod Letters
 pub mod Mail
 pub mod MailLaws
 pub mod Mailbox
-pub mod MakeBalance
 pub mod Making
 pub mod ReadyCache
 pub mod ReadyCacheLends
 pub mod ReadyCachePoll
-pub mod Slot
-pub mod SpawnReady
-pub mod SpawnReadyReady
 pub mod Worker

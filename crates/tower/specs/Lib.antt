@@ -1,0 +1,6 @@
+pub mod Balance
+pub mod BalanceReady
+pub mod MakeBalance
+pub mod Slot
+pub mod SpawnReady
+pub mod SpawnReadyReady

@@ -1,0 +1,74 @@
+//! The parts of a balancer's poll that concern its endpoints alone.
+ghost use Rattle.std.specs.Prelude.{◌≡◌, ◌<◌, length};
+ghost use Rattle.futures.specs.Task.{Keeps};
+ghost use Rattle.tower.specs.Balance.{Picked, Promotes};
+ghost use Rattle.tower_pool.specs.ReadyCache.{At, Sound};
+
+use crate::balance::error::Error;
+use futures::task::{Context, Poll};
+use std::hash::Hash;
+use tower_base::service::Service;
+use tower_base::util::rng::{Rng, sample_floyd2};
+use tower_limit::load::Load;
+use tower_pool::ready_cache::ReadyCache;
+use tower_pool::ready_cache::error::Error as CacheError;
+
+/// Polls the pending endpoints, again after each that failed, which is dropped.
+pub(crate) fn promote<K, S, X, Req>(
+    services: &mut ReadyCache<K, S, Req>,
+    cx: &mut Context<'_>,
+) -> Result<(), Error<S::Error, X>>
+where
+    K: Eq + Hash + Clone + Drop,
+    S: Service<Req>,
+    requires { Sound S.sound services.old }
+    ensures promoted { Promotes K.eq S.Service services.old result services.new }
+    ensures sound { Sound S.sound services.new }
+    ensures kept { Keeps cx.old cx.new }
+{
+    loop {
+        match services.poll_pending(cx) {
+            Poll::Ready(Ok(())) => return Ok(()),
+            Poll::Pending => return Ok(()),
+            Poll::Ready(Err(CacheError::Memory)) => return Err(Error::Memory),
+            Poll::Ready(Err(CacheError::Failed(_, _))) => {}
+        }
+    }
+}
+
+// The load of the endpoint at the index.
+fn load_at<K, S, Req>(services: &ReadyCache<K, S, Req>, index: usize) -> S::Metric
+where
+    K: Eq + Hash + Clone + Drop,
+    S: Service<Req> + Load,
+    requires { index < length services.now.ready }
+    ensures { At services.now.ready index (λ e. S.loaded e.1 result) }
+{
+    let (_, service) = services.get_ready_index(index).unwrap();
+    service.load()
+}
+
+/// The index of the endpoint to be called next: of two that are drawn the first, where its load is at most the
+/// second's.
+pub(crate) fn pick<K, S, R, Req>(services: &ReadyCache<K, S, Req>, rng: &mut R) -> Option<usize>
+where
+    K: Eq + Hash + Clone + Drop,
+    S: Service<Req> + Load,
+    R: Rng,
+    ensures { Picked S.loaded S.Metric.partial_cmp R.drew services.now.ready rng.old result rng.new }
+{
+    let count = services.ready_len();
+    if count == 0 {
+        return None;
+    }
+    if count == 1 {
+        return Some(0);
+    }
+    let [a, b] = sample_floyd2(rng, count as u64);
+    let (first, second) = (a as usize, b as usize);
+    if load_at(services, first) <= load_at(services, second) {
+        Some(first)
+    } else {
+        Some(second)
+    }
+}

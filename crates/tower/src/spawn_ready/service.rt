@@ -1,0 +1,219 @@
+//! A service that gets ready in a task of its own.
+ghost use Rattle.std.specs.Prelude.{◌≡◌, IfOk, IfSome, IsSome, IsSomeAnd, None, Some, true, false};
+ghost use Rattle.futures.specs.Task.{IsArmed, Keeps};
+ghost use Rattle.futures.specs.Poll.{OnPending};
+ghost use Rattle.tower.specs.SpawnReady.{Called, HandsOver, Looks, New, Pass, Polled, Sound, view_of};
+ghost use Rattle.tower.specs.SpawnReadyReady.{polled_ok};
+ghost use Rattle.tower.specs.declared.spawn_ready.slot_core.SlotStep.{SlotStep as Step};
+
+use crate::spawn_ready::error::Error;
+use crate::spawn_ready::future::ResponseFuture;
+use crate::spawn_ready::slot_core::{SlotCore, SlotReply, SlotStep};
+use crate::spawn_ready::task::ReadyTask;
+use futures::task::{Context, Poll};
+use std::alloc::{AllocError, Global};
+use std::marker::PhantomData;
+use std::sync::Wait;
+use tower_base::latch::held::Viewed;
+use tower_base::latch::{Guarded, Latch};
+use tower_base::passes::PASSES;
+use tower_base::service::{Executor, Service};
+
+/// Hands its service, while that isn't ready, to a task of its own, which drives it to readiness and gives
+/// it back: the Rust's `tower::spawn_ready::SpawnReady`.
+///
+/// The service that comes back is asked again before a call. An error that the task met is the answer to
+/// one poll, and later ones answer `Gone`; so do those after a task that was dropped. Where the task's
+/// share of the slot is refused (`Memory`), or the executor gives the task back (`NotSpawned`), the service
+/// is kept and the next poll asks it again. A poll makes 64 passes at most, and is then pending with its own
+/// task woken. Dropping it aborts the task, which ends at its next poll.
+// (With a `Model` a generic function couldn't drop it, so clauses say `view_of`.)
+pub struct SpawnReady<
+    S: Service<Request, Error = E>,
+    Request,
+    E: Drop,
+    X: Drop,
+    L: Latch<SlotCore<Viewed<S, Request>, E>>,
+> {
+    service: Option<S>,
+    is_running: bool,
+    executor: X,
+    latch: L,
+    of: PhantomData<(Request, E)>,
+}
+
+impl<S, Request, E, X, R> SpawnReady<S, Request, E, X, Guarded<SlotCore<Viewed<S, Request>, E>, R>>
+where
+    E: Drop,
+    S: Service<Request, Error = E>,
+    X: Drop,
+    R: Wait + Copy,
+{
+    /// The service, with a slot behind a lock. For want of memory it answers an error, and service and
+    /// executor are dropped.
+    pub fn new(rt: R, alloc: Global, service: S, executor: X) -> Result<Self, AllocError>
+        ensures { IfOk result (λ made. New service executor (view_of made)) }
+    {
+        let latch = Guarded::new(rt, alloc, SlotCore::new())?;
+        Ok(SpawnReady::with_latch(service, executor, latch))
+    }
+}
+
+impl<S, Request, E, X, L> SpawnReady<S, Request, E, X, L>
+where
+    E: Drop,
+    S: Service<Request, Error = E>,
+    X: Drop,
+    L: Latch<SlotCore<Viewed<S, Request>, E>>,
+{
+    /// The slot is over a latch of the caller's.
+    pub fn with_latch(service: S, executor: X, latch: L) -> SpawnReady<S, Request, E, X, L>
+        ensures { view_of result ≡ record { service = Some service; is_running = false; executor = executor; latch = latch } }
+    {
+        SpawnReady {
+            service: Some(service),
+            is_running: false,
+            executor,
+            latch,
+            of: PhantomData,
+        }
+    }
+}
+
+/// The task, where there is one, is aborted by one step at the latch.
+impl<S, Request, E, X, L> Drop for SpawnReady<S, Request, E, X, L>
+where
+    E: Drop,
+    S: Service<Request, Error = E>,
+    X: Drop,
+    L: Latch<SlotCore<Viewed<S, Request>, E>>,
+{
+    fn drop(self)
+        ensures { (reply : _) × L.gave self.latch Step.Abort reply }
+    {
+        self.latch.step(SlotStep::Abort);
+        let SpawnReady {
+            service: _,
+            is_running: _,
+            executor: _,
+            latch: _,
+            of: _,
+        } = self;
+    }
+}
+
+impl<S, Request, E, X, L> Service<Request> for SpawnReady<S, Request, E, X, L>
+where
+    E: Drop,
+    S: Service<Request, Error = E>,
+    X: Executor<ReadyTask<S, Request, E, L>> + Drop,
+    L: Latch<SlotCore<Viewed<S, Request>, E>>,
+{
+    type Response = S::Response;
+
+    type Error = Error<E>;
+
+    type Future = ResponseFuture<S::Future>;
+
+    ghost sound = { λ v. Sound S.sound X.Executor (view_of v) };
+
+    ghost ready = { λ v. IsSomeAnd v.service S.ready };
+
+    ghost polled = { λ old answer new. Polled S.Service L.Latch X.Executor (view_of old) answer (view_of new) };
+
+    ghost called = { λ old request future new. Called S.Service (view_of old) request future (view_of new) };
+
+    ghost readies = { λ old new p. polled_ok S.readies (view_of old) (view_of new) p };
+
+    fn poll_ready(&mut self, cx: &mut Context<'_>) -> Poll<Result<(), Self::Error>> {
+        for _pass in 0..PASSES {
+            if let Some(answer) = self.pass(cx) {
+                return answer;
+            }
+        }
+        cx.yield_now()
+    }
+
+    fn call(&mut self, request: Request) -> Self::Future {
+        let Some(service) = &mut self.service else {
+            unreachable!();
+        };
+        ResponseFuture::new(service.call(request))
+    }
+}
+
+type Answer<E> = Option<Poll<Result<(), Error<E>>>>;
+
+impl<S, Request, E, X, L> SpawnReady<S, Request, E, X, L>
+where
+    E: Drop,
+    S: Service<Request, Error = E>,
+    X: Executor<ReadyTask<S, Request, E, L>> + Drop,
+    L: Latch<SlotCore<Viewed<S, Request>, E>>,
+{
+    // One pass: an answer, or on with the next pass.
+    fn pass(&mut self, cx: &mut Context<'_>) -> Answer<E>
+        requires { Sound S.sound X.Executor (view_of self.old) }
+        ensures pass { Pass S.Service L.Latch X.Executor (view_of self.old) result (view_of self.new) }
+        ensures sound { Sound S.sound X.Executor (view_of self.new) }
+        ensures armed { IfSome result (λ answer. OnPending answer (IsArmed cx.new)) }
+        ensures kept { Keeps cx.old cx.new }
+    {
+        let Some(service) = &mut self.service else {
+            return self.look(cx);
+        };
+        match service.poll_ready(cx) {
+            Poll::Ready(Ok(())) => Some(Poll::Ready(Ok(()))),
+            Poll::Ready(Err(error)) => Some(Poll::Ready(Err(Error::Inner(error)))),
+            Poll::Pending => self.hand_over(),
+        }
+    }
+
+    // Looks for the service, which a task has.
+    fn look(&mut self, cx: &mut Context<'_>) -> Answer<E>
+        requires sound { Sound S.sound X.Executor (view_of self.old) }
+        requires away { self.old.service ≡ None }
+        ensures looks { Looks S.Service L.Latch X.Executor (view_of self.old) result (view_of self.new) }
+        ensures sound { Sound S.sound X.Executor (view_of self.new) }
+        ensures armed { IfSome result (λ answer. OnPending answer (IsArmed cx.new)) }
+        ensures kept { Keeps cx.old cx.new }
+    {
+        match self.latch.wait(SlotStep::Look, cx) {
+            SlotReply::Waiting => Some(Poll::Pending),
+            SlotReply::Service(viewed) => {
+                self.service = Some(viewed.into_inner());
+                self.is_running = false;
+                None
+            }
+            SlotReply::Error(error) => Some(Poll::Ready(Err(Error::Inner(error)))),
+            _ => Some(Poll::Ready(Err(Error::Gone))),
+        }
+    }
+
+    // Hands the service to a task. The task's share of the slot is made first.
+    fn hand_over(&mut self) -> Answer<E>
+        requires sound { Sound S.sound X.Executor (view_of self.old) }
+        requires here { IsSome self.old.service }
+        ensures hands { IfSome self.old.service (λ service. HandsOver S.Service L.Latch X.Executor (view_of self.old) service result (view_of self.new)) }
+        ensures sound { Sound S.sound X.Executor (view_of self.new) }
+        ensures ready { IfSome result (λ answer. OnPending answer ⊥) }
+    {
+        let Ok(latch) = self.latch.share() else {
+            return Some(Poll::Ready(Err(Error::Memory)));
+        };
+        let Some(service) = self.service.take() else {
+            unreachable!();
+        };
+        if !self.is_running {
+            self.latch.step(SlotStep::Start);
+            self.is_running = true;
+        }
+        match self.executor.spawn(ReadyTask::new(service, latch)) {
+            Ok(()) => None,
+            Err(task) => {
+                self.service = Some(task.into_service());
+                Some(Poll::Ready(Err(Error::NotSpawned)))
+            }
+        }
+    }
+}

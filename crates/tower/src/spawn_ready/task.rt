@@ -1,0 +1,168 @@
+//! The task that drives a service to readiness.
+ghost use Rattle.std.specs.Prelude.{◌≡◌, IfSome, IsSome, Some};
+ghost use Rattle.futures.specs.Poll.{IfReady, OnPending};
+ghost use Rattle.futures.specs.Task.{Covers, Keeps};
+ghost use Rattle.tower_base.specs.Gives.{IsStep, MayGive};
+ghost use Rattle.tower.specs.SpawnReady.{CanPoll, Makes, TaskStepped, held_of, tells};
+ghost use Rattle.tower.specs.declared.spawn_ready.slot_core.SlotStep.{SlotStep as Step};
+
+use crate::spawn_ready::slot_core::{SlotCore, SlotReply, SlotStep};
+use futures::future::Future;
+use futures::task::{Context, Poll};
+use std::marker::PhantomData;
+use tower_base::latch::Latch;
+use tower_base::latch::held::Viewed;
+use tower_base::service::{Service, Steps};
+
+/// Drives a service to readiness, and puts it into its slot: what the Rust spawns a `ReadyOneshot` for.
+///
+/// A poll looks whether nobody waits for the service any more, and then polls it once. The task is done
+/// once the service is ready or has failed, or nobody waits for it; then it has neither service nor slot.
+/// One that is dropped earlier tells its slot so.
+// (With a `Model` a generic function couldn't drop it, so clauses say `held_of`.)
+pub struct ReadyTask<
+    S: Service<Request, Error = E>,
+    Request,
+    E: Drop,
+    L: Latch<SlotCore<Viewed<S, Request>, E>>,
+> {
+    held: Option<Held<S, L>>,
+    of: PhantomData<(Request, E)>,
+}
+
+/// What a task has until it is done.
+#[derive(Drop)]
+pub struct Held<S, L> {
+    pub service: S,
+    pub latch: L,
+}
+
+impl<S, Request, E, L> ReadyTask<S, Request, E, L>
+where
+    E: Drop,
+    S: Service<Request, Error = E>,
+    L: Latch<SlotCore<Viewed<S, Request>, E>>,
+{
+    pub(crate) fn new(service: S, latch: L) -> ReadyTask<S, Request, E, L>
+        ensures { held_of result ≡ Some (record { service = service; latch = latch }) }
+    {
+        ReadyTask {
+            held: Some(Held { service, latch }),
+            of: PhantomData,
+        }
+    }
+
+    // The service. The slot isn't told.
+    pub(crate) fn into_service(mut self) -> S
+        requires { IsSome (held_of self) }
+        ensures { IfSome (held_of self) (λ held. result ≡ held.service) }
+    {
+        let Some(Held { service, latch: _ }) = self.held.take() else {
+            unreachable!();
+        };
+        service
+    }
+}
+
+/// One that isn't done tells its slot by one step at the latch.
+impl<S, Request, E, L> Drop for ReadyTask<S, Request, E, L>
+where
+    E: Drop,
+    S: Service<Request, Error = E>,
+    L: Latch<SlotCore<Viewed<S, Request>, E>>,
+{
+    fn drop(self)
+        ensures { IfSome (held_of self) (λ held. (reply : _) × L.gave held.latch Step.TaskGone reply) }
+    {
+        if let Some(held) = &self.held {
+            held.latch.step(SlotStep::TaskGone);
+        }
+        let ReadyTask { held: _, of: _ } = self;
+    }
+}
+
+impl<S, Request, E, L> Future for ReadyTask<S, Request, E, L>
+where
+    E: Drop,
+    S: Service<Request, Error = E>,
+    L: Latch<SlotCore<Viewed<S, Request>, E>>,
+{
+    type Output = ();
+
+    ghost can_poll = { λ task. CanPoll S.sound (held_of task) };
+
+    ghost gives = { MayGive (λ old answer new. TaskStepped L.Latch S.Service (held_of old) answer (held_of new)) };
+
+    ghost needs = { λ _ _. ⊥ };
+
+    #[tactic(auto, using(tower_base::specs::GivesLemmas::one_step))]
+    fn poll(&mut self, cx: &mut Context<'_>) -> Poll<()>
+        requires { CanPoll S.sound (held_of self.old) }
+        ensures { IsStep (λ old answer new. TaskStepped L.Latch S.Service (held_of old) answer (held_of new)) (λ task. CanPoll S.sound (held_of task)) (λ _ _. ⊥) self.old result self.new cx.old cx.new }
+    {
+        self.step(cx)
+    }
+}
+
+impl<S, Request, E, L> Steps for ReadyTask<S, Request, E, L>
+where
+    E: Drop,
+    S: Service<Request, Error = E>,
+    L: Latch<SlotCore<Viewed<S, Request>, E>>,
+{
+    ghost stepped = { λ old answer new. TaskStepped L.Latch S.Service (held_of old) answer (held_of new) };
+
+    fn step(&mut self, cx: &mut Context<'_>) -> Poll<()> {
+        let Some(Held { mut service, latch }) = self.held.take() else {
+            unreachable!();
+        };
+        if ReadyTask::<S, Request, E, L>::is_aborted(&latch, cx) {
+            return Poll::Ready(());
+        }
+        match service.poll_ready(cx) {
+            Poll::Pending => {
+                self.held = Some(Held { service, latch });
+                Poll::Pending
+            }
+            Poll::Ready(Ok(())) => {
+                ReadyTask::<S, Request, E, L>::put(&latch, service);
+                Poll::Ready(())
+            }
+            Poll::Ready(Err(error)) => {
+                ReadyTask::<S, Request, E, L>::put_error(&latch, error);
+                Poll::Ready(())
+            }
+        }
+    }
+}
+
+impl<S, Request, E, L> ReadyTask<S, Request, E, L>
+where
+    E: Drop,
+    S: Service<Request, Error = E>,
+    L: Latch<SlotCore<Viewed<S, Request>, E>>,
+{
+    // Whether nobody waits for the service any more.
+    fn is_aborted(latch: &L, cx: &mut Context<'_>) -> bool
+        ensures asked { (reply : _) × L.gave latch.now Step.Aborted reply × (result ≡ tells reply) }
+        ensures kept { Keeps cx.old cx.new }
+    {
+        match latch.wait(SlotStep::Aborted, cx) {
+            SlotReply::Truth(aborted) => aborted,
+            _ => false,
+        }
+    }
+
+    fn put(latch: &L, service: S)
+        requires { S.sound service }
+        ensures { Makes L.Latch latch.now (Step.Put service) }
+    {
+        latch.step(SlotStep::Put(Viewed::new(service)));
+    }
+
+    fn put_error(latch: &L, error: E)
+        ensures { Makes L.Latch latch.now (Step.PutError error) }
+    {
+        latch.step(SlotStep::PutError(error));
+    }
+}
