@@ -51,7 +51,7 @@ impl Line {
         Ok(sum)
     }
 
-    // One round. The waiters' keys are counted from 0 on.
+    // One round. The waiters' keys are counted from 0 on, and who joins gets the key that was left last.
     fn round(self, core: &mut LineCore, waiters: u64, number: u64) -> u64 {
         match self {
             Line::Look => number_of(core.step(LineStep::Look(waiters.wrapping_sub(1)))),
@@ -60,7 +60,8 @@ impl Line {
                 key.wrapping_add(number_of(core.step(LineStep::Cancel(key))))
             }
             Line::CancelOldest => {
-                let left = number_of(core.step(LineStep::Cancel(number)));
+                let oldest = number.checked_rem(waiters).unwrap_or(0);
+                let left = number_of(core.step(LineStep::Cancel(oldest)));
                 left.wrapping_add(number_of(core.step(LineStep::Join)))
             }
         }

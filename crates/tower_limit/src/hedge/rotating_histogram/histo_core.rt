@@ -50,6 +50,7 @@ impl HistoCore {
         period != 0
     }
 
+    #[inline(always)]
     fn rotate(&mut self, moment: u64)
         ensures { Changes (λ h. rotated h moment) self.old self.new }
     {
@@ -60,6 +61,7 @@ impl HistoCore {
     }
 
     // What was written in the period before is read now.
+    #[inline(never)]
     fn move_to(&mut self, period: u64)
         requires { self.old.present < period }
         ensures { Changes (λ h. record h { present = period }) self.old self.new }
