@@ -11,5 +11,3 @@ mod discover;
 mod parts;
 #[cfg(test)]
 mod pending_requests;
-#[cfg(test)]
-mod refused;

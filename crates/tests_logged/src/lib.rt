@@ -14,6 +14,4 @@ mod line;
 #[cfg(test)]
 mod plain_line;
 #[cfg(test)]
-mod refused;
-#[cfg(test)]
 mod storm;

@@ -1,5 +1,5 @@
 use Rattle.std.specs.Prelude.{Some}
-use Rattle.tests_logged.proofs.refused.refused_growths_make_no_step.Given as goal
+use Rattle.tests_refused.proofs.logged.ample_growths.Given as goal
 
 abbrev pub ghosts-six_steps-K-Log : goal.ghosts-six_steps-K-Log
 ghosts-six_steps-K-Log g a = record { opening = Some a.line; table = a.table }

@@ -1,3 +1,4 @@
+//! A logged line: a step that is refused wasn't made.
 ghost use Rattle.std.specs.Prelude.{◌≡◌, Some};
 ghost use Rattle.tower_limit.specs.LineCore.{Opens};
 
@@ -9,8 +10,6 @@ use std::sync::ledger::Blank;
 use std::test::Fail;
 use tower_base::latch::{Log, LogTable, Logged, Pass};
 use tower_limit::limit::concurrency::{LineCore, LineReply, LineStep};
-
-// Tests `refused_..` pass whichever one allocation is refused, and tests `ample_..` where none is.
 
 // What six steps answer, at the places 0 to 5.
 const WANT: [(LineStep, LineReply); 6] = [

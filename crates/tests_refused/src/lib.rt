@@ -1,0 +1,14 @@
+//! Refused memory: `refused_..` pass whichever one allocation is refused, and `ample_..`, which make the same calls, where
+//! none is. `scripts/refused.sh` refuses one after another.
+#![tactic(auto)]
+
+#[cfg(test)]
+mod desk;
+#[cfg(test)]
+mod load;
+#[cfg(test)]
+mod logged;
+#[cfg(test)]
+mod pool;
+#[cfg(test)]
+mod shared;

@@ -1,0 +1,180 @@
+//! Pools of services: what is refused is asked for again, and no service is lost.
+
+use crate::desk::{desk, made};
+use futures::task::Poll;
+use std::alloc::AllocGlobal;
+use std::random::RandomSource;
+use std::sync::Wait;
+use std::test::Fail;
+use tests_support::run::{awaited, called, polled, stepped};
+use tests_support::script::{Mood, Script};
+use tests_support::service::Scripted;
+use tower::balance;
+use tower::balance::p2c::Balance;
+use tower::buffer::{self, Buffer};
+use tower::discover::ServiceList;
+use tower::load::Constant;
+use tower::ready_cache::{ReadyCache, error};
+use tower::service::Executor;
+use tower::spawn_ready::{self, SpawnReady};
+
+// One endpoint is pushed and gets ready. A refused push gives it back, and a refused poll leaves it pending.
+fn one_endpoint<R>(rt: R, again: bool) -> Result<(), Fail>
+where
+    R: RandomSource + AllocGlobal + Copy,
+{
+    let Some((log, solo)) = desk(&rt, again)? else {
+        return Ok(());
+    };
+    let script = Script::new(&log);
+    let mut cache = ReadyCache::<u8, Scripted<'_>, u8>::new(rt.alloc());
+    if let Err((key, service)) = cache.push(4, Scripted::new(&script, 's')) {
+        if !again || cache.push(key, service).is_err() {
+            return Err("not pushed".into());
+        }
+    }
+    let mut cx = solo.begin();
+    let mut answer = cache.poll_pending(&mut cx);
+    if again && matches!(answer, Poll::Ready(Err(error::Error::Memory))) {
+        answer = cache.poll_pending(&mut cx);
+    }
+    cx.cancel();
+    if !matches!(answer, Poll::Ready(Ok(()))) || cache.ready_len() != 1 {
+        return Err("not ready".into());
+    }
+    Ok(())
+}
+
+#[test]
+fn refused_endpoint_is_given_back(rt: HostRuntime) -> Result<(), Fail> {
+    one_endpoint(rt, true)
+}
+
+#[test]
+fn ample_endpoint(rt: HostRuntime) -> Result<(), Fail> {
+    one_endpoint(rt, false)
+}
+
+// A balancer of one endpoint, and a call of it.
+fn one_choice<R>(rt: R, again: bool) -> Result<(), Fail>
+where
+    R: RandomSource + AllocGlobal + Copy,
+{
+    let alloc = rt.alloc();
+    let Some((log, solo)) = desk(&rt, again)? else {
+        return Ok(());
+    };
+    let script = Script::new(&log);
+    let services = vec![in alloc; Constant::new(Scripted::new(&script, 's'), 5u8)];
+    let Some(services) = made(services, again)? else {
+        return Ok(());
+    };
+    let mut balance = Balance::new(alloc, ServiceList::new(services));
+    match polled(&solo, &mut balance) {
+        Poll::Ready(Ok(())) => {}
+        Poll::Ready(Err(balance::Error::Memory)) if again => {}
+        _ => return Err("not ready".into()),
+    }
+    let response = called(&solo, &mut balance, 6u8).ok_or("no response")?;
+    match awaited(&solo, response) {
+        Some(Ok(6)) if balance.len() == 1 => Ok(()),
+        _ => Err("the endpoint is lost".into()),
+    }
+}
+
+#[test]
+fn refused_change_is_kept(rt: HostRuntime) -> Result<(), Fail> {
+    one_choice(rt, true)
+}
+
+#[test]
+fn ample_change(rt: HostRuntime) -> Result<(), Fail> {
+    one_choice(rt, false)
+}
+
+// A message through a buffer. Where its place is refused it is asked for again.
+fn one_message<R>(rt: R, again: bool) -> Result<(), Fail>
+where
+    R: Wait + RandomSource + AllocGlobal + Copy,
+{
+    let Some((log, solo)) = desk(&rt, again)? else {
+        return Ok(());
+    };
+    let script = Script::new(&log);
+    let pair = Buffer::pair(rt, rt.alloc(), Scripted::new(&script, 's'), 1);
+    let Some((mut buffer, mut worker)) = made(pair, again)? else {
+        return Ok(());
+    };
+    match polled(&solo, &mut buffer) {
+        Poll::Ready(Ok(())) => {}
+        Poll::Ready(Err(buffer::Error::Memory)) if again => {}
+        _ => return Err("no place".into()),
+    }
+    let response = called(&solo, &mut buffer, 6).ok_or("no response")?;
+    if !stepped(&solo, &mut worker).is_pending() {
+        return Err("the worker ended".into());
+    }
+    match awaited(&solo, response) {
+        Some(Ok(6)) => Ok(()),
+        _ => Err("the message is lost".into()),
+    }
+}
+
+#[test]
+fn refused_place_is_asked_for_again(rt: HostRuntime) -> Result<(), Fail> {
+    one_message(rt, true)
+}
+
+#[test]
+fn ample_place(rt: HostRuntime) -> Result<(), Fail> {
+    one_message(rt, false)
+}
+
+// Gives each task back.
+struct Nobody;
+
+impl<T> Executor<T> for Nobody {
+    fn spawn(&self, task: T) -> Result<(), T> {
+        Err(task)
+    }
+}
+
+impl Drop for Nobody {
+    fn drop(self) {
+        let Nobody = self;
+    }
+}
+
+// A service that no task takes, and that is asked again.
+fn one_slot<R>(rt: R, again: bool) -> Result<(), Fail>
+where
+    R: Wait + RandomSource + AllocGlobal + Copy,
+{
+    let Some((log, solo)) = desk(&rt, again)? else {
+        return Ok(());
+    };
+    let script = Script::new(&log);
+    script.moods(&[Mood::Busy, Mood::Willing]);
+    let spawning = SpawnReady::new(rt, rt.alloc(), Scripted::new(&script, 's'), Nobody);
+    let Some(mut service) = made(spawning, again)? else {
+        return Ok(());
+    };
+    match polled(&solo, &mut service) {
+        Poll::Ready(Err(spawn_ready::Error::NotSpawned)) => {}
+        _ => return Err("handed over".into()),
+    }
+    match polled(&solo, &mut service) {
+        Poll::Ready(Ok(())) => Ok(()),
+        _ => Err("the service is lost".into()),
+    }
+}
+
+#[test]
+fn refused_slot_drops_the_service(rt: HostRuntime) -> Result<(), Fail> {
+    one_slot(rt, true)
+}
+
+#[test]
+fn ample_slot(rt: HostRuntime) -> Result<(), Fail> {
+    one_slot(rt, false)
+}
