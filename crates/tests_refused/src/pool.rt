@@ -1,22 +1,24 @@
-//! Pools of services: what is refused is asked for again, and no service is lost.
+//! Pools of services: what is refused is asked for again, and no service is lost. (One service here is its own, since the
+//! kit's borrow checker doesn't cover a `Buffer` whose futures have a lifetime.)
 
 use crate::desk::{desk, made};
-use futures::task::Poll;
-use std::alloc::AllocGlobal;
+use futures::future::{Ready, ready};
+use futures::task::{Context, Poll, Solo};
+use std::alloc::{AllocError, AllocGlobal};
 use std::random::RandomSource;
 use std::sync::Wait;
 use std::test::Fail;
 use tests_support::run::{awaited, called, polled, stepped};
-use tests_support::script::{Mood, Script};
+use tests_support::script::Script;
 use tests_support::service::Scripted;
 use tower::balance;
 use tower::balance::p2c::Balance;
-use tower::buffer::{self, Buffer};
+use tower::buffer::Buffer;
 use tower::discover::ServiceList;
 use tower::load::Constant;
 use tower::ready_cache::{ReadyCache, error};
-use tower::service::Executor;
-use tower::spawn_ready::{self, SpawnReady};
+use tower::service::{Executor, Service, Steps};
+use tower::spawn_ready::SpawnReady;
 
 // One endpoint is pushed and gets ready. A refused push gives it back, and a refused poll leaves it pending.
 fn one_endpoint<R>(rt: R, again: bool) -> Result<(), Fail>
@@ -92,42 +94,79 @@ fn ample_change(rt: HostRuntime) -> Result<(), Fail> {
     one_choice(rt, false)
 }
 
+// Answers with the request. Its first poll is pending where it is busy.
+#[derive(Drop)]
+struct Echo {
+    busy: bool,
+}
+
+impl Service<u8> for Echo {
+    type Response = u8;
+
+    type Error = u8;
+
+    type Future = Ready<Result<u8, u8>>;
+
+    ghost readies = { λ _ _ _. tt };
+
+    fn poll_ready(&mut self, cx: &mut Context<'_>) -> Poll<Result<(), u8>> {
+        if self.busy {
+            self.busy = false;
+            return cx.yield_now();
+        }
+        Poll::Ready(Ok(()))
+    }
+
+    fn call(&mut self, request: u8) -> Ready<Result<u8, u8>> {
+        ready(Ok(request))
+    }
+}
+
 // A message through a buffer. Where its place is refused it is asked for again.
-fn one_message<R>(rt: R, again: bool) -> Result<(), Fail>
+fn one_message<B, W>(solo: &Solo, mut buffer: B, mut worker: W, again: bool) -> Result<(), Fail>
 where
-    R: Wait + RandomSource + AllocGlobal + Copy,
+    B: Service<u8, Response = u8>,
+    W: Steps<Output = ()>,
+    requires buffer { B.sound buffer }
+    requires worker { W.can_poll worker }
 {
-    let Some((log, solo)) = desk(&rt, again)? else {
-        return Ok(());
-    };
-    let script = Script::new(&log);
-    let pair = Buffer::pair(rt, rt.alloc(), Scripted::new(&script, 's'), 1);
-    let Some((mut buffer, mut worker)) = made(pair, again)? else {
-        return Ok(());
-    };
-    match polled(&solo, &mut buffer) {
+    match polled(solo, &mut buffer) {
         Poll::Ready(Ok(())) => {}
-        Poll::Ready(Err(buffer::Error::Memory)) if again => {}
+        Poll::Ready(Err(_)) if again => {}
         _ => return Err("no place".into()),
     }
-    let response = called(&solo, &mut buffer, 6).ok_or("no response")?;
-    if !stepped(&solo, &mut worker).is_pending() {
+    let response = called(solo, &mut buffer, 6).ok_or("no response")?;
+    if !stepped(solo, &mut worker).is_pending() {
         return Err("the worker ended".into());
     }
-    match awaited(&solo, response) {
+    match awaited(solo, response) {
         Some(Ok(6)) => Ok(()),
         _ => Err("the message is lost".into()),
     }
 }
 
+fn buffered<R>(rt: R, again: bool) -> Result<(), Fail>
+where
+    R: Wait + RandomSource + AllocGlobal + Copy,
+{
+    let Some((_log, solo)) = desk(&rt, again)? else {
+        return Ok(());
+    };
+    match Buffer::pair(rt, rt.alloc(), Echo { busy: false }, 1) {
+        Ok((buffer, worker)) => one_message(&solo, buffer, worker, again),
+        Err(AllocError) if again => Ok(()),
+        Err(AllocError) => Err("no buffer".into()),
+    }
+}
+
 #[test]
 fn refused_place_is_asked_for_again(rt: HostRuntime) -> Result<(), Fail> {
-    one_message(rt, true)
+    buffered(rt, true)
 }
 
 #[test]
 fn ample_place(rt: HostRuntime) -> Result<(), Fail> {
-    one_message(rt, false)
+    buffered(rt, false)
 }
 
 // Gives each task back.
@@ -146,35 +185,38 @@ impl Drop for Nobody {
 }
 
 // A service that no task takes, and that is asked again.
-fn one_slot<R>(rt: R, again: bool) -> Result<(), Fail>
-where
-    R: Wait + RandomSource + AllocGlobal + Copy,
+fn one_slot<S: Service<u8>>(solo: &Solo, mut service: S) -> Result<(), Fail>
+    requires { S.sound service }
 {
-    let Some((log, solo)) = desk(&rt, again)? else {
-        return Ok(());
-    };
-    let script = Script::new(&log);
-    script.moods(&[Mood::Busy, Mood::Willing]);
-    let spawning = SpawnReady::new(rt, rt.alloc(), Scripted::new(&script, 's'), Nobody);
-    let Some(mut service) = made(spawning, again)? else {
-        return Ok(());
-    };
-    match polled(&solo, &mut service) {
-        Poll::Ready(Err(spawn_ready::Error::NotSpawned)) => {}
-        _ => return Err("handed over".into()),
+    if !matches!(polled(solo, &mut service), Poll::Ready(Err(_))) {
+        return Err("handed over".into());
     }
-    match polled(&solo, &mut service) {
+    match polled(solo, &mut service) {
         Poll::Ready(Ok(())) => Ok(()),
         _ => Err("the service is lost".into()),
     }
 }
 
+fn spawning<R>(rt: R, again: bool) -> Result<(), Fail>
+where
+    R: Wait + RandomSource + AllocGlobal + Copy,
+{
+    let Some((_log, solo)) = desk(&rt, again)? else {
+        return Ok(());
+    };
+    match SpawnReady::new(rt, rt.alloc(), Echo { busy: true }, Nobody) {
+        Ok(service) => one_slot(&solo, service),
+        Err(AllocError) if again => Ok(()),
+        Err(AllocError) => Err("no slot".into()),
+    }
+}
+
 #[test]
 fn refused_slot_drops_the_service(rt: HostRuntime) -> Result<(), Fail> {
-    one_slot(rt, true)
+    spawning(rt, true)
 }
 
 #[test]
 fn ample_slot(rt: HostRuntime) -> Result<(), Fail> {
-    one_slot(rt, false)
+    spawning(rt, false)
 }
