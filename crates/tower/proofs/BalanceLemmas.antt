@@ -1,27 +1,25 @@
 -- What the parts of a balancer's poll say of the whole.
-use Rattle.std.proofs.Common.{ℕ, zero, suc, ◌+◌, ◌-◌, ◌<◌, ◌≤◌, ◌≡◌, Bool, true, false, List, [], ◌∷◌, ◌++◌, Option, Some, None, Result, Ok, Err, ◌⊎◌, inl, inr, ⊎_elim, nat_lt, length, length-append, slice_get, slice_index_or, slice_set, take, is_some, unwrap_or, if◌then◌else◌, refl, sym, ap, ◌∙◌, subst, arith, lt-ltb, ltb-true, true≢false}
+use Rattle.std.proofs.Common.{ℕ, suc, ◌+◌, ◌-◌, ◌<◌, ◌≤◌, ◌≡◌, Bool, true, false, List, [], ◌∷◌, ◌++◌, Option, Some, None, Result, Ok, Err, ◌⊎◌, inl, inr, ⊎_elim, nat_lt, length, length-append, slice_get, slice_index_or, slice_set, unwrap_or, if◌then◌else◌, refl, sym, ap, ◌∙◌, subst, arith, lt-ltb, ltb-true}
 use Rattle.std.specs.List.{swap_remove}
 use Rattle.std.specs.List.Sorted.{IsPermutation}
 use Rattle.std.specs.Option.{MatchOption, option_map_or}
-use Rattle.std.specs.Ordering.{partial_le}
 use Rattle.std.specs.declared.cmp.Ordering.{Ordering}
 use Rattle.std.proofs.lemmas.List.{append_assoc, length-set, length-take}
 use Rattle.std.proofs.lemmas.List.Sorted.{IsPermutation-append_right, IsPermutation-refl, IsPermutation-swap_remove, IsPermutation-trans}
 use Rattle.std.proofs.lemmas.Option.{get_or_from_slice_get, slice_get_cases, slice_get_within}
 use Rattle.futures.specs.declared.task.Poll.{Poll}
 use Rattle.futures.specs.declared.task.Poll.TheVariants.{Ready, Pending}
-use Rattle.indexmap.specs.IndexMap.{insert_entry, set_value_at}
+use Rattle.indexmap.specs.IndexMap.{insert_entry}
 use Rattle.tower_base.specs.Draw.{Drawn, IsPair}
 use Rattle.tower_base.specs.Passes.{Goes, Passes}
 use Rattle.tower_base.specs.PassesLemmas.{goes_more, goes_start}
 use Rattle.tower_base.specs.declared.service.Service.{Ghosts as ServiceOf}
 use Rattle.tower_limit.specs.Discover.{Found, MayInsert, inserted}
 use Rattle.tower_limit.specs.DiscoverLemmas.{inserts_later, inserts_now}
-use Rattle.tower.specs.Balance.{AfterCheck, BalanceView, Changed, ChangedAt, Chooses, Chosen, Pass, PassAt, Picked, PickedOf, Promotes, PromotesAfter, Reads, ReadsAll, Sound, Turn, answer_of, asked_at}
-use Rattle.tower_pool.specs.ReadyCache.{At, Checked, PendingView, ReadyCacheView, Settles}
+use Rattle.tower.specs.Balance.{AfterCheck, BalanceView, Chooses, Chosen, IsLighter, Pass, PassAt, Picked, PickedOf, Promotes, Reads, ReadsAll, Turn, answer_of, asked_at}
+use Rattle.tower_pool.specs.ReadyCache.{Checked, PendingView, ReadyCacheView, Settles}
 use Rattle.tower_pool.specs.ReadyCachePoll.{ByAnswer, ByTest, EachAsked, Ends, PendingPolled}
 use Rattle.tower.specs.declared.balance.error.Error.{Error}
-use Rattle.tower.specs.declared.balance.error.Error.TheVariants.{Memory}
 use Rattle.tower_pool.specs.declared.ready_cache.error.Failed.{Failed}
 use Rattle.tower_pool.specs.declared.ready_cache.error.Error.{Error as CacheError}
 use Rattle.tower_pool.specs.declared.ready_cache.error.Error.TheVariants.{Failed as EndpointFailed, Memory as NoRoom}
@@ -35,31 +33,29 @@ pair_is n (i ∷ j ∷ k ∷ ks) h = absurd h
 
 module _ {R K S M : Type 0} (loaded : S → M → Type 0) (cmp : M → M → Option Ordering) (drew : R → ℕ → R → Type 0) where
   -- of two or more, one of two is picked
-  pub picked_two : (ready : List (K × S)) (count : ℕ) (pair : List ℕ) (old new : R) (x y : M) (b : Bool) → count ≡ length ready → 2 ≤ count → IsPair count pair → Drawn drew old count pair new
-      → At ready (slice_index_or pair 0 0) (λ e. loaded e.1 x) → At ready (slice_index_or pair 1 0) (λ e. loaded e.1 y) → b ≡ partial_le cmp x y
-      → Picked loaded cmp drew ready old (Some (if b then slice_index_or pair 0 0 else slice_index_or pair 1 0)) new
-  picked_two [] count pair old new x y b same two is drawn first second e = absurd (omega (arith, same))
-  picked_two (u ∷ []) count pair old new x y b same two is drawn first second e = absurd (omega (arith, same))
-  picked_two (u ∷ v ∷ us) count pair old new x y b same two is drawn first second e = (
+  pub picked_two : (ready : List (K × S)) (count : ℕ) (pair : List ℕ) (old new : R) (lighter : Bool) → count ≡ length ready → 2 ≤ count → IsPair count pair → Drawn drew old count pair new
+      → IsLighter loaded cmp ready (slice_index_or pair 0 0) (slice_index_or pair 1 0) lighter
+      → Picked loaded cmp drew ready old (Some (if lighter then slice_index_or pair 0 0 else slice_index_or pair 1 0)) new
+  picked_two [] count pair old new lighter same two is drawn h = absurd (omega (arith, same))
+  picked_two (u ∷ []) count pair old new lighter same two is drawn h = absurd (omega (arith, same))
+  picked_two (u ∷ v ∷ us) count pair old new lighter same two is drawn h = (
     slice_index_or pair 0 0,
     slice_index_or pair 1 0,
-    x,
-    y,
+    lighter,
     subst (λ n. Drawn drew old n (slice_index_or pair 0 0 ∷ slice_index_or pair 1 0 ∷ []) new) same (subst (λ l. Drawn drew old count l new) (pair_is count pair is) drawn),
-    first,
-    second,
-    ap (λ b. Some (if b then slice_index_or pair 0 0 else slice_index_or pair 1 0)) e,
+    h,
+    refl,
   )
 
   -- what is picked is there
   picked_there : (ready all : List (K × S)) (old new : R) (i : ℕ) → ready ≡ all → PickedOf loaded cmp drew ready all old (Some i) new → i < length all
   picked_there [] all old new i e h = let f : Some i ≡ None = h.0 in cc
   picked_there (u ∷ []) all old new i e h = omega (arith, ap length e, ap (λ o. unwrap_or o i) h.0)
-  picked_there (u ∷ v ∷ us) all old new i e h = by (partial_le cmp h.2 h.3) h.7
+  picked_there (u ∷ v ∷ us) all old new i e h = by h.2 h.5
     where
       by : (b : Bool) → Some i ≡ Some (if b then h.0 else h.1) → i < length all
-      by true is = subst (λ n. n < length all) (sym (ap (λ o. unwrap_or o i) is)) (slice_get_within all h.0 h.5.0 h.5.1)
-      by false is = subst (λ n. n < length all) (sym (ap (λ o. unwrap_or o i) is)) (slice_get_within all h.1 h.6.0 h.6.1)
+      by true is = subst (λ n. n < length all) (sym (ap (λ o. unwrap_or o i) is)) (slice_get_within all h.0 h.4.2.0 h.4.2.1)
+      by false is = subst (λ n. n < length all) (sym (ap (λ o. unwrap_or o i) is)) (slice_get_within all h.1 h.4.3.0 h.4.3.1)
 
 module _ {K S Q A E G : Type 0} (eq : K → K → Bool) (s : ServiceOf S Q A E G) where
   -- what an entry that isn't cancelled adds to a poll

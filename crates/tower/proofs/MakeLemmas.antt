@@ -1,7 +1,6 @@
 -- What a poll of a balancer's future says, by what the maker's answered.
-use Rattle.std.proofs.Common.{◌≡◌, Option, Some, None, Result, Ok, Err, sym, ap, ◌∙◌, subst, unwrap_or}
+use Rattle.std.proofs.Common.{◌≡◌, Option, Some, None, Result, sym, ap, ◌∙◌, subst, unwrap_or}
 use Rattle.futures.specs.declared.task.Poll.{Poll}
-use Rattle.futures.specs.declared.task.Poll.TheVariants.{Ready, Pending}
 use Rattle.tower_base.specs.declared.service.Steps.{Ghosts as StepsOf}
 use Rattle.tower.specs.Balance.{fresh, view_of}
 use Rattle.tower.specs.MakeBalance.{AfterStep, CanPoll, Stepped}

@@ -1,5 +1,5 @@
 -- The machine of `balance::p2c`: a discovery, a ready cache of what it inserted, and the index of the endpoint that is to be called next.
-use Rattle.std.specs.Prelude.{All, ℕ, zero, suc, ◌+◌, ◌≡◌, ◌≤◌, Bool, true, false, List, [], ◌∷◌, ◌++◌, Option, Some, None, IfSome, Result, Ok, Err, ◌⊎◌, length, slice_get, if◌then◌else◌}
+use Rattle.std.specs.Prelude.{ℕ, zero, suc, ◌+◌, ◌≡◌, ◌≤◌, Bool, true, false, List, [], ◌∷◌, ◌++◌, Option, Some, None, IfSome, Result, Ok, Err, ◌⊎◌, length, slice_get, if◌then◌else◌}
 use Rattle.std.specs.List.Sorted.{IsPermutation}
 use Rattle.std.specs.Option.{MatchOption, option_map_or}
 use Rattle.std.specs.Ordering.{partial_le}
@@ -118,14 +118,19 @@ module _ {K S Q A E G X : Type 0} (eq : K → K → Bool) (s : ServiceOf S Q A E
   abbrev pub Promotes : ReadyCacheView K S → Result (Unit {0}) (Error E X) → ReadyCacheView K S → Type 0
   Promotes old answer new = (n : ℕ) × PromotesAfter n old answer new
 
+module _ {K S M : Type 0} (loaded : S → M → Type 0) (cmp : M → M → Option Ordering) where
+  -- whether the load that one endpoint tells is at most that of the other; of loads that don't compare it isn't
+  abbrev pub IsLighter : List (K × S) → ℕ → ℕ → Bool → Type 0
+  IsLighter ready i j lighter = (x : M) × (y : M) × At ready i (λ e. loaded e.1 x) × At ready j (λ e. loaded e.1 y) × (lighter ≡ partial_le cmp x y)
+
 module _ {R K S M : Type 0} (loaded : S → M → Type 0) (cmp : M → M → Option Ordering) (drew : R → ℕ → R → Type 0) where
   -- Of no ready endpoint none is picked, and of one that one. Of more, two are drawn and their loads told: the first is picked exactly where its load is
   -- at most the second's.
   abbrev pub PickedOf : List (K × S) → List (K × S) → R → Option ℕ → R → Type 0
   PickedOf [] ready old index new = (index ≡ None) × (new ≡ old)
   PickedOf (e ∷ []) ready old index new = (index ≡ Some 0) × (new ≡ old)
-  PickedOf (e ∷ f ∷ es) ready old index new = (i : ℕ) × (j : ℕ) × (x : M) × (y : M) × Drawn drew old (length ready) (i ∷ j ∷ []) new
-      × At ready i (λ e. loaded e.1 x) × At ready j (λ e. loaded e.1 y) × (index ≡ Some (if partial_le cmp x y then i else j))
+  PickedOf (e ∷ f ∷ es) ready old index new = (i : ℕ) × (j : ℕ) × (lighter : Bool) × Drawn drew old (length ready) (i ∷ j ∷ []) new
+      × IsLighter loaded cmp ready i j lighter × (index ≡ Some (if lighter then i else j))
 
   abbrev pub Picked : List (K × S) → R → Option ℕ → R → Type 0
   Picked ready old index new = PickedOf ready ready old index new

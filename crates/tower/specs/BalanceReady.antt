@@ -2,7 +2,6 @@
 use Rattle.std.specs.Prelude.{ℕ, Bool, true, false, ◌≡◌, List, [], ◌∷◌, Option, Some, None, Result, Ok, Err, if◌then◌else◌, refl}
 use Rattle.std.proofs.Common.{ap, subst, sym, ◌∙◌}
 use Rattle.std.specs.Option.{MatchOption}
-use Rattle.std.specs.Ordering.{partial_le}
 use Rattle.std.specs.declared.cmp.Ordering.{Ordering}
 use Rattle.futures.specs.Poll.{OnPending}
 use Rattle.futures.specs.declared.task.Poll.{Poll}
@@ -23,7 +22,7 @@ module _ {R K S M : Type 0} (loaded : S → M → Type 0) (cmp : M → M → Opt
   picked_none : (ready all : List (K × S)) (old : R) (index : Option ℕ) (new : R) → ready ≡ all → PickedOf loaded cmp drew ready all old index new → index ≡ None → all ≡ []
   picked_none [] all old index new is h e = sym is
   picked_none (u ∷ []) all old index new is h e = let f : index ≡ Some 0 = h.0 in cc
-  picked_none (u ∷ v ∷ us) all old index new is h e = let f : index ≡ Some (if partial_le cmp h.2 h.3 then h.0 else h.1) = h.7 in cc
+  picked_none (u ∷ v ∷ us) all old index new is h e = let f : index ≡ Some (if h.2 then h.0 else h.1) = h.5 in cc
 
 module _ {D R K S Q A E G X M : Type 0} (eq : K → K → Bool) (s : ServiceOf S Q A E G) (loaded : S → M → Type 0) (cmp : M → M → Option Ordering) (drew : R → ℕ → R → Type 0) where
   checked_ok : (old : BalanceView D R K S) (i : ℕ) (inner : Result Bool (Failed K E)) (answer : Option (Poll (Result (Unit {0}) (Error E X)))) (new : BalanceView D R K S)

@@ -1,7 +1,7 @@
 //! The parts of a balancer's poll that concern its endpoints alone.
 ghost use Rattle.std.specs.Prelude.{◌≡◌, ◌<◌, length};
 ghost use Rattle.futures.specs.Task.{Keeps};
-ghost use Rattle.tower.specs.Balance.{Picked, Promotes};
+ghost use Rattle.tower.specs.Balance.{IsLighter, Picked, Promotes};
 ghost use Rattle.tower_pool.specs.ReadyCache.{At, Sound};
 
 use crate::balance::error::Error;
@@ -48,6 +48,18 @@ where
     service.load()
 }
 
+// Whether the load of the first is at most the second's.
+fn is_lighter<K, S, Req>(services: &ReadyCache<K, S, Req>, first: usize, second: usize) -> bool
+where
+    K: Eq + Hash + Clone + Drop,
+    S: Service<Req> + Load,
+    requires first { first < length services.now.ready }
+    requires second { second < length services.now.ready }
+    ensures { IsLighter S.loaded S.Metric.partial_cmp services.now.ready first second result }
+{
+    load_at(services, first) <= load_at(services, second)
+}
+
 /// The index of the endpoint to be called next: of two that are drawn the first, where its load is at most the
 /// second's.
 pub(crate) fn pick<K, S, R, Req>(services: &ReadyCache<K, S, Req>, rng: &mut R) -> Option<usize>
@@ -66,7 +78,7 @@ where
     }
     let [a, b] = sample_floyd2(rng, count as u64);
     let (first, second) = (a as usize, b as usize);
-    if load_at(services, first) <= load_at(services, second) {
+    if is_lighter(services, first, second) {
         Some(first)
     } else {
         Some(second)
