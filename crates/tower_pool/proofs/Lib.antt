@@ -10,3 +10,4 @@ pub mod PendingLemmas
 pub mod PlaceLemmas
 pub mod Positions
 pub mod Replies
+pub mod SlotRuns

@@ -6,5 +6,6 @@ pub mod ReadyCache
 pub mod ReadyCacheLends
 pub mod ReadyCachePoll
 pub mod Slot
+pub mod SlotLaws
 pub mod SpawnReady
 pub mod SpawnReadyReady
