@@ -1,5 +1,5 @@
 -- The slot of a task that drives a service to readiness.
-use Rattle.std.specs.Prelude.{Bool, true, false}
+use Rattle.std.specs.Prelude.{◌≡◌, Bool, true, false}
 use Rattle.tower.specs.declared.spawn_ready.slot_core.Slot.{Slot}
 use Rattle.tower.specs.declared.spawn_ready.slot_core.Slot.TheVariants.{Idle, Running, Holds, Failed, Ended, Aborted}
 use Rattle.tower.specs.declared.spawn_ready.slot_core.SlotStep.{SlotStep}
@@ -30,3 +30,7 @@ abbrev pub is_waiting : {S E : Type 0} → SlotReply S E → Bool
 is_waiting Waiting = true
 is_waiting (Truth false) = true
 is_waiting _ = false
+
+-- one step of a slot
+abbrev pub SlotSteps : {S E : Type 0} → Slot S E → SlotStep S E → SlotReply S E → Slot S E → Type 0
+SlotSteps old step reply new = (reply, new) ≡ slot_turn old step

@@ -2,6 +2,7 @@
 
 pub mod error;
 pub mod future;
+mod laws;
 mod layer;
 mod service;
 mod slot_core;
@@ -9,6 +10,7 @@ mod task;
 
 pub use error::Error;
 pub use future::ResponseFuture;
+pub use laws::law;
 pub use layer::SpawnReadyLayer;
 pub use service::SpawnReady;
 pub use slot_core::{SlotCore, SlotReply, SlotStep};

@@ -1,6 +1,6 @@
 //! The core of a `SpawnReady` and its tasks.
 ghost use Rattle.std.specs.Prelude.{◌≡◌};
-ghost use Rattle.tower.specs.Slot.{slot_turn, is_waiting};
+ghost use Rattle.tower.specs.Slot.{SlotSteps, is_waiting, slot_turn};
 
 use std::marker::Model;
 use std::mem;
@@ -91,7 +91,7 @@ impl<S: Drop, E: Drop> Core for SlotCore<S, E> {
 
     ghost opens = { λ slot. slot ≡ Kept.Idle };
 
-    ghost steps = { λ old step reply new. (reply, new) ≡ slot_turn old step };
+    ghost steps = { SlotSteps };
 
     ghost is_wait = { is_waiting };
 

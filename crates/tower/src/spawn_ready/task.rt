@@ -62,6 +62,23 @@ where
         };
         service
     }
+
+    // Whether nobody waits for the service any more.
+    fn is_aborted(latch: &L, cx: &mut Context<'_>) -> bool
+        ensures asked { (reply : _) × L.gave latch.now Step.Aborted reply × (result ≡ tells reply) }
+        ensures kept { Keeps cx.old cx.new }
+    {
+        match latch.wait(SlotStep::Aborted, cx) {
+            SlotReply::Truth(aborted) => aborted,
+            _ => false,
+        }
+    }
+
+    fn tell(latch: &L, outcome: SlotStep<Viewed<S, Request>, E>)
+        ensures { Makes L.Latch latch.now outcome }
+    {
+        latch.step(outcome);
+    }
 }
 
 /// One that isn't done tells its slot by one step at the latch.
@@ -116,7 +133,7 @@ where
         let Some(Held { mut service, latch }) = self.held.take() else {
             unreachable!();
         };
-        if ReadyTask::<S, Request, E, L>::is_aborted(&latch, cx) {
+        if Self::is_aborted(&latch, cx) {
             return Poll::Ready(());
         }
         match service.poll_ready(cx) {
@@ -125,44 +142,13 @@ where
                 Poll::Pending
             }
             Poll::Ready(Ok(())) => {
-                ReadyTask::<S, Request, E, L>::put(&latch, service);
+                Self::tell(&latch, SlotStep::Put(Viewed::new(service)));
                 Poll::Ready(())
             }
             Poll::Ready(Err(error)) => {
-                ReadyTask::<S, Request, E, L>::put_error(&latch, error);
+                Self::tell(&latch, SlotStep::PutError(error));
                 Poll::Ready(())
             }
         }
-    }
-}
-
-impl<S, Request, E, L> ReadyTask<S, Request, E, L>
-where
-    E: Drop,
-    S: Service<Request, Error = E>,
-    L: Latch<SlotCore<Viewed<S, Request>, E>>,
-{
-    // Whether nobody waits for the service any more.
-    fn is_aborted(latch: &L, cx: &mut Context<'_>) -> bool
-        ensures asked { (reply : _) × L.gave latch.now Step.Aborted reply × (result ≡ tells reply) }
-        ensures kept { Keeps cx.old cx.new }
-    {
-        match latch.wait(SlotStep::Aborted, cx) {
-            SlotReply::Truth(aborted) => aborted,
-            _ => false,
-        }
-    }
-
-    fn put(latch: &L, service: S)
-        requires { S.sound service }
-        ensures { Makes L.Latch latch.now (Step.Put service) }
-    {
-        latch.step(SlotStep::Put(Viewed::new(service)));
-    }
-
-    fn put_error(latch: &L, error: E)
-        ensures { Makes L.Latch latch.now (Step.PutError error) }
-    {
-        latch.step(SlotStep::PutError(error));
     }
 }
