@@ -1,0 +1,290 @@
+//! A `Buffer`, its clones, its responses and its worker, and what a test does with them.
+ghost use Rattle.std.specs.Prelude.{◌<◌};
+
+use crate::named::Named;
+use crate::parcel::Packs;
+use futures::future::Future;
+use futures::task::{Poll, Solo};
+use std::alloc::{AllocError, AllocGlobal, Global};
+use std::cell::Cell;
+use std::random::RandomSource;
+use std::sync::Wait;
+use std::test::Fail;
+use tests_support::log::Log;
+use tests_support::run::{called, polled, stepped, task};
+use tests_support::script::{Mood, Reply, Script};
+use tower_base::latch::held::{Pollable, Viewed};
+use tower_base::latch::{Guarded, Latch};
+use tower_base::service::{Service, Steps};
+use tower_pool::buffer::{Buffer, Error, MailCore, MailReply, MailStep, Worker};
+
+/// One act. Handles, which are the first `Buffer` and its clones, have numbers from 0 on, and so have responses.
+/// An act upon what is gone does nothing.
+#[derive(Clone, Copy, Debug)]
+pub enum Act {
+    /// The handle is polled.
+    Poll(usize),
+    /// The handle is polled, and called with this where it is ready.
+    Call(usize, u8),
+    /// The handle is cloned.
+    Split(usize),
+    /// The handle is dropped.
+    Leave(usize),
+    /// The worker is polled. One that ends is dropped.
+    Work,
+    /// The worker is dropped.
+    Fire,
+    /// The response is polled. One that answers is dropped.
+    Ask(usize),
+    /// The response is dropped.
+    Forget(usize),
+    /// What the service answers to polls of its readiness from now on.
+    Mood(Mood),
+    /// It is ready once, and then busy.
+    Once,
+    /// What its calls answer from now on.
+    Reply(Reply),
+    /// How many shares of the latch there are yet; 255 is always.
+    Shares(u8),
+}
+
+/// What a run looks at: the service's script, and how many shares of the latch there are; 255 is always.
+#[derive(Clone, Copy)]
+pub struct Stage<'a> {
+    pub script: &'a Script<'a>,
+    pub shares: &'a Cell<u8>,
+}
+
+/// All that there is. Each is kept sound, so that every act may be made upon it.
+#[derive(Drop)]
+pub struct Desk<'a, Q, P, B: Service<Q>, W: Future> {
+    stage: Stage<'a>,
+    packs: P,
+    handles: Vec<Option<Viewed<B, Q>>>,
+    responses: Vec<Option<Pollable<B::Future>>>,
+    worker: Option<Pollable<W>>,
+}
+
+// What is at the place, which is empty then.
+fn take<T>(slots: &mut Vec<Option<T>>, place: usize) -> Option<T> {
+    match slots.get_mut(place) {
+        Some(slot) => slot.take(),
+        None => None,
+    }
+}
+
+fn put<T: Drop>(slots: &mut Vec<Option<T>>, place: usize, value: T) {
+    if let Some(slot) = slots.get_mut(place) {
+        *slot = Some(value);
+    }
+}
+
+impl<'a, Q, P: Drop, B: Service<Q>, W: Future> Desk<'a, Q, P, B, W> {
+    pub fn new(
+        alloc: Global,
+        stage: Stage<'a>,
+        packs: P,
+        buffer: B,
+        worker: W,
+    ) -> Result<Desk<'a, Q, P, B, W>, AllocError>
+        requires buffer { B.sound buffer }
+        requires worker { W.can_poll worker }
+    {
+        let mut handles = Vec::new(alloc);
+        handles.push(Some(Viewed::new(buffer)))?;
+        Ok(Desk {
+            stage,
+            packs,
+            handles,
+            responses: Vec::new(alloc),
+            worker: Some(Pollable::new(worker)),
+        })
+    }
+
+    fn log(&self) -> &'a Log {
+        self.stage.script.log
+    }
+}
+
+impl<'a, Q, P, B, W> Desk<'a, Q, P, B, W>
+where
+    Q: Drop,
+    P: Packs<Q> + Drop,
+    B: Service<Q, Response = u8, Error = Error<u8>> + Clone,
+    W: Steps<Output = ()>,
+{
+    fn poll(&mut self, solo: &Solo, place: usize) {
+        let Some(handle) = take(&mut self.handles, place) else {
+            return;
+        };
+        let mut handle = handle.into_inner();
+        match polled(solo, &mut handle) {
+            Poll::Ready(Ok(())) => self.log().note(format_args!("b{place} ready")),
+            Poll::Ready(Err(error)) => self.log().note(format_args!("b{place} {error}")),
+            Poll::Pending => self.log().note(format_args!("b{place} pending")),
+        }
+        put(&mut self.handles, place, Viewed::new(handle));
+    }
+
+    fn call(&mut self, solo: &Solo, place: usize, number: u8) -> Result<(), AllocError> {
+        let Some(handle) = take(&mut self.handles, place) else {
+            return Ok(());
+        };
+        let mut handle = handle.into_inner();
+        let request = self.packs.pack(number);
+        match called(solo, &mut handle, request) {
+            Some(response) => self.responses.push(Some(Pollable::new(response)))?,
+            None => self.log().note(format_args!("b{place} isn't ready")),
+        }
+        put(&mut self.handles, place, Viewed::new(handle));
+        Ok(())
+    }
+
+    fn copy(&mut self, place: usize) -> Result<(), AllocError>
+        requires { (x y : B) → B.is_clone x y → B.sound x → B.sound y }
+    {
+        let Some(handle) = take(&mut self.handles, place) else {
+            return Ok(());
+        };
+        let handle = handle.into_inner();
+        match handle.clone() {
+            Ok(copy) => self.handles.push(Some(Viewed::new(copy)))?,
+            Err(AllocError) => self.log().note(format_args!("b{place} isn't cloned")),
+        }
+        put(&mut self.handles, place, Viewed::new(handle));
+        Ok(())
+    }
+
+    fn work(&mut self, solo: &Solo) {
+        let Some(worker) = self.worker.take() else {
+            return;
+        };
+        let mut worker = worker.into_inner();
+        match stepped(solo, &mut worker) {
+            Poll::Ready(()) => self.log().note("worker ends"),
+            Poll::Pending => {
+                self.log().note("worker pending");
+                self.worker = Some(Pollable::new(worker));
+            }
+        }
+    }
+
+    fn ask(&mut self, solo: &Solo, place: usize) {
+        let Some(response) = take(&mut self.responses, place) else {
+            return;
+        };
+        let mut response = response.into_inner();
+        match stepped(solo, &mut response) {
+            Poll::Ready(Ok(value)) => self.log().note(format_args!("r{place} is {value}")),
+            Poll::Ready(Err(error)) => self.log().note(format_args!("r{place} {error}")),
+            Poll::Pending => {
+                self.log().note(format_args!("r{place} pending"));
+                put(&mut self.responses, place, Pollable::new(response));
+            }
+        }
+    }
+
+    /// Does it. It answers an error only where the desk itself has no memory.
+    pub fn act(&mut self, solo: &Solo, act: Act) -> Result<(), AllocError>
+        requires { (x y : B) → B.is_clone x y → B.sound x → B.sound y }
+    {
+        match act {
+            Act::Poll(place) => self.poll(solo, place),
+            Act::Call(place, number) => self.call(solo, place, number)?,
+            Act::Split(place) => self.copy(place)?,
+            Act::Leave(place) => drop(take(&mut self.handles, place)),
+            Act::Work => self.work(solo),
+            Act::Fire => drop(self.worker.take()),
+            Act::Ask(place) => self.ask(solo, place),
+            Act::Forget(place) => drop(take(&mut self.responses, place)),
+            Act::Mood(mood) => self.stage.script.moods(&[mood]),
+            Act::Once => self.stage.script.moods(&[Mood::Willing, Mood::Busy]),
+            Act::Reply(reply) => self.stage.script.replies(&[reply]),
+            Act::Shares(shares) => self.stage.shares.set(shares),
+        }
+        Ok(())
+    }
+
+    /// Does one after another.
+    pub fn run(&mut self, solo: &Solo, acts: &[Act]) -> Result<(), AllocError>
+        requires { (x y : B) → B.is_clone x y → B.sound x → B.sound y }
+    {
+        for act in acts {
+            self.act(solo, *act)?;
+        }
+        Ok(())
+    }
+}
+
+type Shared<'a, Q, F, R> = Buffer<Q, F, u8, Named<'a, Guarded<MailCore<Q, Pollable<F>, u8>, R>>>;
+
+type Tasked<'a, S, Q, F, R> = Worker<
+    S,
+    Q,
+    F,
+    u8,
+    Named<'a, Guarded<MailCore<Q, Pollable<F>, u8>, R>>,
+>;
+
+/// What came of a run: all that was noted, the last drops too, and whether the mail has no place taken then.
+#[derive(Drop)]
+pub struct Story {
+    pub told: String,
+    pub is_over: bool,
+}
+
+// These acts.
+fn play<R, Q, P, B, W>(
+    rt: &R,
+    stage: Stage<'_>,
+    packs: P,
+    buffer: B,
+    worker: W,
+    acts: &[Act],
+) -> Result<(), Fail>
+where
+    R: RandomSource + AllocGlobal,
+    Q: Drop,
+    P: Packs<Q> + Drop,
+    B: Service<Q, Response = u8, Error = Error<u8>> + Clone,
+    W: Steps<Output = ()>,
+    requires buffer { B.sound buffer }
+    requires worker { W.can_poll worker }
+    requires clones { (x y : B) → B.is_clone x y → B.sound x → B.sound y }
+{
+    let mut desk: Desk<'_, Q, P, B, W> = Desk::new(rt.alloc(), stage, packs, buffer, worker)?;
+    desk.run(&task(rt)?, acts)?;
+    Ok(())
+}
+
+/// So many places, and these acts. What is left then is dropped: handles, responses, the worker.
+pub fn told<R, Q, P, S>(
+    rt: R,
+    stage: Stage<'_>,
+    packs: P,
+    service: S,
+    bound: usize,
+    acts: &[Act],
+) -> Result<Story, Fail>
+where
+    R: Wait + RandomSource + AllocGlobal + Copy,
+    Q: Drop,
+    P: Packs<Q> + Drop,
+    S: Service<Q, Response = u8, Error = u8>,
+    requires bound { 0 < bound }
+    requires sound { S.sound service }
+{
+    let alloc = rt.alloc();
+    let core: MailCore<Q, Pollable<S::Future>, u8> = MailCore::new(alloc, bound);
+    let guarded = Guarded::new(rt, alloc, core)?;
+    let probe = guarded.share()?;
+    let latch = Named::new(stage.script.log, stage.shares, guarded);
+    let (buffer, worker): (Shared<'_, Q, S::Future, R>, Tasked<'_, S, Q, S::Future, R>) =
+        Buffer::with_latch(latch, service)?;
+    play::<R, Q, P, Shared<'_, Q, S::Future, R>, Tasked<'_, S, Q, S::Future, R>>(
+        &rt, stage, packs, buffer, worker, acts,
+    )?;
+    let told = stage.script.log.told(alloc)?;
+    let is_over = matches!(probe.step(MailStep::Take), MailReply::End);
+    Ok(Story { told, is_over })
+}
