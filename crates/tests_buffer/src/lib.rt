@@ -4,6 +4,8 @@
 #[cfg(test)]
 mod desk;
 #[cfg(test)]
+mod driven;
+#[cfg(test)]
 mod making;
 #[cfg(test)]
 mod named;

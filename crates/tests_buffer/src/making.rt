@@ -1,28 +1,21 @@
 //! Constructors, layers and texts.
-ghost use Rattle.std.specs.Prelude.{◌≡◌};
+ghost use Rattle.std.specs.Prelude.{◌≡◌, IfOk, IfSome};
 
-use futures::future::Future;
+use futures::future::{Future, Ready, ready};
 use futures::task::{Context, Poll};
-use std::alloc::{AllocError, AllocGlobal, Global};
+use std::alloc::{AllocError, AllocGlobal};
 use std::cell::RefCell;
 use std::process::Abort;
 use std::random::RandomSource;
 use std::sync::Wait;
 use std::test::Fail;
-use tests_support::log::Log;
 use tests_support::run::{called, polled, stepped, task};
-use tests_support::script::Mood::{Broken, Willing};
-use tests_support::script::Script;
-use tests_support::service::Scripted;
-use tests_support::story::{Act, Stage, driven};
-use tower_base::drive::Event;
 use tower_base::latch::Guarded;
 use tower_base::latch::held::Pollable;
 use tower_base::layer::Layer;
 use tower_base::service::{Executor, Service, Steps};
-use tower_limit::limit::{ConcurrencyLimit, concurrency};
 use tower_pool::buffer::error::{Closed, ServiceError};
-use tower_pool::buffer::{Buffer, BufferLayer, Error, MailCore, Worker};
+use tower_pool::buffer::{Buffer, BufferLayer, Error, MailCore};
 
 /// Keeps one task, and gives any further one back.
 #[derive(Drop)]
@@ -46,16 +39,11 @@ impl<T: Future> Bench<T> {
     }
 }
 
-/// A lent one.
-pub struct Lent<'a, T: Future> {
-    bench: &'a Bench<T>,
-}
-
-impl<'a, T: Future> Executor<T> for Lent<'a, T> {
+impl<T: Future> Executor<T> for Bench<T> {
     ghost can_spawn = { λ _ task. T.can_poll task };
 
     fn spawn(&self, task: T) -> Result<(), T> {
-        let Ok(mut seat) = self.bench.seat.try_borrow_mut() else {
+        let Ok(mut seat) = self.seat.try_borrow_mut() else {
             return Err(task);
         };
         if seat.is_some() {
@@ -65,6 +53,42 @@ impl<'a, T: Future> Executor<T> for Lent<'a, T> {
         Ok(())
     }
 }
+
+/// A clone is free.
+impl<T: Future> Clone for Bench<T> {
+    fn clone(&self) -> Result<Bench<T>, AllocError> {
+        Ok(Bench::new())
+    }
+}
+
+/// Answers with the request.
+#[derive(Drop)]
+pub struct Echo;
+
+impl Service<u8> for Echo {
+    type Response = u8;
+
+    type Error = u8;
+
+    type Future = Ready<Result<u8, u8>>;
+
+    ghost readies = { λ _ _ _. tt };
+
+    fn poll_ready(&mut self, _cx: &mut Context<'_>) -> Poll<Result<(), u8>> {
+        Poll::Ready(Ok(()))
+    }
+
+    fn call(&mut self, request: u8) -> Ready<Result<u8, u8>> {
+        ready(Ok(request))
+    }
+}
+
+type Told = Buffer<
+    u8,
+    Ready<Result<u8, u8>>,
+    u8,
+    Guarded<MailCore<u8, Pollable<Ready<Result<u8, u8>>>, u8>, HostRuntime>,
+>;
 
 #[test]
 fn errors_have_texts(rt: HostRuntime) -> Result<(), Fail> {
@@ -80,5 +104,159 @@ fn errors_have_texts(rt: HostRuntime) -> Result<(), Fail> {
         "buffered service failed: boom; buffer's worker closed unexpectedly; \
          buffer's worker closed unexpectedly; out of memory; task was not spawned"
     );
+    Ok(())
+}
+
+// One answer from a `Buffer` and its worker, which ends once the `Buffer` is gone.
+fn answers<R, B, W>(rt: R, mut buffer: B, worker: W) -> Result<(), Fail>
+where
+    R: Wait + Abort + RandomSource + AllocGlobal + Copy,
+    B: Service<u8, Response = u8, Error = Error<u8>>,
+    W: Steps<Output = ()>,
+    requires buffer { B.sound buffer }
+    requires worker { W.can_poll worker }
+{
+    let solo = task(&rt)?;
+    let mut worker = worker;
+    let mut response = called(&solo, &mut buffer, 7).ok_or("a place")?;
+    assert!(rt; stepped(&solo, &mut worker).is_pending());
+    assert_eq!(rt; stepped(&solo, &mut response), Poll::Ready(Ok(7)));
+    drop(buffer);
+    assert!(rt; stepped(&solo, &mut worker).is_ready());
+    Ok(())
+}
+
+// Without its worker a `Buffer` is closed.
+fn is_closed<R, B>(rt: R, mut buffer: B) -> Result<(), Fail>
+where
+    R: Abort + RandomSource + AllocGlobal + Copy,
+    B: Service<u8, Response = u8, Error = Error<u8>>,
+    requires { B.sound buffer }
+{
+    let solo = task(&rt)?;
+    assert_eq!(rt; polled(&solo, &mut buffer), Poll::Ready(Err(Error::Closed)));
+    Ok(())
+}
+
+// With it there is a place.
+fn is_open<R, B>(rt: R, mut buffer: B) -> Result<(), Fail>
+where
+    R: Abort + RandomSource + AllocGlobal + Copy,
+    B: Service<u8, Response = u8, Error = Error<u8>>,
+    requires { B.sound buffer }
+{
+    let solo = task(&rt)?;
+    assert_eq!(rt; polled(&solo, &mut buffer), Poll::Ready(Ok(())));
+    Ok(())
+}
+
+// So many clones have a place at once, and no more.
+fn places<R, B>(rt: R, buffer: B) -> Result<usize, Fail>
+where
+    R: RandomSource + AllocGlobal + Copy,
+    B: Service<u8, Response = u8, Error = Error<u8>> + Clone,
+    requires sound { B.sound buffer }
+    requires clones { (x y : B) → B.is_clone x y → B.sound x → B.sound y }
+{
+    let solo = task(&rt)?;
+    let mut ready: Vec<B> = Vec::new(rt.alloc());
+    for place in 0..9usize {
+        let mut copy = buffer.clone()?;
+        if polled(&solo, &mut copy) != Poll::Ready(Ok(())) {
+            return Ok(place);
+        }
+        ready.push(copy)?;
+    }
+    Ok(9)
+}
+
+// What two buffers came to that were made with one bench.
+fn spawned<R, B, W>(
+    rt: R,
+    bench: Bench<W>,
+    first: Result<B, Error<u8>>,
+    second: Result<B, Error<u8>>,
+) -> Result<(), Fail>
+where
+    R: Wait + Abort + RandomSource + AllocGlobal + Copy,
+    B: Service<u8, Response = u8, Error = Error<u8>>,
+    W: Steps<Output = ()>,
+    requires { IfOk first B.sound }
+{
+    assert!(rt; matches!(second, Err(Error::NotSpawned)));
+    let worker = bench.take().ok_or("a worker")?;
+    answers(rt, first.map_err(|_| "no buffer")?, worker.into_inner())
+}
+
+#[test]
+fn a_worker_is_spawned_or_given_back(rt: HostRuntime) -> Result<(), Fail> {
+    let bench = Bench::new();
+    let first = Buffer::new(rt, rt.alloc(), Echo, 1, &bench);
+    // The bench is taken.
+    let second = Buffer::new(rt, rt.alloc(), Echo, 1, &bench);
+    spawned(rt, bench, first, second)
+}
+
+// What a layer with a bench makes.
+fn layered<R, B, Y>(rt: R, layer: Y) -> Result<(), Fail>
+where
+    R: Wait + Abort + RandomSource + AllocGlobal + Copy,
+    B: Service<u8, Response = u8, Error = Error<u8>>,
+    Y: Layer<Echo, Service = B> + Clone,
+    requires can_layer { (y : Y) (s : Echo) → Y.can_layer y s }
+    requires sound { (y : Y) (s : Echo) (b : B) → Y.made y s b → B.sound b }
+{
+    let first = layer.layer(Echo)?;
+    // The bench is taken, but not the clone's.
+    let second = layer.layer(Echo)?;
+    let copy = layer.clone()?;
+    let third = copy.layer(Echo)?;
+    is_closed(rt, second)?;
+    is_open(rt, first)?;
+    is_open(rt, third)
+}
+
+#[test]
+fn a_layer_spawns_each_worker(rt: HostRuntime) -> Result<(), Fail> {
+    layered(rt, BufferLayer::new(rt, rt.alloc(), 1, Bench::new()))
+}
+
+// A buffer of so many places, with what it needs to live.
+fn holds<R, B, W>(rt: R, made: Option<B>, other: W, bound: usize) -> Result<(), Fail>
+where
+    R: Abort + RandomSource + AllocGlobal + Copy,
+    B: Service<u8, Response = u8, Error = Error<u8>> + Clone,
+    W: Drop,
+    requires sound { IfSome made B.sound }
+    requires clones { (x y : B) → B.is_clone x y → B.sound x → B.sound y }
+{
+    let buffer = made.ok_or("no buffer")?;
+    assert_eq!(rt; places(rt, buffer)?, bound);
+    drop(other);
+    Ok(())
+}
+
+#[test]
+fn each_constructor_makes_so_many_places(rt: HostRuntime) -> Result<(), Fail> {
+    for bound in 1..4usize {
+        match Buffer::pair(rt, rt.alloc(), Echo, bound) {
+            Ok((buffer, worker)) => holds(rt, Some(buffer), worker, bound)?,
+            Err(AllocError) => return Err("no pair".into()),
+        }
+        let bench = Bench::new();
+        let spawned = Buffer::new(rt, rt.alloc(), Echo, bound, &bench);
+        holds(rt, spawned.ok(), bench, bound)?;
+        let layer = BufferLayer::new(rt, rt.alloc(), bound, Bench::new());
+        let layered = layer.layer(Echo);
+        holds(rt, layered.ok(), layer, bound)?;
+    }
+    Ok(())
+}
+
+#[test]
+fn a_bound_is_not_0(rt: HostRuntime) -> Result<(), Fail> {
+    for (bound, fits) in [(0usize, false), (1, true), (2, true), (usize::MAX, true)] {
+        assert_eq!(rt; Told::fits(bound), fits);
+    }
     Ok(())
 }
