@@ -1,6 +1,7 @@
 //! `tower-bench`: rounds of small stacks, to be counted.
 #![tactic(auto)]
 
+mod balances;
 mod fault;
 mod hedges;
 mod inner;

@@ -1,6 +1,7 @@
 //! The stacks by their names.
 ghost use Rattle.std.specs.Prelude.{◌<◌, length};
 
+use crate::balances::Pool;
 use crate::inner::{Echo, Maker, Pace};
 use crate::lines::Line;
 use crate::rounds::rounds;
@@ -53,6 +54,8 @@ pub enum Stack {
     Semaphore,
     /// The line of permits alone, with so many waiters.
     Line(Line, u64),
+    /// A balancer or a cache, with so many endpoints.
+    Pool(Pool, usize),
 }
 
 impl Stack {
@@ -75,10 +78,13 @@ impl Stack {
             b"hedge_too_few_points" => Some(Stack::Hedge(11)),
             b"hedge" => Some(Stack::Hedge(10)),
             b"semaphore_take_give" => Some(Stack::Semaphore),
-            _ => {
-                let (line, waiters) = Line::named(name)?;
-                Some(Stack::Line(line, waiters))
-            }
+            _ => match Line::named(name) {
+                Some((line, waiters)) => Some(Stack::Line(line, waiters)),
+                None => {
+                    let (pool, endpoints) = Pool::named(name)?;
+                    Some(Stack::Pool(pool, endpoints))
+                }
+            },
         }
     }
 
@@ -113,6 +119,7 @@ impl Stack {
             Stack::Hedge(points) => hedges::hedged(rt, cx, &pace, points, count),
             Stack::Semaphore => lines::take_give(rt, cx, count),
             Stack::Line(line, waiters) => line.sum(rt.alloc(), waiters, count),
+            Stack::Pool(pool, endpoints) => pool.sum(rt, cx, &pace, endpoints, count),
         }
     }
 
