@@ -1,4 +1,5 @@
 pub mod Buffer
+pub mod BufferErrors
 pub mod BufferReady
 pub mod Letters
 pub mod Mail

@@ -1,5 +1,8 @@
 //! Why there is no place, or no response.
+ghost use Rattle.std.specs.Prelude.{◌≡◌};
+ghost use Rattle.tower_pool.specs.BufferErrors.{ClonesError};
 
+use std::alloc::AllocError;
 use std::fmt::Display;
 use std::{error, fmt};
 
@@ -39,4 +42,21 @@ pub enum Error<E> {
     /// The executor gave the worker back.
     #[error("task was not spawned")]
     NotSpawned,
+}
+
+/// A clone has a clone of the service's own error.
+impl<E: Clone> Clone for Error<E> {
+    ghost is_clone = { ClonesError E.is_clone };
+
+    fn clone(&self) -> Result<Error<E>, AllocError> {
+        match self {
+            Error::Service(failed) => {
+                let error = failed.error.clone()?;
+                Ok(Error::Service(ServiceError { error }))
+            }
+            Error::Closed => Ok(Error::Closed),
+            Error::Memory => Ok(Error::Memory),
+            Error::NotSpawned => Ok(Error::NotSpawned),
+        }
+    }
 }
