@@ -15,7 +15,7 @@ use tower_base::latch::held::Pollable;
 use tower_base::layer::Layer;
 use tower_base::service::{Executor, Service, Steps};
 use tower_pool::buffer::error::{Closed, ServiceError};
-use tower_pool::buffer::{Buffer, BufferLayer, Error, MailCore};
+use tower_pool::buffer::{Buffer, BufferLayer, Error, MailCore, Worker};
 
 /// Keeps one task, and gives any further one back.
 #[derive(Drop)]
@@ -257,6 +257,67 @@ fn each_constructor_makes_so_many_places(rt: HostRuntime) -> Result<(), Fail> {
 fn a_bound_is_not_0(rt: HostRuntime) -> Result<(), Fail> {
     for (bound, fits) in [(0usize, false), (1, true), (2, true), (usize::MAX, true)] {
         assert_eq!(rt; Told::fits(bound), fits);
+    }
+    Ok(())
+}
+
+// A request through two buffers, each with its worker.
+fn passes_through<R, B, V, W>(rt: R, mut buffer: B, mut outer: V, mut inner: W) -> Result<(), Fail>
+where
+    R: Abort + RandomSource + AllocGlobal + Copy,
+    B: Service<u8, Response = u8, Error = Error<Error<u8>>>,
+    V: Steps<Output = ()>,
+    W: Steps<Output = ()>,
+    requires buffer { B.sound buffer }
+    requires outer { V.can_poll outer }
+    requires inner { W.can_poll inner }
+{
+    let solo = task(&rt)?;
+    let mut response = called(&solo, &mut buffer, 7).ok_or("a place")?;
+    assert!(rt; stepped(&solo, &mut outer).is_pending());
+    assert!(rt; stepped(&solo, &mut inner).is_pending());
+    assert!(rt; matches!(stepped(&solo, &mut response), Poll::Ready(Ok(7))));
+    Ok(())
+}
+
+type Twice<F, R> = Guarded<MailCore<u8, Pollable<F>, Error<u8>>, R>;
+
+// A buffer round a service whose errors are a buffer's.
+#[tactic(auto, using(tower_pool::specs::BufferErrors::same_errors))]
+fn round<R, S, W>(rt: R, service: S, inner: W) -> Result<(), Fail>
+where
+    R: Wait + Abort + RandomSource + AllocGlobal + Copy,
+    S: Service<u8, Response = u8, Error = Error<u8>>,
+    W: Steps<Output = ()>,
+    requires service { S.sound service }
+    requires inner { W.can_poll inner }
+{
+    let made: Result<
+        (
+            Buffer<u8, S::Future, Error<u8>, Twice<S::Future, R>>,
+            Worker<S, u8, S::Future, Error<u8>, Twice<S::Future, R>>,
+        ),
+        AllocError,
+    > = Buffer::pair(rt, rt.alloc(), service, 1);
+    match made {
+        Ok((buffer, worker)) => passes_through(rt, buffer, worker, inner),
+        Err(AllocError) => Err("no pair".into()),
+    }
+}
+
+#[test]
+fn a_buffer_round_a_buffer(rt: HostRuntime) -> Result<(), Fail> {
+    match Buffer::pair(rt, rt.alloc(), Echo, 1) {
+        Ok((buffer, worker)) => round(rt, buffer, worker),
+        Err(AllocError) => Err("no pair".into()),
+    }
+}
+
+#[test]
+fn errors_have_clones(rt: HostRuntime) -> Result<(), Fail> {
+    let failed = Error::Service(ServiceError { error: 5u8 });
+    for error in [failed, Error::Closed, Error::Memory, Error::NotSpawned] {
+        assert!(rt; error.clone()? == error);
     }
     Ok(())
 }
