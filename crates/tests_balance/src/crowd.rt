@@ -2,8 +2,9 @@
 ghost use Rattle.std.specs.Prelude.{⊤, ◌≡◌, Ok, true, refl};
 ghost use Rattle.futures.specs.declared.task.Poll.TheVariants.{Ready};
 
-use futures::future::{Ready, ready};
+use futures::future::{Future, Ready, ready};
 use futures::task::{Context, Poll};
+use futures::test::MockTask;
 use std::cell::Cell;
 use std::convert::Infallible;
 use std::test::Fail;
@@ -208,6 +209,43 @@ fn endless_changes_of_one_key_leave_nothing(rt: HostRuntime) -> Result<(), Fail>
         assert_eq!(rt; (hall.found.get(), balance.len()), (64, 0));
         assert_eq!(rt; (hall.live.get(), hall.asked.get()), (0, 0));
     }
+    Ok(())
+}
+
+/// The readiness of a service as a future.
+#[derive(Drop)]
+struct Asked<B> {
+    service: B,
+}
+
+impl<B: Service<u8>> Future for Asked<B> {
+    type Output = Result<(), B::Error>;
+
+    ghost can_poll = { λ a. B.sound a.service };
+
+    fn poll(&mut self, cx: &mut Context<'_>) -> Poll<Result<(), B::Error>> {
+        self.service.poll_ready(cx)
+    }
+}
+
+#[test]
+fn poll_of_64_changes_wakes_its_task(rt: HostRuntime) -> Result<(), Fail> {
+    let hall = Hall::new(false);
+    let turns = Turns {
+        hall: &hall,
+        most: None,
+    };
+    let service = Balance::new(rt.alloc(), turns);
+    let mut endless = Asked { service };
+    let task = MockTask::new(&rt)?;
+    assert!(rt; task.poll(&mut endless).is_pending());
+    assert!(rt; task.is_woken());
+    let services: Vec<Quiet<'_>> = Vec::new(rt.alloc());
+    let service = Balance::new(rt.alloc(), ServiceList::new(services));
+    let mut over = Asked { service };
+    let task = MockTask::new(&rt)?;
+    assert!(rt; task.poll(&mut over).is_pending());
+    assert!(rt; !task.is_woken());
     Ok(())
 }
 

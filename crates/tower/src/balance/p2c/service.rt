@@ -91,7 +91,8 @@ where
     S: Service<Req>,
     D: Discover<Key = K, Service = S, Error = X>,
 {
-    /// How many endpoints there are, ready or pending. Cancelled ones count until a poll drops them.
+    /// How many endpoints there are, ready or pending. Cancelled ones count until a poll drops them, and an insert for
+    /// which there was no room yet doesn't.
     pub fn len(&self) -> usize
         ensures { result ≡ count_of (view_of self.now) }
     {
