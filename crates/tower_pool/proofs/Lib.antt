@@ -6,6 +6,7 @@ pub mod Machine
 pub mod MailRuns
 pub mod Messages
 pub mod Moves
+pub mod Orders
 pub mod PendingLemmas
 pub mod PlaceLemmas
 pub mod Positions

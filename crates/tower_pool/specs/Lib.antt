@@ -10,3 +10,4 @@ pub mod ReadyCache
 pub mod ReadyCacheLends
 pub mod ReadyCachePoll
 pub mod Worker
+pub mod WorkerOrder

@@ -4,6 +4,7 @@ ghost use Rattle.futures.specs.Poll.{IfReady, OnPending};
 ghost use Rattle.futures.specs.Task.{Covers, IsArmed, Keeps};
 ghost use Rattle.futures.specs.declared.task.Poll.TheVariants.{Pending};
 ghost use Rattle.tower_base.specs.Gives.{MayGive};
+ghost use Rattle.tower_pool.specs.WorkerOrder.{Orderly};
 ghost use Rattle.tower_pool.specs.Worker.{HandsOn, Pass, Serves, Stepped, WorkerView};
 
 use crate::buffer::mail::{MailReply, MailStep};
@@ -212,6 +213,7 @@ where
     fn poll(&mut self, cx: &mut Context<'_>) -> Poll<()>
         requires { S.sound self.old.service }
         ensures step { Stepped L.gave S.Service self.old result self.new }
+        ensures orderly { Orderly L.gave self.old self.new }
         ensures value { IfReady result (MayGive (Stepped L.gave S.Service) self.old) }
         ensures again { OnPending result (S.sound self.new.service) }
         ensures same { OnPending result ((x : _) → MayGive (Stepped L.gave S.Service) self.new x → MayGive (Stepped L.gave S.Service) self.old x) }
