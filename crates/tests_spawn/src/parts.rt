@@ -1,0 +1,184 @@
+//! What the tests hand to a `SpawnReady`: executors, and a latch that notes its steps.
+use futures::future::Future;
+use futures::task::{Context, Solo};
+use std::alloc::{AllocError, Global};
+use std::cell::{Cell, RefCell};
+use tests_support::log::Log;
+use tests_support::run::stepped;
+use tower::spawn_ready::{SlotCore, SlotReply, SlotStep};
+use tower_base::latch::Latch;
+use tower_base::latch::held::Pollable;
+use tower_base::service::{Executor, Steps};
+
+/// Tasks that were handed over, the newest last, and how many more there may be.
+#[derive(Drop)]
+pub struct Tasks<T: Future> {
+    waiting: RefCell<Vec<Pollable<T>>>,
+    room: Cell<u8>,
+}
+
+impl<T: Future + Drop> Tasks<T> {
+    pub fn new(alloc: Global) -> Tasks<T> {
+        Tasks {
+            waiting: RefCell::new(Vec::new(alloc)),
+            room: Cell::new(u8::MAX),
+        }
+    }
+
+    /// How many tasks are taken before others are given back.
+    pub fn room(&self, room: u8) {
+        self.room.set(room);
+    }
+
+    /// Puts a task there.
+    pub fn put(&self, task: Pollable<T>) {
+        if let Ok(mut waiting) = self.waiting.try_borrow_mut() {
+            let _ = waiting.push(task);
+        }
+    }
+
+    /// The newest task.
+    pub fn take(&self) -> Option<Pollable<T>> {
+        match self.waiting.try_borrow_mut() {
+            Ok(mut waiting) => waiting.pop(),
+            Err(_) => None,
+        }
+    }
+}
+
+/// Keeps the tasks for the test. It notes each.
+pub struct Spawner<'t, T: Future> {
+    pub log: &'t Log,
+    pub tasks: &'t Tasks<T>,
+}
+
+impl<'t, T: Future> Drop for Spawner<'t, T> {
+    fn drop(self) {
+        let Spawner { log: _, tasks: _ } = self;
+    }
+}
+
+impl<'t, T: Future> Clone for Spawner<'t, T> {
+    fn clone(&self) -> Result<Spawner<'t, T>, AllocError> {
+        Ok(Spawner {
+            log: self.log,
+            tasks: self.tasks,
+        })
+    }
+}
+
+impl<'t, T: Future + Drop> Executor<T> for Spawner<'t, T> {
+    ghost can_spawn = { λ _ task. T.can_poll task };
+
+    fn spawn(&self, task: T) -> Result<(), T> {
+        let room = self.tasks.room.get();
+        let Ok(mut waiting) = self.tasks.waiting.try_borrow_mut() else {
+            return Err(task);
+        };
+        if room == 0 || waiting.reserve(1).is_err() {
+            self.log.note("not spawned");
+            return Err(task);
+        }
+        self.tasks.room.set(room - 1);
+        self.log.note("spawned");
+        waiting.push_reserved(Pollable::new(task));
+        Ok(())
+    }
+}
+
+/// Polls each task once, as soon as it has it. A task that is pending then is dropped.
+pub struct AtOnce<'a> {
+    pub solo: &'a Solo,
+    pub spawned: &'a Cell<u8>,
+}
+
+impl<'a> Drop for AtOnce<'a> {
+    fn drop(self) {
+        let AtOnce {
+            solo: _,
+            spawned: _,
+        } = self;
+    }
+}
+
+impl<'a, T: Steps<Output = ()> + Drop> Executor<T> for AtOnce<'a> {
+    ghost can_spawn = { λ _ task. T.can_poll task };
+
+    fn spawn(&self, mut task: T) -> Result<(), T> {
+        self.spawned.set(self.spawned.get().saturating_add(1));
+        let _ = stepped(self.solo, &mut task);
+        Ok(())
+    }
+}
+
+/// A latch over a slot. It notes its steps, shares and drop, and its shares may be refused.
+pub struct Told<'a, L: Drop> {
+    log: &'a Log,
+    shares: &'a Cell<u8>,
+    inner: L,
+}
+
+impl<'a, L: Drop> Told<'a, L> {
+    /// The cell has how many shares there are before they are refused for want of memory; 255 is always.
+    pub fn new(log: &'a Log, shares: &'a Cell<u8>, inner: L) -> Told<'a, L> {
+        Told { log, shares, inner }
+    }
+}
+
+fn word<S, E>(step: &SlotStep<S, E>) -> &'static str {
+    match step {
+        SlotStep::Start => "start",
+        SlotStep::Put(_) => "put",
+        SlotStep::PutError(_) => "put error",
+        SlotStep::Abort => "abort",
+        SlotStep::TaskGone => "task gone",
+        SlotStep::Aborted => "aborted",
+        SlotStep::Look => "look",
+    }
+}
+
+impl<'a, S: Drop, E: Drop, L: Latch<SlotCore<S, E>>> Latch<SlotCore<S, E>> for Told<'a, L> {
+    ghost gave = { λ latch step reply. L.gave latch.inner step reply };
+
+    ghost honest = { λ latch step reply given. L.honest latch.inner step reply given };
+
+    fn step(&self, step: SlotStep<S, E>) -> SlotReply<S, E> {
+        self.log.note(word(&step));
+        self.inner.step(step)
+    }
+
+    fn wait(&self, step: SlotStep<S, E>, cx: &mut Context<'_>) -> SlotReply<S, E> {
+        self.log.note(word(&step));
+        self.inner.wait(step, cx)
+    }
+
+    fn share(&self) -> Result<Told<'a, L>, AllocError> {
+        let shares = self.shares.get();
+        if shares == 0 {
+            self.log.note("share refused");
+            return Err(AllocError);
+        }
+        if shares < u8::MAX {
+            self.shares.set(shares - 1);
+        }
+        let inner = self.inner.share()?;
+        self.log.note("shared");
+        Ok(Told {
+            log: self.log,
+            shares: self.shares,
+            inner,
+        })
+    }
+}
+
+impl<'a, L: Drop> Drop for Told<'a, L> {
+    fn drop(self) {
+        self.log.note("share dropped");
+        let Told {
+            log: _,
+            shares: _,
+            inner,
+        } = self;
+        drop(inner);
+    }
+}
