@@ -2,6 +2,7 @@
 #![tactic(auto)]
 
 mod balances;
+mod buffers;
 mod fault;
 mod hedges;
 mod inner;

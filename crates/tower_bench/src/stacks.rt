@@ -5,7 +5,7 @@ use crate::balances::Pool;
 use crate::inner::{Echo, Maker, Pace};
 use crate::lines::Line;
 use crate::rounds::rounds;
-use crate::{hedges, lines, maps, retries};
+use crate::{buffers, hedges, lines, maps, retries};
 use futures::future::{ok, ready};
 use futures::task::Context;
 use std::alloc::{AllocError, AllocGlobal};
@@ -50,6 +50,10 @@ pub enum Stack {
     Maps,
     /// A hedge, with so many latencies asked for, of which ten are known.
     Hedge(u64),
+    /// A buffer of 64 and its worker.
+    Buffer,
+    /// A service that gets ready in a task, and is ready at once.
+    SpawnReady,
     /// A semaphore alone: a permit is taken and given back.
     Semaphore,
     /// The line of permits alone, with so many waiters.
@@ -77,6 +81,8 @@ impl Stack {
             b"maps_5" => Some(Stack::Maps),
             b"hedge_too_few_points" => Some(Stack::Hedge(11)),
             b"hedge" => Some(Stack::Hedge(10)),
+            b"buffer_64" => Some(Stack::Buffer),
+            b"spawn_ready" => Some(Stack::SpawnReady),
             b"semaphore_take_give" => Some(Stack::Semaphore),
             _ => match Line::named(name) {
                 Some((line, waiters)) => Some(Stack::Line(line, waiters)),
@@ -117,6 +123,8 @@ impl Stack {
             Stack::Reconnect => Ok(connected(cx, &pace, count)),
             Stack::Maps => Ok(mapped(cx, &pace, count)),
             Stack::Hedge(points) => hedges::hedged(rt, cx, &pace, points, count),
+            Stack::Buffer => buffers::buffered(rt, cx, count),
+            Stack::SpawnReady => buffers::spawned(rt, cx, &pace, count),
             Stack::Semaphore => lines::take_give(rt, cx, count),
             Stack::Line(line, waiters) => line.sum(rt.alloc(), waiters, count),
             Stack::Pool(pool, endpoints) => pool.sum(rt, cx, &pace, endpoints, count),
