@@ -5,11 +5,11 @@ cd "$(dirname "${BASH_SOURCE[0]}")/.."
 cat <<'HEAD'
 # Wrong bodies
 
-Each is an edit of the code that the prover refuses at every run of the gate, by module of the file that it edits.
+Each is an edit of the code that the prover has to refuse, by module of the file that it edits. [GATE.md](GATE.md) says when the gate tries them.
 (This page is what `scripts/wrong_bodies.sh` prints.)
 HEAD
 for crate in tower_base tower_util tower_ware tower_limit tower_retry tower_pool tower tower_run; do
-    for edit in crates/"$crate"/must-fail/*.edit; do
+    for edit in must-fail/"$crate"/*.edit crates/"$crate"/must-fail/*.edit; do
         [ -e "$edit" ] || continue
         echo "$crate $(sed -n 's/^file: src\/\(.*\)\.rt$/\1/p' "$edit" | head -n 1) $edit"
     done

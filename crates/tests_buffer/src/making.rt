@@ -283,7 +283,6 @@ where
 type Twice<F, R> = Guarded<MailCore<u8, Pollable<F>, Error<u8>>, R>;
 
 // A buffer round a service whose errors are a buffer's.
-#[tactic(auto, using(tower_pool::specs::BufferErrors::same_errors))]
 fn round<R, S, W>(rt: R, service: S, inner: W) -> Result<(), Fail>
 where
     R: Wait + Abort + RandomSource + AllocGlobal + Copy,

@@ -238,6 +238,51 @@ fn global_limit_counts_all_services(rt: HostRuntime) -> Result<(), Fail> {
     Ok(())
 }
 
+// No further share is made, and each goes with its service.
+#[test]
+fn each_service_has_one_share(rt: HostRuntime) -> Result<(), Fail> {
+    let alloc = rt.alloc();
+    let (log, shares) = (Log::new(alloc)?, Cell::new(1));
+    let script = Script::new(&log);
+    let semaphore = noted(rt, &log, &shares, 1)?;
+    let service = ConcurrencyLimit::with_semaphore(Scripted::new(&script, 's'), semaphore);
+    let clone = service.clone()?;
+    assert_eq!(rt; log.told(alloc)?.as_str(), "s cloned s1;latch shared;");
+    assert!(rt; service.clone().is_err());
+    assert_eq!(rt;
+        log.told(alloc)?.as_str(),
+        "s cloned s2;latch refused;s2 dropped;"
+    );
+    drop(service);
+    drop(clone);
+    assert_eq!(rt;
+        log.told(alloc)?.as_str(),
+        "s dropped;latch dropped;s1 dropped;latch dropped;"
+    );
+    Ok(())
+}
+
+#[test]
+fn global_limit_shares_once_with_each_service(rt: HostRuntime) -> Result<(), Fail> {
+    let alloc = rt.alloc();
+    let (log, shares) = (Log::new(alloc)?, Cell::new(2));
+    let script = Script::new(&log);
+    let layer = GlobalConcurrencyLimitLayer::with_semaphore(noted(rt, &log, &shares, 1)?);
+    drop(layer.clone()?);
+    drop(layer.layer(Scripted::new(&script, 's'))?);
+    assert_eq!(rt;
+        log.told(alloc)?.as_str(),
+        "latch shared;latch dropped;latch shared;s dropped;latch dropped;"
+    );
+    assert!(rt; layer.clone().is_err());
+    assert!(rt; layer.layer(Scripted::new(&script, 't')).is_err());
+    assert_eq!(rt;
+        log.told(alloc)?.as_str(),
+        "latch refused;latch refused;t dropped;"
+    );
+    Ok(())
+}
+
 #[test]
 fn unseen_grant_is_not_free(rt: HostRuntime) -> Result<(), Fail> {
     let log = Log::new(rt.alloc())?;
@@ -285,15 +330,15 @@ fn two_calls_in_flight(rt: HostRuntime) -> Result<(), Fail> {
     let layer = ConcurrencyLimitLayer::new(rt, rt.alloc(), 2);
     let mut service = layer.layer(Scripted::new(&script, 's'))?;
     let mut first = called(&solo, &mut service, 1).ok_or("not ready")?;
-    let second = called(&solo, &mut service, 2);
-    assert!(rt; second.is_some());
+    let mut second = called(&solo, &mut service, 2).ok_or("not ready")?;
     assert!(rt; !is_ready(&solo, &mut service));
     assert!(rt; matches!(stepped(&solo, &mut first), Poll::Ready(Ok(1))));
     assert!(rt; !is_ready(&solo, &mut service));
     drop(first);
-    let third = called(&solo, &mut service, 3);
-    assert!(rt; third.is_some());
+    let mut third = called(&solo, &mut service, 3).ok_or("not ready")?;
     assert!(rt; !is_ready(&solo, &mut service));
+    assert!(rt; matches!(stepped(&solo, &mut second), Poll::Ready(Ok(2))));
+    assert!(rt; matches!(stepped(&solo, &mut third), Poll::Ready(Ok(3))));
     Ok(())
 }
 

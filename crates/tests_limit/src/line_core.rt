@@ -29,19 +29,18 @@ fn line_of_one_permit(rt: HostRuntime) -> Result<(), Fail> {
     Ok(())
 }
 
-// A line that answers `Memory` from some key on would be noticed here.
+// A line that answers `Memory` from some key on would be noticed here. Who waited longest leaves last.
 #[test]
-fn two_thousand_wait_and_leave(rt: HostRuntime) -> Result<(), Fail> {
-    let mut line = LineCore::new(rt.alloc(), 1);
-    assert_eq!(rt; line.step(LineStep::Join), LineReply::Granted);
-    for key in 0..2000u64 {
+fn ten_thousand_wait_and_leave(rt: HostRuntime) -> Result<(), Fail> {
+    let mut line = LineCore::new(rt.alloc(), 0);
+    for key in 0..10_000u64 {
         assert_eq!(rt; line.step(LineStep::Join), LineReply::Waiting(key));
     }
-    for later in 0..2000u64 {
-        let last = LineStep::Cancel(1999 - later);
+    for later in 0..10_000u64 {
+        let last = LineStep::Cancel(9_999 - later);
         assert_eq!(rt; line.step(last), LineReply::Left);
     }
-    assert_eq!(rt; line.step(LineStep::Release), LineReply::Left);
-    assert_eq!(rt; line.step(LineStep::Free), LineReply::Count(1));
+    assert_eq!(rt; line.step(LineStep::Free), LineReply::Count(0));
+    assert_eq!(rt; line.step(LineStep::Look(0)), LineReply::Unknown);
     Ok(())
 }

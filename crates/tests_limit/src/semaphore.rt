@@ -140,5 +140,11 @@ fn tasks_of_two_executors_are_both_kept(rt: HostRuntime) -> Result<(), Fail> {
     drop(permit);
     assert!(rt; one.is_woken());
     assert!(rt; two.is_woken());
+    // A wait that is granted wakes the other one too.
+    assert!(rt; two.enter(|cx| second.poll_acquire(cx)).is_pending());
+    assert!(rt; !two.is_woken());
+    let permit = one.enter(|cx| first.poll_acquire(cx));
+    assert!(rt; is_ok(&permit));
+    assert!(rt; two.is_woken());
     Ok(())
 }

@@ -12,6 +12,12 @@ mod histogram;
 #[cfg(test)]
 mod line;
 #[cfg(test)]
+mod mail;
+#[cfg(test)]
 mod plain_line;
+#[cfg(test)]
+mod plain_mail;
+#[cfg(test)]
+mod random;
 #[cfg(test)]
 mod storm;

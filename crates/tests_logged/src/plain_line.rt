@@ -25,6 +25,10 @@ impl PlainLine {
         }
     }
 
+    pub fn len(&self) -> usize {
+        self.tickets.len()
+    }
+
     pub fn free(&self) -> usize {
         self.max.saturating_sub(self.tickets.len())
     }
@@ -45,47 +49,63 @@ impl PlainLine {
         }
     }
 
-    // Whether the step may have this reply. If so, it is made.
-    pub fn answers(&mut self, step: LineStep, reply: LineReply) -> Result<bool, Fail> {
-        Ok(match (step, reply) {
-            (LineStep::Join, LineReply::Granted) => {
-                let room = self.free() > 0;
-                self.tickets.push(Ticket::Held)?;
-                room
-            }
-            (LineStep::Join, LineReply::Waiting(key)) => {
-                let right = self.free() == 0 && self.place_of(Ticket::Waits(key)).is_none();
-                self.tickets.push(Ticket::Waits(key))?;
-                right
-            }
-            (LineStep::Look(key), LineReply::Granted) => self.hold(key),
-            (LineStep::Look(key), LineReply::Waiting(again)) => {
-                again == key && self.has_waiter(key)
-            }
-            (LineStep::Cancel(key), LineReply::Left) => self.take(Ticket::Waits(key)),
-            (LineStep::Release, LineReply::Left) => self.take(Ticket::Held),
-            (LineStep::Free, LineReply::Count(free)) => free == self.free(),
-            _ => false,
+    // A permit of the first `max` tickets is seen.
+    fn look(&mut self, key: u64) -> LineReply {
+        let Some(place) = self.place_of(Ticket::Waits(key)) else {
+            return LineReply::Unknown;
+        };
+        if place >= self.max {
+            return LineReply::Waiting(key);
+        }
+        if let Some(ticket) = self.tickets.get_mut(place) {
+            *ticket = Ticket::Held;
+        }
+        LineReply::Granted
+    }
+
+    // A place in the line, under this key if no permit is free.
+    fn join(&mut self, fresh: u64) -> Result<LineReply, Fail> {
+        if self.free() > 0 {
+            self.tickets.push(Ticket::Held)?;
+            return Ok(LineReply::Granted);
+        }
+        if self.place_of(Ticket::Waits(fresh)).is_some() {
+            return Err("a key isn't fresh".into());
+        }
+        self.tickets.push(Ticket::Waits(fresh))?;
+        Ok(LineReply::Waiting(fresh))
+    }
+
+    fn leave(&mut self, ticket: Ticket) -> LineReply {
+        if self.take(ticket) {
+            return LineReply::Left;
+        }
+        LineReply::Unknown
+    }
+
+    // Nobody waits any more.
+    pub fn hold_only(&mut self) {
+        self.tickets.retain(|ticket| *ticket == Ticket::Held);
+    }
+
+    // Makes the step, and works its reply out. One who waits has this key, which must be fresh.
+    pub fn reply(&mut self, step: LineStep, fresh: u64) -> Result<LineReply, Fail> {
+        Ok(match step {
+            LineStep::Join => self.join(fresh)?,
+            LineStep::Look(key) => self.look(key),
+            LineStep::Cancel(key) => self.leave(Ticket::Waits(key)),
+            LineStep::Release => self.leave(Ticket::Held),
+            LineStep::Free => LineReply::Count(self.free()),
         })
     }
 
-    // A permit of the first `max` tickets is seen.
-    fn hold(&mut self, key: u64) -> bool {
-        let Some(place) = self.place_of(Ticket::Waits(key)) else {
-            return false;
+    // Makes the step. Whether it has this reply.
+    pub fn answers(&mut self, step: LineStep, reply: LineReply) -> Result<bool, Fail> {
+        let key = match reply {
+            LineReply::Waiting(key) => key,
+            _ => 0,
         };
-        match self.tickets.get_mut(place) {
-            Some(ticket) => *ticket = Ticket::Held,
-            None => return false,
-        }
-        place < self.max
-    }
-
-    fn has_waiter(&self, key: u64) -> bool {
-        match self.place_of(Ticket::Waits(key)) {
-            Some(place) => place >= self.max,
-            None => false,
-        }
+        Ok(self.reply(step, key)? == reply)
     }
 
     // Makes all steps of a history of a line that nobody had asked.

@@ -5,6 +5,8 @@
 #[cfg(test)]
 mod desk;
 #[cfg(test)]
+mod hedge;
+#[cfg(test)]
 mod load;
 #[cfg(test)]
 mod logged;

@@ -1,8 +1,9 @@
-//! A permit that is waited for, a run by `drive`, and a stream of calls.
+//! A permit that is waited for, its waker, a run by `drive`, and a stream of calls.
 ghost use Rattle.std.specs.Prelude.{IfSome};
 
 use crate::desk::{desk, made};
 use futures::task::{Poll, Solo};
+use futures::test::MockTask;
 use std::alloc::{AllocError, AllocGlobal};
 use std::cell::Cell;
 use std::random::RandomSource;
@@ -13,6 +14,7 @@ use tests_support::script::Script;
 use tests_support::service::Scripted;
 use tests_support::stream::{Outbox, Requests};
 use tower::drive::{Event, drive};
+use tower::limit::concurrency::{PollSemaphore, Semaphore};
 use tower::limit::{ConcurrencyLimit, concurrency};
 use tower::service::Flow;
 use tower::util::{CallAll, call_all};
@@ -63,8 +65,9 @@ fn ample_wait(rt: HostRuntime) -> Result<(), Fail> {
     one_permit(rt, false)
 }
 
-// A run of three events. Where it is refused all is dropped, the future of a call too.
-fn three_events<R>(rt: R, again: bool) -> Result<(), Fail>
+// A run of four events. Where it is refused all is dropped: no room for an entry is found before anything is done, and
+// none for a future before the call.
+fn four_events<R>(rt: R, again: bool) -> Result<(), Fail>
 where
     R: RandomSource + AllocGlobal + Copy,
 {
@@ -73,7 +76,12 @@ where
         return Ok(());
     };
     let script = Script::new(&log);
-    let events = vec![in alloc; Event::Poll, Event::Call(6), Event::Future(0)];
+    let events = vec![in alloc;
+        Event::Turn(7u8),
+        Event::Poll,
+        Event::Call(6),
+        Event::Future(0),
+    ];
     let Some(events) = made(events, again)? else {
         return Ok(());
     };
@@ -83,34 +91,40 @@ where
         &mut cx,
         Scripted::new(&script, 's'),
         events,
-        |act: u8| act,
+        |act: u8| {
+            log.note("turned");
+            act
+        },
     );
     cx.cancel();
-    match run {
-        Ok(transcript) if transcript.entries.len() == 3 => {}
-        Err(AllocError) if again => {}
-        _ => return Err("not three entries".into()),
-    }
+    let is_whole = match run {
+        Ok(transcript) if transcript.entries.len() == 4 => true,
+        Err(AllocError) if again => false,
+        _ => return Err("not four entries".into()),
+    };
     let Some(told) = made(log.told(alloc), again)? else {
         return Ok(());
     };
-    if !told.as_str().contains("s dropped;") {
-        return Err("the service is left".into());
+    let is_right = match told.as_str() {
+        "s dropped;" | "turned;s ready;s dropped;" => !is_whole,
+        "turned;s ready;s called 6;s(6) ready;s dropped;s(6) dropped;" => is_whole,
+        _ => false,
+    };
+    if is_right {
+        Ok(())
+    } else {
+        Err("something is left, or was done without room".into())
     }
-    if told.as_str().contains("called") && !told.as_str().contains("s(6) dropped;") {
-        return Err("the future is left".into());
-    }
-    Ok(())
 }
 
 #[test]
 fn refused_run_drops_all(rt: HostRuntime) -> Result<(), Fail> {
-    three_events(rt, true)
+    four_events(rt, true)
 }
 
 #[test]
 fn ample_run(rt: HostRuntime) -> Result<(), Fail> {
-    three_events(rt, false)
+    four_events(rt, false)
 }
 
 // One poll of what answers are left. It counts those that came, and says whether none was refused.
@@ -172,4 +186,39 @@ fn refused_queue_loses_no_request(rt: HostRuntime) -> Result<(), Fail> {
 #[test]
 fn ample_queue(rt: HostRuntime) -> Result<(), Fail> {
     two_requests(rt, false)
+}
+
+// A wait that is polled a hundred times keeps one waker: only its first one may find no room, and then its task is woken.
+fn hundred_polls<R>(rt: R, again: bool) -> Result<(), Fail>
+where
+    R: Wait + RandomSource + AllocGlobal + Copy,
+{
+    let Some(semaphore) = made(Semaphore::new(rt, rt.alloc(), 0), again)? else {
+        return Ok(());
+    };
+    let Some(task) = made(MockTask::new(&rt), again)? else {
+        return Ok(());
+    };
+    let mut waiting = PollSemaphore::new(semaphore);
+    for poll in 0..100u8 {
+        match task.enter(|cx| waiting.poll_acquire(cx)) {
+            Poll::Pending => {}
+            Poll::Ready(Err(AllocError)) if again => {}
+            Poll::Ready(_answer) => return Err("not waiting".into()),
+        }
+        if task.is_woken() && (!again || poll > 1) {
+            return Err("a waker more".into());
+        }
+    }
+    Ok(())
+}
+
+#[test]
+fn refused_waker_is_kept_at_the_next_poll(rt: HostRuntime) -> Result<(), Fail> {
+    hundred_polls(rt, true)
+}
+
+#[test]
+fn ample_waker(rt: HostRuntime) -> Result<(), Fail> {
+    hundred_polls(rt, false)
 }

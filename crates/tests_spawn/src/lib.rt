@@ -4,6 +4,8 @@
 #[cfg(test)]
 mod acts;
 #[cfg(test)]
+mod apart;
+#[cfg(test)]
 mod drops;
 #[cfg(test)]
 mod parts;

@@ -214,6 +214,18 @@ fn layers_by_closures_and_as_they_are(rt: HostRuntime) -> Result<(), Fail> {
 }
 
 #[test]
+fn layers_go_once_the_closure_has_them(rt: HostRuntime) -> Result<(), Fail> {
+    let log = Log::new(rt.alloc())?;
+    let service = ServiceBuilder::new()
+        .filter(Plain::new(&log, 'p'))
+        .service_fn(Plain::new(&log, 'f'))?;
+    assert_eq!(rt; log.told(rt.alloc())?.as_str(), "p cloned p1;p dropped;");
+    drop(service);
+    assert_eq!(rt; log.told(rt.alloc())?.as_str(), "f dropped;p1 dropped;");
+    Ok(())
+}
+
+#[test]
 fn builder_is_a_layer_and_has_clones(rt: HostRuntime) -> Result<(), Fail> {
     let log = Log::new(rt.alloc())?;
     let script = Script::new(&log);

@@ -2,6 +2,10 @@
 #![tactic(auto)]
 
 #[cfg(test)]
+mod buffers;
+#[cfg(test)]
 mod builder;
+#[cfg(test)]
+mod clones;
 #[cfg(test)]
 mod limits;

@@ -34,6 +34,11 @@ fn timeout_ends_a_response(rt: HostRuntime) -> Result<(), Fail> {
         story.entries.as_str(),
         "ready;call 0;at 9;0 pending;at 10;0 error request timed out;"
     );
+    assert_eq!(rt;
+        story.told.as_str(),
+        "clock shared;clock dropped;s ready;s called 6;clock read 0;clock shared;s(6) pending;clock read 9;\
+         s(6) pending;clock read 10;s dropped;clock dropped;s(6) dropped;clock dropped;"
+    );
     Ok(())
 }
 
@@ -80,6 +85,11 @@ fn one_call_in_each_window(rt: HostRuntime) -> Result<(), Fail> {
     assert_eq!(rt;
         story.entries.as_str(),
         "ready;call 0;at 9;pending;at 10;ready;"
+    );
+    assert_eq!(rt;
+        story.told.as_str(),
+        "clock shared;clock read 0;clock dropped;s ready;clock read 0;s called 6;clock read 9;clock read 10;\
+         s ready;s dropped;clock dropped;s(6) dropped;"
     );
     Ok(())
 }

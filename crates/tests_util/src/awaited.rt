@@ -2,6 +2,7 @@
 
 use futures::future::{Ready, ready};
 use futures::task::{Poll, Solo};
+use std::alloc::AllocError;
 use std::test::Fail;
 use tests_support::future::After;
 use tests_support::log::Log;
@@ -120,6 +121,40 @@ fn clone_is_of_what_is_coming(rt: HostRuntime) -> Result<(), Fail> {
     ));
     assert!(rt; refused.clone().is_err());
     assert_eq!(rt; log.told(rt.alloc())?.as_str(), "r refused;");
+    Ok(())
+}
+
+// Whether the first poll finds it ready, and its second clone is refused.
+fn cloned_once_ready<S: Service<u8> + Clone>(
+    solo: &Solo,
+    script: &Script<'_>,
+    mut service: S,
+) -> Result<bool, AllocError>
+    requires { S.sound service }
+{
+    let answer = polled(solo, &mut service);
+    drop(service.clone()?);
+    script.clones(0);
+    Ok(matches!(answer, Poll::Ready(Ok(()))) && service.clone().is_err())
+}
+
+#[test]
+fn clone_is_of_the_service_once_it_is_there(rt: HostRuntime) -> Result<(), Fail> {
+    let log = Log::new(rt.alloc())?;
+    let script = Script::new(&log);
+    let solo = task(&rt)?;
+    let coming = After::new(
+        &log,
+        'f',
+        0,
+        Ok::<Scripted<'_>, u8>(Scripted::new(&script, 'a')),
+    );
+    let service = FutureService::<_, Scripted<'_>>::new(coming);
+    assert!(rt; cloned_once_ready(&solo, &script, service)?);
+    assert_eq!(rt;
+        log.told(rt.alloc())?.as_str(),
+        "f ready;a ready;f dropped;a cloned a1;a1 dropped;a refused;a dropped;"
+    );
     Ok(())
 }
 

@@ -77,35 +77,47 @@ fn maker_that_is_pending_or_fails_makes_nothing(rt: HostRuntime) -> Result<(), F
 }
 
 // Polls a maker by reference, and makes a service of it where it is ready: the loan comes back.
-fn made_once_ready<M, S>(maker: &mut M, cx: &mut Context<'_>) -> Option<M::Future>
+fn made_once_ready<M, S, Target>(
+    maker: &mut M,
+    target: Target,
+    cx: &mut Context<'_>,
+) -> Option<M::Future>
 where
-    M: Service<u8, Response = S>,
+    M: Service<Target, Response = S>,
     S: Service<u8>,
+    Target: Drop,
     requires { M.sound maker.old }
     ensures { IfSome result M.Future.can_poll }
 {
     let answer = {
-        let mut lent = MakeService::<u8, u8>::as_service(maker);
+        let mut lent = MakeService::<Target, u8>::as_service(maker);
         Service::poll_ready(&mut lent, cx)
     };
     match answer {
-        Poll::Ready(Ok(())) => Some(maker.call(1)),
+        Poll::Ready(Ok(())) => Some(maker.call(target)),
         _ => None,
     }
 }
 
 #[test]
 fn maker_makes_once_it_was_found_ready_by_a_loan(rt: HostRuntime) -> Result<(), Fail> {
-    let log = Log::new(rt.alloc())?;
-    let script = Script::new(&log);
+    let alloc = rt.alloc();
+    let log = Log::new(alloc)?;
+    let (making, script) = (Script::new(&log), Script::new(&log));
+    making.moods(&[Mood::Busy, Mood::Willing]);
     let solo = task(&rt)?;
-    let mut shared = Shared::new(Scripted::new(&script, 'a'));
+    let mut maker = Maker::new(&making, 'm', &script, 'a');
     let mut cx = solo.begin();
-    let made = made_once_ready(&mut shared, &mut cx);
+    let early = made_once_ready(&mut maker, Place::new(&script, 'p', 5), &mut cx);
+    let made = made_once_ready(&mut maker, Place::new(&script, 'q', 6), &mut cx);
     cx.cancel();
+    assert!(rt; early.is_none());
     let mut future = made.ok_or("not ready")?;
     assert!(rt; matches!(stepped(&solo, &mut future), Poll::Ready(Ok(_))));
-    assert_eq!(rt; log.told(rt.alloc())?.as_str(), "a cloned a1;a1 dropped;");
+    assert_eq!(rt;
+        log.told(alloc)?.as_str(),
+        "m pending;p dropped;m ready;m called 6;q dropped;m(6) ready;a1 dropped;"
+    );
     Ok(())
 }
 

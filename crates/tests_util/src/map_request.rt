@@ -58,6 +58,17 @@ fn clones_of_layer_and_service_serve_alike(rt: HostRuntime) -> Result<(), Fail> 
 }
 
 #[test]
+fn layer_clones_its_closure_once(rt: HostRuntime) -> Result<(), Fail> {
+    let log = Log::new(rt.alloc())?;
+    drop(MapRequestLayer::new(Plain::new(&log, 'f')).layer(Plain::new(&log, 's'))?);
+    assert_eq!(rt;
+        log.told(rt.alloc())?.as_str(),
+        "f cloned f1;s dropped;f1 dropped;f dropped;"
+    );
+    Ok(())
+}
+
+#[test]
 fn refused_clones_are_handed_on(rt: HostRuntime) -> Result<(), Fail> {
     let log = Log::new(rt.alloc())?;
     let refusing = || Plain::refusing(&log, 'r');

@@ -375,6 +375,64 @@ fn service_comes_out_again(rt: HostRuntime) -> Result<(), Fail> {
     Ok(())
 }
 
+// What is left of a stream as its service comes out, with a call in flight.
+fn taken_ordered(rt: &HostRuntime, desk: &Desk<'_>) -> Result<(), Fail> {
+    let (alloc, solo) = (rt.alloc(), task(rt)?);
+    let mut text = String::new(alloc);
+    let mut calls = Some(CallAll::new(alloc, desk.service(), desk.requests()));
+    polled(&solo, &mut calls, &mut text);
+    match calls {
+        Some(calls) if calls.has_service() => drop(calls.into_inner()),
+        _ => return Err("no service".into()),
+    }
+    Ok(())
+}
+
+fn taken_unordered(rt: &HostRuntime, desk: &Desk<'_>) -> Result<(), Fail> {
+    let (alloc, solo) = (rt.alloc(), task(rt)?);
+    let mut text = String::new(alloc);
+    let mut calls = Some(CallAllUnordered::new(alloc, desk.service(), desk.requests()));
+    polled(&solo, &mut calls, &mut text);
+    match calls {
+        Some(calls) if calls.has_service() => drop(calls.into_inner()),
+        _ => return Err("no service".into()),
+    }
+    Ok(())
+}
+
+#[test]
+fn call_in_flight_is_dropped_as_the_service_comes_out(rt: HostRuntime) -> Result<(), Fail> {
+    let log = Log::new(rt.alloc())?;
+    let desk = Desk::new(&log, Outbox::new(1, false));
+    desk.script.replies(&[Reply::Never]);
+    let told = "requests gave 0;s ready;s called 0;s(0) pending;requests pending;\
+        requests dropped;s(0) dropped;s dropped;";
+    taken_ordered(&rt, &desk)?;
+    assert_eq!(rt; log.told(rt.alloc())?.as_str(), told);
+    taken_unordered(&rt, &desk)?;
+    assert_eq!(rt; log.told(rt.alloc())?.as_str(), told);
+    Ok(())
+}
+
+#[test]
+fn service_is_there_after_the_end(rt: HostRuntime) -> Result<(), Fail> {
+    let alloc = rt.alloc();
+    let log = Log::new(alloc)?;
+    let desk = Desk::new(&log, Outbox::new(0, true));
+    let mut calls = CallAll::new(alloc, desk.service(), desk.requests());
+    let solo = task(&rt)?;
+    let mut cx = solo.begin();
+    let answer = calls.flow(&mut cx);
+    cx.cancel();
+    assert_eq!(rt; answer, Poll::Ready(None));
+    if !calls.has_service() {
+        return Err("no service".into());
+    }
+    drop(calls.take_service());
+    assert_eq!(rt; log.told(alloc)?.as_str(), "requests ended;s dropped;");
+    Ok(())
+}
+
 #[test]
 fn errors_have_texts(rt: HostRuntime) -> Result<(), Fail> {
     let (inner, memory): (Error<u8>, Error<u8>) = (Error::Inner(1), Error::Memory);

@@ -273,6 +273,12 @@ fn a_layer_clones_its_predicate_or_drops_the_service(rt: HostRuntime) -> Result<
         log.told(alloc)?.as_str(),
         "p cloned p2;s dropped;p2 dropped;p dropped;"
     );
+    drop(FilterLayer::new(Plain::new(&log, 'p')).clone()?);
+    drop(AsyncFilterLayer::new(Plain::new(&log, 'q')).clone()?);
+    assert_eq!(rt;
+        log.told(alloc)?.as_str(),
+        "p cloned p3;p3 dropped;p dropped;q cloned q4;q4 dropped;q dropped;"
+    );
     let layer = FilterLayer::new(Plain::refusing(&log, 'p'));
     assert!(rt; layer.layer(service()).is_err() && layer.clone().is_err());
     assert_eq!(rt; log.told(alloc)?.as_str(), "p refused;s dropped;p refused;");

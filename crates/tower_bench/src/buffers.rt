@@ -76,9 +76,9 @@ fn work<W: Steps<Output = ()>>(cx: &mut Context<'_>, worker: &mut Option<W>)
     }
 }
 
-// Takes no task.
+/// Takes no task.
 #[derive(Drop)]
-struct Nobody;
+pub struct Nobody;
 
 impl<T> Executor<T> for Nobody {
     fn spawn(&self, task: T) -> Result<(), T> {

@@ -3,7 +3,7 @@
 /// Why there is no sum.
 #[derive(Debug, Drop, thiserror::Error)]
 pub enum Fault {
-    #[error("usage: tower-bench NAME N")]
+    #[error("usage: tower-bench NAME N, or tower-bench sizes")]
     Usage,
     #[error("out of memory")]
     Memory,

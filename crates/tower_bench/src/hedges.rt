@@ -1,8 +1,8 @@
 //! Stacks under a hedge.
 ghost use Rattle.std.specs.Prelude.{⊤};
 
-use crate::inner::{Echo, Pace};
-use crate::rounds::rounds;
+use crate::inner::Pace;
+use crate::rounds::Course;
 use futures::task::Context;
 use std::alloc::{AllocError, AllocGlobal};
 use std::convert::Infallible;
@@ -46,18 +46,26 @@ impl Clone for Always {
 }
 
 /// Rounds where ten latencies are known, and so many asked for.
-pub fn hedged<R: Wait + AllocGlobal + Copy>(
+pub fn hedged<R, S, T>(
     rt: R,
     cx: &mut Context<'_>,
+    inner: S,
     pace: &Pace,
     points: u64,
-    count: u64,
-) -> Result<u64, AllocError> {
+    course: &T,
+) -> Result<u64, AllocError>
+where
+    R: Wait + AllocGlobal + Copy,
+    S: Service<u64, Response = u64, Error = u64> + Clone,
+    T: Course,
+    requires inner { S.sound inner }
+    requires clones { (x y : S) → S.is_clone x y → S.sound x → S.sound y }
+{
     let part = Fraction::new(9, 10);
     let service = Hedge::new_with_mock_latencies(
         rt,
         rt.alloc(),
-        Echo,
+        inner,
         Always,
         points,
         part,
@@ -65,17 +73,17 @@ pub fn hedged<R: Wait + AllocGlobal + Copy>(
         pace.clock(),
         &LATENCIES,
     )?;
-    Ok(of_hedge(cx, service, pace, count))
+    of_hedge(cx, service, course)
 }
 
 // At all its types at once the check of a hedge is past its limits, so one type after another is let in.
-fn of_hedge<S, P, L, C>(
+fn of_hedge<S, P, L, C, T>(
     cx: &mut Context<'_>,
     hedge: Hedge<S, P, L, C>,
-    pace: &Pace,
-    count: u64,
-) -> u64
+    course: &T,
+) -> Result<u64, AllocError>
 where
+    T: Course,
     S: Service<u64, Response = u64, Error = u64> + Clone,
     P: Policy<u64> + Clone,
     L: Latch<HistoCore>,
@@ -87,16 +95,16 @@ where
     requires clones { (x y : S) → S.is_clone x y → S.sound x → S.sound y }
     requires policy_clones { (x y : P) → P.is_clone x y → P.sound x → P.sound y }
 {
-    of_latency(cx, hedge, pace, count)
+    of_latency(cx, hedge, course)
 }
 
-fn of_latency<P, N, S, D, Q, C>(
+fn of_latency<P, N, S, D, Q, C, T>(
     cx: &mut Context<'_>,
     hedge: Flat<Select<P, Latency<N, S, C>, Delay<D, AsyncFilter<Latency<N, S, C>, Q>, C>>>,
-    pace: &Pace,
-    count: u64,
-) -> u64
+    course: &T,
+) -> Result<u64, AllocError>
 where
+    T: Course,
     P: select::Policy<u64>,
     N: Record + Clone,
     S: Service<u64, Response = u64, Error = u64> + Clone,
@@ -114,16 +122,16 @@ where
     requires clones { (x y : S) → S.is_clone x y → S.sound x → S.sound y }
     requires predicate_clones { (x y : Q) → Q.is_clone x y → Q.sound x → Q.sound y }
 {
-    of_filter(cx, hedge, pace, count)
+    of_filter(cx, hedge, course)
 }
 
-fn of_filter<P, A, D, I, Q, C>(
+fn of_filter<P, A, D, I, Q, C, T>(
     cx: &mut Context<'_>,
     hedge: Flat<Select<P, A, Delay<D, AsyncFilter<I, Q>, C>>>,
-    pace: &Pace,
-    count: u64,
-) -> u64
+    course: &T,
+) -> Result<u64, AllocError>
 where
+    T: Course,
     P: select::Policy<u64>,
     A: Service<u64, Response = u64, Error = u64>,
     D: delay::Policy<u64>,
@@ -138,16 +146,16 @@ where
     requires clones { (x y : I) → I.is_clone x y → I.sound x → I.sound y }
     requires predicate_clones { (x y : Q) → Q.is_clone x y → Q.sound x → Q.sound y }
 {
-    of_delay(cx, hedge, pace, count)
+    of_delay(cx, hedge, course)
 }
 
-fn of_delay<P, A, D, F, C>(
+fn of_delay<P, A, D, F, C, T>(
     cx: &mut Context<'_>,
     hedge: Flat<Select<P, A, Delay<D, F, C>>>,
-    pace: &Pace,
-    count: u64,
-) -> u64
+    course: &T,
+) -> Result<u64, AllocError>
 where
+    T: Course,
     P: select::Policy<u64>,
     A: Service<u64, Response = u64, Error = u64>,
     D: delay::Policy<u64>,
@@ -159,16 +167,16 @@ where
     requires inner { F.sound hedge.b.service }
     requires clones { (x y : F) → F.is_clone x y → F.sound x → F.sound y }
 {
-    of_sides(cx, hedge, pace, count)
+    of_sides(cx, hedge, course)
 }
 
-fn of_sides<P, A, B>(
+fn of_sides<P, A, B, T>(
     cx: &mut Context<'_>,
     hedge: Flat<Select<P, A, B>>,
-    pace: &Pace,
-    count: u64,
-) -> u64
+    course: &T,
+) -> Result<u64, AllocError>
 where
+    T: Course,
     P: select::Policy<u64>,
     A: Service<u64, Response = u64, Error = u64>,
     B: Service<u64, Response = u64, Error = delay::Error<filter::Error<u64, Infallible>>>,
@@ -176,5 +184,5 @@ where
     requires first { A.sound hedge.a }
     requires second { B.sound hedge.b }
 {
-    rounds(cx, hedge, pace, count)
+    course.run(cx, hedge)
 }

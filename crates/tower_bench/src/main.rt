@@ -4,16 +4,19 @@
 mod balances;
 mod buffers;
 mod fault;
+mod flights;
 mod hedges;
 mod inner;
+mod late;
 mod lines;
 mod maps;
 mod retries;
 mod rounds;
+mod sizes;
 mod stacks;
 
 use fault::Fault;
-use futures::task::{Doorbell, Solo};
+use futures::task::{Context, Doorbell, Solo};
 use stacks::Stack;
 use std::alloc::AllocGlobal;
 use std::env;
@@ -48,17 +51,33 @@ where
     R: Wait + RandomSource + AllocGlobal + Copy,
     O: Write + Drop,
 {
-    let [name, number] = words else {
-        return Err(Fault::Usage);
-    };
-    let stack = Stack::named(name.as_str()).ok_or(Fault::Usage)?;
-    let Ok(count) = number.as_str().parse::<u64>() else {
-        return Err(Fault::Usage);
-    };
     let solo = Solo::new(&rt, Doorbell::spinning()).map_err(|_| Fault::Memory)?;
     let mut cx = solo.begin();
-    let sum = stack.sum(rt, &mut cx, count);
+    let ended = match words {
+        [name] if name.as_str() == "sizes" => sizes::write(rt, &mut cx, &mut out),
+        [name, number] => rounds_of(rt, &mut cx, name.as_str(), number.as_str(), &mut out),
+        _ => Err(Fault::Usage),
+    };
     cx.cancel();
-    let sum = sum.map_err(|_| Fault::Memory)?;
+    ended
+}
+
+// The rounds of this name, and their sum.
+fn rounds_of<R, O>(
+    rt: R,
+    cx: &mut Context<'_>,
+    name: &str,
+    number: &str,
+    out: &mut O,
+) -> Result<(), Fault>
+where
+    R: Wait + AllocGlobal + Copy,
+    O: Write,
+{
+    let stack = Stack::named(name).ok_or(Fault::Usage)?;
+    let Ok(count) = number.parse::<u64>() else {
+        return Err(Fault::Usage);
+    };
+    let sum = stack.sum(rt, cx, count).map_err(|_| Fault::Memory)?;
     writeln!(out, "{name} {count} sum {sum}").map_err(|_| Fault::CannotWrite)
 }

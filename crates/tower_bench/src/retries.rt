@@ -15,8 +15,15 @@ use tower::service::Fraction;
 
 /// Pays for retries by what comes in for each response.
 #[derive(Drop)]
-struct Paying<B> {
+pub struct Paying<B> {
     budget: B,
+}
+
+impl<B> Paying<B> {
+    /// Pays by this budget.
+    pub fn new(budget: B) -> Paying<B> {
+        Paying { budget }
+    }
 }
 
 impl<B: Budget> Policy<u64, u64, u64> for Paying<B> {

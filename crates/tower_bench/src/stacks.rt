@@ -2,9 +2,10 @@
 ghost use Rattle.std.specs.Prelude.{◌<◌, length};
 
 use crate::balances::Pool;
+use crate::flights::Flight;
 use crate::inner::{Echo, Maker, Pace};
 use crate::lines::Line;
-use crate::rounds::rounds;
+use crate::rounds::{AtOnce, Course, InFlight, rounds};
 use crate::{buffers, hedges, lines, maps, retries};
 use futures::future::{ok, ready};
 use futures::task::Context;
@@ -60,6 +61,8 @@ pub enum Stack {
     Line(Line, u64),
     /// A balancer or a cache, with so many endpoints.
     Pool(Pool, usize),
+    /// Responses that are under way in a table.
+    Flight(Flight),
 }
 
 impl Stack {
@@ -84,14 +87,20 @@ impl Stack {
             b"buffer_64" => Some(Stack::Buffer),
             b"spawn_ready" => Some(Stack::SpawnReady),
             b"semaphore_take_give" => Some(Stack::Semaphore),
-            _ => match Line::named(name) {
-                Some((line, waiters)) => Some(Stack::Line(line, waiters)),
-                None => {
-                    let (pool, endpoints) = Pool::named(name)?;
-                    Some(Stack::Pool(pool, endpoints))
-                }
-            },
+            _ => Stack::of_parts(name),
         }
+    }
+
+    // Those whose names have a part or a number.
+    fn of_parts(name: &str) -> Option<Stack> {
+        if let Some(flight) = Flight::named(name) {
+            return Some(Stack::Flight(flight));
+        }
+        if let Some((line, waiters)) = Line::named(name) {
+            return Some(Stack::Line(line, waiters));
+        }
+        let (pool, endpoints) = Pool::named(name)?;
+        Some(Stack::Pool(pool, endpoints))
     }
 
     /// Makes so many rounds, and answers the sum of their responses.
@@ -115,19 +124,34 @@ impl Stack {
                 Ok(rounds(cx, service, &pace, count))
             }
             Stack::LoadShed => Ok(rounds(cx, LoadShed::new(Echo), &pace, count)),
-            Stack::All => layered(rt, cx, Echo, pace.clock(), &pace, count),
+            Stack::All => {
+                let rate = Rate::new(2, 10);
+                layered(
+                    rt,
+                    cx,
+                    Echo,
+                    pace.clock(),
+                    rate,
+                    1,
+                    &AtOnce::new(&pace, count),
+                )
+            }
             Stack::Budget => retries::paid(rt, cx, &pace, count),
             Stack::OneRetry => retries::retried(rt, cx, &pace, count),
             Stack::Steer => steered(rt, cx, &pace, count),
             Stack::Filter => Ok(filtered(cx, &pace, count)),
             Stack::Reconnect => Ok(connected(cx, &pace, count)),
-            Stack::Maps => Ok(mapped(cx, &pace, count)),
-            Stack::Hedge(points) => hedges::hedged(rt, cx, &pace, points, count),
+            Stack::Maps => mapped(cx, &pace, count),
+            Stack::Hedge(points) => {
+                let course = AtOnce::new(&pace, count);
+                hedges::hedged(rt, cx, Echo, &pace, points, &course)
+            },
             Stack::Buffer => buffers::buffered(rt, cx, count),
             Stack::SpawnReady => buffers::spawned(rt, cx, &pace, count),
             Stack::Semaphore => lines::take_give(rt, cx, count),
             Stack::Line(line, waiters) => line.sum(rt.alloc(), waiters, count),
             Stack::Pool(pool, endpoints) => pool.sum(rt, cx, &pace, endpoints, count),
+            Stack::Flight(flight) => flight.run(rt, cx, &InFlight::new(rt, count)),
         }
     }
 
@@ -147,35 +171,42 @@ fn rated(cx: &mut Context<'_>, rate: Rate, pace: &Pace, count: u64) -> u64 {
     rounds(cx, service, pace, count)
 }
 
-// Under the four of `tower-run`'s, the time outermost and the rate innermost.
-fn layered<R, S, C>(
+/// Under the four of `tower-run`'s, the time outermost and the rate innermost.
+pub fn layered<R, S, C, T>(
     rt: R,
     cx: &mut Context<'_>,
     inner: S,
     clock: C,
-    pace: &Pace,
-    count: u64,
+    rate: Rate,
+    most: usize,
+    course: &T,
 ) -> Result<u64, AllocError>
 where
     R: Wait + AllocGlobal + Copy,
     S: Service<u64, Response = u64>,
     C: Clock,
+    T: Course,
     requires { S.sound inner }
 {
-    let rated = RateLimit::new(inner, Rate::new(2, 10), clock.share());
-    let limited = ConcurrencyLimit::new(rt, rt.alloc(), rated, 1)?;
-    Ok(shed_in_time(cx, limited, clock, pace, count))
+    let rated = RateLimit::new(inner, rate, clock.share());
+    let limited = ConcurrencyLimit::new(rt, rt.alloc(), rated, most)?;
+    shed_in_time(cx, limited, clock, course)
 }
 
 // Under the refusal and the time. (At all four at once the check gives up.)
-fn shed_in_time<S, C>(cx: &mut Context<'_>, inner: S, clock: C, pace: &Pace, count: u64) -> u64
+fn shed_in_time<S, C, T>(
+    cx: &mut Context<'_>,
+    inner: S,
+    clock: C,
+    course: &T,
+) -> Result<u64, AllocError>
 where
     S: Service<u64, Response = u64>,
     C: Clock,
+    T: Course,
     requires { S.sound inner }
 {
-    let service = Timeout::new(LoadShed::new(inner), 10, clock);
-    rounds(cx, service, pace, count)
+    course.run(cx, Timeout::new(LoadShed::new(inner), 10, clock))
 }
 
 // Under a steer over eight.
@@ -206,11 +237,11 @@ fn connected(cx: &mut Context<'_>, pace: &Pace, count: u64) -> u64 {
 }
 
 // Under five maps.
-fn mapped(cx: &mut Context<'_>, pace: &Pace, count: u64) -> u64 {
+fn mapped(cx: &mut Context<'_>, pace: &Pace, count: u64) -> Result<u64, AllocError> {
     maps::five(
         cx,
-        pace,
-        count,
+        Echo,
+        &AtOnce::new(pace, count),
         |request: u64| request.wrapping_add(1),
         |response: u64| response.wrapping_add(2),
         |error: u64| error.wrapping_add(3),

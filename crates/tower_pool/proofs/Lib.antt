@@ -10,4 +10,5 @@ pub mod Orders
 pub mod PendingLemmas
 pub mod PlaceLemmas
 pub mod Positions
+pub mod Queues
 pub mod Replies

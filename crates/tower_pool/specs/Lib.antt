@@ -1,8 +1,8 @@
 pub mod Buffer
-pub mod BufferErrors
 pub mod BufferReady
 pub mod Letters
 pub mod Mail
+pub mod MailHistory
 pub mod MailLaws
 pub mod Mailbox
 pub mod Making

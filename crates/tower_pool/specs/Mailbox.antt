@@ -1,5 +1,5 @@
 -- Which plain mails a `Mailbox` stands for.
-use Rattle.std.specs.Prelude.{◌≡◌, ◌<◌, ◌+◌, ℕ, List, [], ◌∷◌}
+use Rattle.std.specs.Prelude.{◌≡◌, ◌<◌, ◌+◌, ◌^◌, ℕ, List, [], ◌∷◌, vec_len, vec_capacity}
 use Rattle.tower_limit.specs.Line.{Ticket}
 use Rattle.tower_limit.specs.LineCore.{Stands}
 use Rattle.tower_pool.specs.Mail.{Entry, Mail, MailSteps, blank}
@@ -53,3 +53,8 @@ module _ {Q F E : Type 0} where
   Follows old step reply new = (messages : List (Entry Q F)) (line : List Ticket) → present messages ≡ old.letters.items → HasLine old line
       → (left : List (Entry Q F)) × (goes : List Ticket) × MailSteps (plain_of old messages line) step reply (plain_of new left goes)
       × (present left ≡ new.letters.items) × HasLine new goes
+
+  -- a further place may be asked for: it has an id and a key, and room for its message and its key
+  abbrev pub HasRoom : Mailbox Q F E → Type 0
+  HasRoom box = (box.next_id + box.reserved + vec_len box.keys + 1 < 2 ^ 64) × (box.next_key + 1 < 2 ^ 64)
+      × (vec_len box.letters + box.reserved + vec_len box.keys < vec_capacity box.letters) × (vec_len box.keys < vec_capacity box.keys)

@@ -111,7 +111,7 @@ fn limited<'a, R: Wait + Copy>(
 }
 
 // Under all four, the time outermost and the rate innermost.
-fn layered<'a, R, S, C>(
+pub(crate) fn layered<'a, R, S, C>(
     rt: R,
     alloc: Global,
     stage: &Stage<'a>,

@@ -4,7 +4,7 @@ use std::fmt::Display;
 
 /// The error of a `Balance`, in place of the Rust's boxed one. `Discover` is the Rust's
 /// `tower::balance::error::Discover`.
-#[derive(Debug, Drop, PartialEq, Eq, thiserror::Error)]
+#[derive(Clone, Debug, Drop, PartialEq, Eq, thiserror::Error)]
 #[error_bound(E: Display, D: Display)]
 pub enum Error<E, D> {
     /// The endpoint's own error.
@@ -19,7 +19,7 @@ pub enum Error<E, D> {
 }
 
 /// The error of a `MakeBalance`.
-#[derive(Debug, Drop, PartialEq, Eq, thiserror::Error)]
+#[derive(Clone, Debug, Drop, PartialEq, Eq, thiserror::Error)]
 #[error_bound(E: Display)]
 pub enum MakeError<E> {
     /// The maker's own error.

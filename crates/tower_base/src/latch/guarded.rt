@@ -77,9 +77,14 @@ impl<C: Core> Kept<C> {
         self.core.step(step)
     }
 
-    // The waiters, who are woken when they are dropped.
-    fn take_waiters(&mut self) -> Vec<Waiter> {
-        mem::replace(&mut self.waiters, Vec::new(self.alloc))
+    // The last waiter of one or more, and the others.
+    fn take_waiters(&mut self) -> (Option<Waiter>, Vec<Waiter>) {
+        let last = self.waiters.pop();
+        if self.waiters.is_empty() {
+            return (last, Vec::new(self.alloc));
+        }
+        let others = mem::replace(&mut self.waiters, Vec::new(self.alloc));
+        (last, others)
     }
 }
 
@@ -98,7 +103,8 @@ fn locked_late<T, R: Wait + Copy>(lock: &Mutex<T>, rt: R) -> MutexGuard<'_, T> {
     lock.lock(&rt)
 }
 
-// Wakes all that wait, once the lock is free.
+// Wakes all that wait, once the lock is free: a waiter is woken when it is dropped. Where one waits
+// alone, the list keeps its room.
 #[cold]
 #[inline(never)]
 fn wake<C: Core>(mut kept: MutexGuard<'_, Kept<C>>) {

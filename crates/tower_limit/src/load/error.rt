@@ -3,7 +3,7 @@
 use std::fmt::Display;
 
 /// The error of a `PendingRequestsDiscover`, which in the Rust has that of the inner discovery.
-#[derive(Debug, Drop, PartialEq, Eq, thiserror::Error)]
+#[derive(Clone, Debug, Drop, PartialEq, Eq, thiserror::Error)]
 #[error_bound(E: Display)]
 pub enum Error<E> {
     /// The inner discovery's error.

@@ -1,13 +1,10 @@
 //! Why there is no place, or no response.
-ghost use Rattle.std.specs.Prelude.{◌≡◌};
-ghost use Rattle.tower_pool.specs.BufferErrors.{ClonesError};
 
-use std::alloc::AllocError;
 use std::fmt::Display;
 use std::{error, fmt};
 
 /// The service's own error, which every caller gets: the Rust's `tower::buffer::error::ServiceError`.
-#[derive(Debug, Drop, PartialEq, Eq, thiserror::Error)]
+#[derive(Clone, Debug, Drop, PartialEq, Eq, thiserror::Error)]
 #[error_bound(E: Display)]
 #[error("buffered service failed: {error}")]
 pub struct ServiceError<E> {
@@ -27,7 +24,7 @@ impl Display for Closed {
 impl error::Error for Closed {}
 
 /// The error of a `Buffer`, in place of the Rust's boxed one.
-#[derive(Debug, Drop, PartialEq, Eq, thiserror::Error)]
+#[derive(Clone, Debug, Drop, PartialEq, Eq, thiserror::Error)]
 #[error_bound(E: Display)]
 pub enum Error<E> {
     /// The service failed, at this message or at an earlier one.
@@ -42,21 +39,4 @@ pub enum Error<E> {
     /// The executor gave the worker back.
     #[error("task was not spawned")]
     NotSpawned,
-}
-
-/// A clone has a clone of the service's own error.
-impl<E: Clone> Clone for Error<E> {
-    ghost is_clone = { ClonesError E.is_clone };
-
-    fn clone(&self) -> Result<Error<E>, AllocError> {
-        match self {
-            Error::Service(failed) => {
-                let error = failed.error.clone()?;
-                Ok(Error::Service(ServiceError { error }))
-            }
-            Error::Closed => Ok(Error::Closed),
-            Error::Memory => Ok(Error::Memory),
-            Error::NotSpawned => Ok(Error::NotSpawned),
-        }
-    }
 }

@@ -57,7 +57,8 @@ impl<Request: Drop, F: Drop, E: Clone> Core for MailCore<Request, F, E> {
 
     ghost use Rattle.tower_base.specs.Latch.{StepsAs};
     ghost use Rattle.tower_pool.specs.Mail.{MailSteps, is_waiting};
-    ghost use Rattle.tower_pool.specs.Mailbox.{Opens, StandsFor};
+    ghost use Rattle.std.specs.Prelude.{false};
+    ghost use Rattle.tower_pool.specs.Mailbox.{HasRoom, Opens, StandsFor};
 
     ghost opens = { Opens };
 
@@ -65,7 +66,11 @@ impl<Request: Drop, F: Drop, E: Clone> Core for MailCore<Request, F, E> {
 
     ghost is_wait = { is_waiting };
 
-    fn step(&mut self, step: MailStep<Request, F, E>) -> MailReply<Request, F, E> {
+    /// Open mail answers `Memory` to `Reserve` only where the ids or the keys are used up, or room was missing.
+    fn step(&mut self, step: MailStep<Request, F, E>) -> MailReply<Request, F, E>
+        ensures steps { StepsAs StandsFor MailSteps self.old step result self.new }
+        ensures excused { step ≡ MailStep.Reserve → result ≡ MailReply.Memory → self.old.closed ≡ false → ¬ (HasRoom self.old) }
+    {
         match step {
             MailStep::Join => self.mail.join(),
             MailStep::Part => self.mail.part(),

@@ -1,5 +1,5 @@
 //! Mail: the messages on their way to a worker, and the line for places.
-ghost use Rattle.std.specs.Prelude.{◌≡◌, ◌≢◌, ◌<◌, ◌≤◌, ◌+◌, ◌^◌, All, IfSome, IfNone, position, remove, unwrap_or, slice_get, slice_set, Some, None, true, filter, map, vec_len, vec_capacity, count_by, is_some, length};
+ghost use Rattle.std.specs.Prelude.{◌≡◌, ◌≢◌, ◌⊎◌, ◌<◌, ◌≤◌, ◌+◌, ◌^◌, All, IfSome, IfNone, position, remove, unwrap_or, slice_get, slice_set, Some, None, true, filter, map, vec_len, vec_capacity, count_by, is_some, length};
 ghost use Rattle.tower_pool.specs.Letters.{Finishes, Fits, is_cancelled, is_failed, is_kept, is_known, is_open, lost, is_taken, queued_letters};
 ghost use Rattle.tower_pool.specs.Mail.{Tells};
 ghost use Rattle.tower_pool.specs.declared.buffer.letter.Letter.{Letter};
@@ -109,7 +109,8 @@ impl<Request, F, E> Mailbox<Request, F, E> {
         requires full { self.old.bound ≤ self.old.reserved + queued_letters self.old.letters.items + vec_len self.old.keys }
         requires room { vec_len self.old.letters + self.old.reserved + vec_len self.old.keys < vec_capacity self.old.letters }
         requires number { self.old.next_id + self.old.reserved + vec_len self.old.keys + 1 < 2 ^ 64 }
-        ensures { Follows self.old MailStep.Reserve result self.new }
+        ensures follows { Follows self.old MailStep.Reserve result self.new }
+        ensures excused { result ≡ MailReply.Memory → (2 ^ 64 ≤ self.old.next_key + 1) ⊎ (vec_capacity self.old.keys ≤ vec_len self.old.keys) }
     {
         let key = self.next_key;
         if key == u64::MAX {
@@ -125,11 +126,12 @@ impl<Request, F, E> Mailbox<Request, F, E> {
 
 impl<Request: Drop, F, E: Clone> Mailbox<Request, F, E> {
     ghost use Rattle.std.specs.Prelude.{false};
-    ghost use Rattle.tower_pool.specs.Mailbox.{Follows};
+    ghost use Rattle.tower_pool.specs.Mailbox.{Follows, HasRoom};
 
     pub(crate) fn reserve(&mut self) -> MailReply<Request, F, E>
         requires { (x y : E) → E.is_clone x y → y ≡ x }
-        ensures { Follows self.old MailStep.Reserve result self.new }
+        ensures follows { Follows self.old MailStep.Reserve result self.new }
+        ensures excused { result ≡ MailReply.Memory → self.old.closed ≡ false → ¬ (HasRoom self.old) }
     {
         if self.closed {
             return shut(&self.stored);

@@ -3,13 +3,13 @@
 use std::fmt::Display;
 
 /// An endpoint failed: its key and its error, whose text it shows. The Rust's `tower::ready_cache::error::Failed`.
-#[derive(Debug, Drop, PartialEq, Eq, thiserror::Error)]
+#[derive(Clone, Debug, Drop, PartialEq, Eq, thiserror::Error)]
 #[error_bound(E: Display)]
 #[error("{1}")]
 pub struct Failed<K, E>(pub K, pub E);
 
 /// Why a poll of the pending endpoints stopped.
-#[derive(Debug, Drop, PartialEq, Eq, thiserror::Error)]
+#[derive(Clone, Debug, Drop, PartialEq, Eq, thiserror::Error)]
 #[error_bound(E: Display)]
 pub enum Error<K, E> {
     /// An endpoint failed, and left the cache: its key and its error.

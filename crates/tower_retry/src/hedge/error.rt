@@ -2,7 +2,7 @@
 use std::fmt::Display;
 
 /// The error of a `Hedge`, in place of the Rust's boxed one.
-#[derive(Debug, Drop, PartialEq, Eq, thiserror::Error)]
+#[derive(Clone, Debug, Drop, PartialEq, Eq, thiserror::Error)]
 #[error_bound(E: Display)]
 pub enum Error<E> {
     /// The inner service's own error, of the first call or of the second.

@@ -1,6 +1,11 @@
 //! Transcripts of the stacks: the numbers of each, and the order of the four layers.
+use crate::script::parse;
+use crate::scripted::{Scripted, Stage};
+use crate::stacks::layered;
 use crate::tests::parts::{check_lines, check_printed};
+use std::cell::Cell;
 use std::test::Fail;
+use tower::service::Clock;
 
 #[test]
 fn response_past_its_time_times_out(rt: HostRuntime) -> Result<(), Fail> {
@@ -248,6 +253,35 @@ fn all_four_ask_for_a_permit_before_the_rate(rt: HostRuntime) -> Result<(), Fail
         ],
         "inner polls 5 calls 5\n",
     )
+}
+
+// A clock that stands still and counts its readings.
+#[derive(Drop)]
+struct Counting<'s>(&'s Cell<u64>, u64);
+
+impl Clock for Counting<'_> {
+    ghost reading = { λ c. c.1 };
+
+    fn now(&mut self) -> u64 {
+        self.0.set(self.0.get().saturating_add(1));
+        self.1
+    }
+
+    fn share(&self) -> Self {
+        Counting(self.0, self.1)
+    }
+}
+
+// The clock is read as the rate is made and at the call. With the refusal outside the time a refused call would read
+// nothing, and print the same.
+#[test]
+fn all_four_time_a_refused_call(rt: HostRuntime) -> Result<(), Fail> {
+    let (readings, stage) = (Cell::new(0), Stage::new(rt.alloc(), 1)?);
+    let commands = parse(rt.alloc(), b"allow 0\npoll\ncall a\n").map_err(|_| "no script")?;
+    let (inner, clock) = (Scripted::new(&stage), Counting(&readings, 0));
+    layered(rt, rt.alloc(), &stage, inner, clock, commands)?;
+    assert_eq!(rt; readings.get(), 2);
+    Ok(())
 }
 
 #[test]

@@ -3,7 +3,7 @@
 use std::fmt::Display;
 
 /// The error of a filter, in place of the Rust's boxed one.
-#[derive(Debug, Drop, PartialEq, Eq, thiserror::Error)]
+#[derive(Clone, Debug, Drop, PartialEq, Eq, thiserror::Error)]
 #[error_bound(E: Display, P: Display)]
 pub enum Error<E, P> {
     /// The inner service's own error.

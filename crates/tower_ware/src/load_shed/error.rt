@@ -15,7 +15,7 @@ impl Overloaded {
 }
 
 /// The error of a `LoadShed`, in place of the Rust's boxed one.
-#[derive(Debug, Drop, PartialEq, Eq, thiserror::Error)]
+#[derive(Clone, Debug, Drop, PartialEq, Eq, thiserror::Error)]
 #[error_bound(E: Display)]
 pub enum Error<E> {
     /// The inner service's own error.

@@ -3,7 +3,7 @@
 use std::fmt::Display;
 
 /// The error of a `Reconnect` over a maker with errors `M`, in place of the Rust's boxed one.
-#[derive(Debug, Drop, PartialEq, Eq, thiserror::Error)]
+#[derive(Clone, Debug, Drop, PartialEq, Eq, thiserror::Error)]
 #[error_bound(E: Display, M: Display)]
 pub enum Error<E, M> {
     /// The connection's own error: of a response alone.

@@ -29,7 +29,7 @@ impl Display for Elapsed {
 impl error::Error for Elapsed {}
 
 /// The error of a `Timeout`, in place of the Rust's boxed one.
-#[derive(Debug, Drop, PartialEq, Eq, thiserror::Error)]
+#[derive(Clone, Debug, Drop, PartialEq, Eq, thiserror::Error)]
 #[error_bound(E: Display)]
 pub enum Error<E> {
     /// The inner service's own error.

@@ -98,6 +98,7 @@ impl HistoCore {
         self.read.total()
     }
 
+    #[inline(never)]
     fn quantile(&mut self, moment: u64, part: Fraction) -> u64
         ensures { FollowsMachine StandsFor Steps self.old (Quantile moment part) (Millis result) self.new }
     {

@@ -6,7 +6,7 @@ use futures::task::Poll;
 use std::fmt::Display;
 
 /// The error of a `ConcurrencyLimit`, in place of the Rust's boxed one.
-#[derive(Debug, Drop, PartialEq, Eq, thiserror::Error)]
+#[derive(Clone, Debug, Drop, PartialEq, Eq, thiserror::Error)]
 #[error_bound(E: Display)]
 pub enum Error<E> {
     /// The inner service's error.

@@ -2,7 +2,7 @@
 use std::fmt::Display;
 
 /// The error of a `Select`, in place of the Rust's boxed one.
-#[derive(Debug, Drop, PartialEq, Eq, thiserror::Error)]
+#[derive(Clone, Debug, Drop, PartialEq, Eq, thiserror::Error)]
 #[error_bound(A: Display, B: Display)]
 pub enum Error<A, B> {
     /// The first service's own error.

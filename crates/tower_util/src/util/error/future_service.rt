@@ -3,7 +3,7 @@
 use std::fmt::Display;
 
 /// The error of a `FutureService`.
-#[derive(Debug, Drop, PartialEq, Eq, thiserror::Error)]
+#[derive(Clone, Debug, Drop, PartialEq, Eq, thiserror::Error)]
 #[error_bound(E: Display)]
 pub enum Error<E> {
     /// The service's own error, or the future's, which is answered once.

@@ -3,7 +3,7 @@
 use std::fmt::Display;
 
 /// An item of a stream of calls in place of a response.
-#[derive(Debug, Drop, PartialEq, Eq, thiserror::Error)]
+#[derive(Clone, Debug, Drop, PartialEq, Eq, thiserror::Error)]
 #[error_bound(E: Display)]
 pub enum Error<E> {
     /// The service's own error: of a response, or of its readiness, which is the end of the requests.

@@ -1,5 +1,6 @@
 use Rattle.tower_base.specs.LatchLemmas.{is_run}
 use Rattle.tower_pool.proofs.MailRuns
+use Rattle.tower_pool.proofs.Queues.{taken_as_sent}
 use Rattle.tower_pool.proofs.buffer.laws.law.Goals as goal
 
 pub returns-clause-follows : goal.returns-clause-follows
@@ -16,3 +17,6 @@ returns-clause-fails g c = MailRuns.fails_at_once
 
 pub returns-clause-shut : goal.returns-clause-shut
 returns-clause-shut g c = MailRuns.stays_shut
+
+pub returns-clause-history : goal.returns-clause-history
+returns-clause-history g c = taken_as_sent

@@ -3,8 +3,8 @@ use Rattle.tower_limit.specs.Line.{Ticket}
 use Rattle.tower_pool.proofs.Lines.{counted, lacks, waits_last}
 use Rattle.tower_pool.proofs.buffer.mailbox.Mailbox.queue_up.Goals as goal
 
-pub returns : goal.returns
-returns g c = λ messages line p s.
+pub returns-clause-follows : goal.returns-clause-follows
+returns-clause-follows g c = λ messages line p s.
     let r = waits_last _ c.args.self.now.next_key line s.2 in
     let full : c.args.self.now.bound ≤ length line = omega (arith, counted line, s.0, ap length s.1, c.requires.full) in (
       messages,

@@ -1,0 +1,86 @@
+//! Jobs: how they are read, done and answered.
+ghost use Rattle.std.specs.Prelude.{◌≤◌};
+
+use std::alloc::Global;
+use std::fmt::{self, Display};
+use std::io::{self, BufRead, BufReader, Read};
+use std::str;
+
+/// So many divisors are tried in one call.
+const SLICE: u64 = 100_000;
+
+/// A number, and the divisor from which on the search for a factor goes on.
+#[derive(Clone, Copy, Debug)]
+pub struct Job {
+    pub number: u64,
+    pub from: u64,
+    ghost begins: { 2 ≤ from },
+}
+
+/// No factor was found yet, and what is left to do.
+#[derive(Clone, Copy, Debug)]
+pub struct Unfinished {
+    pub rest: Job,
+}
+
+impl Display for Unfinished {
+    fn fmt<W: fmt::Write>(&self, f: &mut fmt::Formatter<W>) -> fmt::Result {
+        write!(f, "no factor below {}", self.rest.from)
+    }
+}
+
+/// The smallest prime factor, if it is among the next divisors.
+pub fn search(job: Job) -> Result<u64, Unfinished> {
+    let next = job.from.saturating_add(SLICE);
+    for divisor in job.from..next {
+        if job.number % divisor == 0 {
+            return Ok(divisor);
+        }
+        if divisor > job.number / divisor {
+            return Ok(job.number);
+        }
+    }
+    let rest = Job {
+        number: job.number,
+        from: next,
+    };
+    Err(Unfinished { rest })
+}
+
+/// The job of each line, and none where a line isn't a number from 2 on.
+pub fn read_lines<R: Read + Drop>(alloc: Global, reader: R) -> io::Result<Vec<Option<Job>>> {
+    let mut lines = Vec::new(alloc);
+    for line in BufReader::new(alloc, reader)?.split(alloc, b'\n') {
+        lines.push(job_of(line?.as_slice()))?;
+    }
+    Ok(lines)
+}
+
+fn job_of(line: &[u8]) -> Option<Job> {
+    let number: u64 = str::from_utf8(line).ok()?.trim().parse().ok()?;
+    if number < 2 {
+        return None;
+    }
+    Some(Job { number, from: 2 })
+}
+
+/// What comes of a line.
+#[derive(Debug, Drop)]
+pub enum Answer {
+    /// The number and its smallest prime factor.
+    Factor { number: u64, factor: u64 },
+    /// The number and why it has no answer.
+    Failed { number: u64, reason: String },
+    /// The line of this number, from 1 on, isn't a job.
+    Wrong { line: usize },
+}
+
+impl Display for Answer {
+    fn fmt<W: fmt::Write>(&self, f: &mut fmt::Formatter<W>) -> fmt::Result {
+        match self {
+            Answer::Factor { number, factor } => write!(f, "{number}: {factor}"),
+            Answer::Failed { number, reason } => write!(f, "{number}: {reason}"),
+            Answer::Wrong { line } => write!(f, "line {line}: not a number from 2 on"),
+        }
+    }
+}
