@@ -1,14 +1,14 @@
 #!/usr/bin/env python3
-"""scripts/must_fail.py [--built] [--until SECONDS] [CRATE ..]: the prover has to refuse each wrong body must-fail/CRATE/NAME.edit.
+"""scripts/must_fail.py [--built LOG] [--until SECONDS] [CRATE ..]: the prover has to refuse each wrong body must-fail/CRATE/NAME.edit.
 
-An edit has the form that the kit's `rt must-fail` reads. That tries edits one by one, and each check first loads its crate, so the edits
-stand outside the crates and are tried here, many in one check: a function is proved from the contracts of those that it calls, and so a
+The edits of `crates/CRATE/must-fail/` are tried too. An edit has the form that the kit's `rt must-fail` reads. That tries edits one by one,
+and each check first loads its crate, so they are tried here, many in one check: a function is proved from the contracts of those that it calls, and so a
 wrong body fails its own function alone. An edit counts as refused only where its own function isn't proved and calls none that isn't;
 where it calls such a one, it is tried again in another check. What changes more than bodies (a bound, a constant) is tried alone; an edit
 that stands in no function names by a line `function: PATH` the one that has to be refused.
 
-First each crate is proved without an edit. With --built the libraries are taken as
-`rt ci` left them. With --until no check begins after that moment (as `date +%s` tells it), and what is left is said to be untried.
+First each crate is proved without an edit. With --built the libraries are taken as `rt ci` left them, and LOG, what it printed, tells
+which functions it proved, so that they aren't proved again. With --until no check begins after that moment (as `date +%s` tells it), and what is left is said to be untried.
 The last line is `N refused, M not` (and `, K untried`); status 1 where M isn't 0.
 """
 import importlib.machinery
@@ -161,6 +161,11 @@ def is_of(crate, printed, name):
     return printed == name or printed.startswith((f"{name}::", f"{name}+"))
 
 
+def proved_of(crate, output):
+    """The functions of a crate that a check proved, by what it printed."""
+    return re.findall(rf"^fn {crate.name}::(\S+): proved", output, re.M)
+
+
 def verdict(edit, output):
     """`refused` with the reason; `again` where another function's failure may be the reason; or `NOT REFUSED`."""
     said = re.findall(r"^fn (\S+): (.*)$", output, re.M)
@@ -182,8 +187,8 @@ class TimeIsOver(Exception):
 class Tried:
     """The edits of a crate."""
 
-    def __init__(self, crate, edits, room, lanes, until):
-        self.crate, self.edits, self.room, self.lanes, self.until = crate, edits, room, lanes, until
+    def __init__(self, crate, edits, room, lanes, until, proved):
+        self.crate, self.edits, self.room, self.lanes, self.until, self.proved = crate, edits, room, lanes, until, proved
         self.kept, self.answers, self.checks = f"{room}/{crate.name}", {}, 0
 
     def check(self, edits, functions):
@@ -204,12 +209,13 @@ class Tried:
         return ran
 
     def is_proved_without(self):
-        """Proves the crate without an edit, and finds the names of the functions that edits change."""
-        ran = self.check([], [])
+        """Proves the crate without an edit, or one function of it where `rt ci` proved it, and finds the names of the functions that edits change."""
+        names = proved_of(self.crate, self.proved)
+        ran = self.check([], names[:1])
         if ran.returncode:
             print(f"must-fail {self.crate.name}: NOT PROVED without an edit:\n{ran.stdout[-3000:]}", flush=True)
             return False
-        names = re.findall(rf"^fn {self.crate.name}::(\S+): proved", ran.stdout, re.M)
+        names = names or proved_of(self.crate, ran.stdout)
         for it in self.edits:
             it.functions = [named(pattern, names) for pattern in it.patterns]
             if None in it.functions or not it.functions:
@@ -287,13 +293,25 @@ class Tried:
         print(f"must-fail {self.crate.name}: {len(self.edits)} edits in {self.checks} checks", flush=True)
 
 
+def files_of(root, name):
+    """The edits of a crate: those of `must-fail/`, and the one that the crate itself has."""
+    folders = [f"{root}/must-fail/{name}", f"{root}/crates/{name}/must-fail"]
+    return [f"{at}/{it}" for at in folders if os.path.isdir(at) for it in sorted(os.listdir(at)) if it.endswith(".edit")]
+
+
+def taken(words, flag):
+    """What stands after a flag, and the other words."""
+    if flag not in words:
+        return "", words
+    at = words.index(flag)
+    return words[at + 1], [*words[:at], *words[at + 2 :]]
+
+
 def main(words):
-    until = 0
-    if "--until" in words:
-        at = words.index("--until")
-        until, words = int(words[at + 1]), [*words[:at], *words[at + 2 :]]
-    is_built = "--built" in words
-    names = [it for it in words if it != "--built"]
+    until, words = taken(words, "--until")
+    built, names = taken(words, "--built")
+    until = int(until or 0)
+    proved = rt.rtlib.text_of(built) if built else ""
     root = os.path.dirname(os.path.dirname(os.path.realpath(__file__)))
     os.chdir(root)
     os.environ.pop(rt.rtlib.ALLOW_C, None)
@@ -301,20 +319,19 @@ def main(words):
     rt.rtlib.guarded()
     rt.rtlib.Crate = rt.Crate
     crates = {it.name: it for it in rt.rtlib.crates_below(root)}
-    unknown = [it for it in sorted(os.listdir("must-fail")) if it not in crates]
+    unknown = [it for it in [*sorted(os.listdir("must-fail")), *names] if it not in crates]
     if unknown:
-        print(f"must-fail/{unknown[0]} is no crate\n0 refused, 1 not")
+        print(f"{unknown[0]} is no crate\n0 refused, 1 not")
         return 1
     tried = []
     number = os.environ.get("RT_JOBS", "")
     lanes = threading.Semaphore(int(number) if number.isdigit() else max(1, min(rt.processors(), rt.free() // 4_500_000_000)))
     with tempfile.TemporaryDirectory(prefix="must-fail-") as room:
-        for name in names or sorted(os.listdir("must-fail")):
+        for name in names or [it for it in sorted(crates) if files_of(root, it)]:
             crate = crates[name]
-            if not is_built and any(it.build_rlib([], anew=False) for it in crate.below()):
+            if not built and any(it.build_rlib([], anew=False) for it in crate.below()):
                 return 1
-            files = sorted(it for it in os.listdir(f"must-fail/{name}") if it.endswith(".edit"))
-            tried.append(Tried(crate, [Edit(crate, f"{root}/must-fail/{name}/{it}") for it in files], room, lanes, until))
+            tried.append(Tried(crate, [Edit(crate, it) for it in files_of(root, name)], room, lanes, until, proved))
         tried.sort(key=lambda it: -len(it.edits))
         with ThreadPoolExecutor(max(len(tried), 1)) as pool:
             for it in pool.map(Tried.run, tried):
