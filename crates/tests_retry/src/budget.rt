@@ -1,6 +1,6 @@
 //! `tower::retry::budget`: deposits and withdrawals by hand, at a core, behind a lock and through clones.
 
-use std::alloc::AllocGlobal;
+use std::alloc::{AllocError, AllocGlobal};
 use std::cell::Cell;
 use std::process::Abort;
 use std::sync::Wait;
@@ -76,9 +76,48 @@ fn a_deposit_counts_for_ten_windows(rt: HostRuntime) -> Result<(), Fail> {
         Take(5, true),
     ];
     plays(rt, 0, 10 * SECOND, 0, whole, &long_past_it)?;
-    // twelve windows
-    let twelve = [Put(0), Take(12 * SECOND, false)];
-    plays(rt, 0, 10 * SECOND, 0, whole, &twelve)
+    let windows = [
+        (9, true),
+        (10, true),
+        (11, false),
+        (12, false),
+        (20, false),
+        (21, false),
+        (22, false),
+    ];
+    for (count, answer) in windows {
+        let past = [Put(0), Take(count * SECOND, answer)];
+        plays(rt, 0, 10 * SECOND, 0, whole, &past)?;
+    }
+    plays(
+        rt,
+        0,
+        10 * SECOND,
+        0,
+        whole,
+        &[Put(0), Take(u64::MAX, false)],
+    )
+}
+
+// A deposit in each of eleven generations counts, and then goes with its own.
+#[test]
+fn eleven_generations_count(rt: HostRuntime) -> Result<(), Fail> {
+    let alloc = rt.alloc();
+    let mut core = BudgetCore::new(alloc, 10 * SECOND, 0, Fraction::new(1, 11), 0)?;
+    for second in 0..11u64 {
+        let full = core.step(BudgetStep::Withdraw(second * SECOND));
+        assert_eq!(rt; full, BudgetReply::Allowed(false), "at {second}");
+        core.step(BudgetStep::Deposit(second * SECOND));
+    }
+    let mut late = BudgetCore::new(alloc, 10 * SECOND, 0, Fraction::new(1, 11), 0)?;
+    for second in 0..11u64 {
+        late.step(BudgetStep::Deposit(second * SECOND));
+    }
+    let in_time = core.step(BudgetStep::Withdraw(10 * SECOND));
+    assert_eq!(rt; in_time, BudgetReply::Allowed(true));
+    let too_late = late.step(BudgetStep::Withdraw(11 * SECOND));
+    assert_eq!(rt; too_late, BudgetReply::Allowed(false));
+    Ok(())
 }
 
 #[test]
@@ -280,5 +319,86 @@ fn one_latch_step_each(rt: HostRuntime) -> Result<(), Fail> {
     );
     assert!(rt; budget.clone().is_err());
     assert_eq!(rt; log.told(alloc)?.as_str(), "latch refused;");
+    Ok(())
+}
+
+// The budget's definition for windows of a second and 1/2: a plain list of all amounts that count, each
+// with its generation.
+#[derive(Drop)]
+struct Plain {
+    generation: u64,
+    moment: u64,
+    amounts: Vec<(u64, i64)>,
+}
+
+impl Plain {
+    fn advance(&mut self, at: u64) {
+        let gap = at.saturating_sub(self.moment);
+        if gap >= SECOND {
+            let now = self.generation.saturating_add(gap.div_ceil(SECOND));
+            self.amounts
+                .retain(|amount| now <= amount.0.saturating_add(10));
+            self.generation = now;
+            self.moment = at;
+        }
+    }
+
+    fn answer(&mut self, step: BudgetStep) -> Result<BudgetReply, AllocError> {
+        match step {
+            BudgetStep::Deposit(at) => {
+                self.advance(at);
+                self.amounts.push((self.generation, 1))?;
+                Ok(BudgetReply::Done)
+            }
+            BudgetStep::Withdraw(at) => {
+                self.advance(at);
+                let mut balance = 0i64;
+                for amount in &self.amounts {
+                    balance = balance.saturating_add(amount.1);
+                }
+                if balance >= 2 {
+                    self.amounts.push((self.generation, -2))?;
+                }
+                Ok(BudgetReply::Allowed(balance >= 2))
+            }
+        }
+    }
+}
+
+// The next moment: mostly within the window, at times up to thirteen windows later, at times earlier.
+fn moved(at: u64, draw: u64) -> u64 {
+    match draw % 32 {
+        0 => at.saturating_sub(SECOND),
+        1 | 2 | 3 | 4 => at.saturating_add(draw / 32 % (13 * SECOND)),
+        _ => at.saturating_add(draw / 32 % (SECOND / 2)),
+    }
+}
+
+#[test]
+fn a_hundred_thousand_steps_as_of_the_plain_list(rt: HostRuntime) -> Result<(), Fail> {
+    let mut core = BudgetCore::new(rt.alloc(), 10 * SECOND, 0, Fraction::new(1, 2), 0)?;
+    let mut plain = Plain {
+        generation: 0,
+        moment: 0,
+        amounts: Vec::new(rt.alloc()),
+    };
+    let (mut seed, mut at) = (1u64, 0u64);
+    let (mut made, mut refused) = (0u32, 0u32);
+    for turn in 0..100_000u32 {
+        seed = seed
+            .wrapping_mul(6364136223846793005)
+            .wrapping_add(1442695040888963407);
+        at = moved(at, seed / 65536);
+        let step = if seed / 4096 % 8 < 5 {
+            BudgetStep::Deposit(at)
+        } else {
+            BudgetStep::Withdraw(at)
+        };
+        let reply = core.step(step);
+        assert_eq!(rt; reply, plain.answer(step)?, "at {turn}: {step:?}");
+        made = made.saturating_add(u32::from(reply == BudgetReply::Allowed(true)));
+        refused = refused.saturating_add(u32::from(reply == BudgetReply::Allowed(false)));
+    }
+    assert!(rt; made > 5000 && refused > 5000, "{made} {refused}");
     Ok(())
 }

@@ -3,3 +3,4 @@ pub mod BudgetHistoryLemmas
 pub mod BudgetLemmas
 pub mod HedgeLemmas
 pub mod RetryLemmas
+pub mod SlotLemmas

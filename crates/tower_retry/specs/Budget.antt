@@ -1,5 +1,5 @@
 -- A budget as a plain list of the amounts of its generations.
-use Rattle.std.specs.Prelude.{◌≡◌, ◌<◌, ◌≤◌, ℕ, ◌+◌, ◌-◌, ◌*◌, ◌/◌, ◌^◌, nat_lt, nat_le, nat_eq, if◌then◌else◌, ◌&&◌, Bool, true, false, List, [], ◌∷◌, ℤ, pos, neg_ℤ, nat_abs, ◌+ℤ◌, int_le}
+use Rattle.std.specs.Prelude.{◌≡◌, ◌<◌, ◌≤◌, ℕ, ◌+◌, ◌-◌, ◌*◌, ◌/◌, ◌^◌, nat_lt, nat_le, nat_eq, if◌then◌else◌, ◌&&◌, Bool, List, [], ◌∷◌, ℤ, pos, neg_ℤ, nat_abs, ◌+ℤ◌, int_le}
 use Rattle.std.specs.Int.{div_ceil}
 use Rattle.tower_base.specs.declared.service.Fraction.{Fraction}
 use Rattle.tower_retry.specs.declared.retry.budget.steps.Amount.{Amount}
@@ -86,17 +86,3 @@ Steps old (Deposit moment) Done new = new ≡ added (advanced old moment) (pos o
 Steps old (Withdraw moment) (Allowed allowed) new = Withdraws (advanced old moment) allowed new
 -- no other reply is given
 Steps old _ _ new = ⊥
-
--- One amount for each generation that counts, the newest first: from this generation on, and below top.
-abbrev pub descends : ℕ → ℕ → List Amount → Bool
-descends generation top [] = true
-descends generation top (amount ∷ rest) = nat_lt amount.generation top && (nat_le generation (amount.generation + 10) && descends generation amount.generation rest)
-
--- the newest amount is of this generation
-abbrev pub begins_with : ℕ → List Amount → Bool
-begins_with generation [] = false
-begins_with generation (amount ∷ rest) = nat_eq amount.generation generation
-
--- an amount that isn't newer than this generation still counts in it
-abbrev pub still : ℕ → Amount → Bool
-still generation amount = nat_le (generation - amount.generation) 10

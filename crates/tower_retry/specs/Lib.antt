@@ -13,4 +13,5 @@ pub mod RetryAttempts
 pub mod RetryLends
 pub mod Select
 pub mod SelectReady
+pub mod Slots
 pub mod TpsBudget

@@ -3,8 +3,10 @@ ghost use Rattle.std.specs.Prelude.{Bool, ⊤};
 
 mod budget_core;
 mod laws;
+mod slots;
 mod steps;
 pub mod tps_budget;
+mod writes;
 
 pub use budget_core::BudgetCore;
 pub use laws::law;

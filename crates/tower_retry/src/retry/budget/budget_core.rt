@@ -1,31 +1,33 @@
 //! The core of a budget.
-ghost use Rattle.std.specs.Int.{w128, saturate_signed};
-ghost use Rattle.std.specs.Prelude.{◌≡◌, ◌≢◌, ◌+ℤ◌, filter, fold, ◌≤◌, ◌<◌, ◌+◌, ◌^◌, IfOk, IsTrue, vec_capacity, vec_len, ◌∷◌};
-ghost use Rattle.tower_retry.specs.Budget.{Fits, begins_with, descends, still, terms_of};
+ghost use Rattle.std.specs.Prelude.{◌≡◌, ◌≢◌, pos, ◌≤◌, ◌<◌, ◌-◌, ◌+◌, ◌^◌, IfOk, IsTrue};
+ghost use Rattle.std.specs.Int.{div_ceil};
+ghost use Rattle.tower_retry.specs.Budget.{Fits, terms_of};
+ghost use Rattle.tower_retry.specs.Slots.{kept_sum};
 
-use crate::retry::budget::steps::{Amount, BudgetReply, BudgetStep, Terms};
+use crate::retry::budget::slots::Slots;
+use crate::retry::budget::steps::{BudgetReply, BudgetStep, Terms};
 use std::alloc::{AllocError, Global};
 use tower_base::latch::Core;
 use tower_base::service::Fraction;
 
-/// The sums of the generations that count, at most eleven, the newest first.
+/// The amount of the present generation, and those of the ten before it.
 #[derive(Drop)]
 pub struct BudgetCore {
     terms: Terms,
-    generation: u64,
     moment: u64,
-    kept: Vec<Amount>,
+    present: i128,
+    // The reserve and the slots, as one sum.
+    older: i128,
+    slots: Slots,
     ghost windows: { terms.window ≢ 0 },
     ghost small: { terms.reserve < 2 ^ 127 },
-    ghost fits: { generation ≤ moment },
-    ghost counted: { IsTrue (descends generation (generation + 1) kept.items) },
-    ghost room: { 11 ≤ vec_capacity kept },
+    ghost summed: { older ≡ kept_sum (pos terms.reserve) slots.index slots.amounts.items 10 },
 }
 
 impl BudgetCore {
     ghost use Rattle.std.specs.Prelude.{int_le, pos, ◌↔◌};
     ghost use Rattle.tower_retry.specs.Budget.{Fits, Ledger, Withdraws, added, advanced, blank, terms_of};
-    ghost use Rattle.tower_retry.specs.BudgetCore.{Changes, Opens, StandsFor, kept_balance};
+    ghost use Rattle.tower_retry.specs.BudgetCore.{Changes, Opens, StandsFor, kept_balance, later, writes};
 
     /// A budget at the moment of its making, with room for all that it will keep, or an error where there
     /// is none. Times are in nanoseconds. It asks for what `fits` tests.
@@ -40,12 +42,14 @@ impl BudgetCore {
         ensures made { IfOk result (λ core. StandsFor core (blank (terms_of ttl min_per_sec fraction) moment)) }
         ensures opens { IfOk result Opens }
     {
-        let kept = Vec::with_capacity(alloc, 11)?;
+        let slots = Slots::new(alloc)?;
+        let terms = terms(ttl, min_per_sec, fraction);
         Ok(BudgetCore {
-            terms: terms(ttl, min_per_sec, fraction),
-            generation: 0,
+            terms,
             moment,
-            kept,
+            present: 0,
+            older: slots.sum(terms.reserve as i128),
+            slots,
         })
     }
 
@@ -60,54 +64,62 @@ impl BudgetCore {
             && fraction.numerator as u64 <= 1000 * fraction.divisor as u64
     }
 
+    #[inline(always)]
     fn advance(&mut self, moment: u64)
         ensures changes { Changes (λ ledger. advanced ledger moment) self.old self.new }
         ensures terms { self.new.terms ≡ self.old.terms }
+        ensures writes { writes self.new ≤ writes self.old + 11 }
     {
         let gap = moment.saturating_sub(self.moment);
-        if gap < self.terms.window {
-            return;
+        if gap >= self.terms.window {
+            self.expire(moment, gap);
         }
-        let generation = self.generation + gap.div_ceil(self.terms.window);
-        expire(&mut self.kept, generation);
-        self.generation = generation;
+    }
+
+    // An advance to another generation.
+    #[cold]
+    #[inline(never)]
+    fn expire(&mut self, moment: u64, gap: u64)
+        requires { self.old.terms.window ≤ gap }
+        ensures changes { Changes (λ ledger. later ledger (div_ceil gap self.old.terms.window) moment) self.old self.new }
+        ensures terms { self.new.terms ≡ self.old.terms }
+        ensures writes { writes self.new ≤ writes self.old + 11 }
+    {
+        let generations = gap.div_ceil(self.terms.window);
+        self.slots.advance(self.present, generations);
+        self.older = self.slots.sum(self.terms.reserve as i128);
+        self.present = 0;
         self.moment = moment;
     }
 
     #[inline(always)]
     fn add(&mut self, amount: i128)
         ensures changes { Changes (λ ledger. added ledger amount) self.old self.new }
+        ensures writes { writes self.new ≡ writes self.old }
     {
-        let generation = self.generation;
-        if starts_at(&self.kept, generation) {
-            let sum = self.kept[0].amount.saturating_add(amount);
-            self.kept[0].amount = sum;
-            return;
-        }
-        begin(&mut self.kept, Amount { generation, amount });
+        self.present = self.present.saturating_add(amount);
     }
 
-    fn balance(&self) -> i128
-        ensures { result ≡ kept_balance self.now }
-    {
-        sum_of(&self.kept, self.terms.reserve as i128)
-    }
-
+    #[inline(always)]
     fn affords(&self) -> bool
         ensures { result ≡ int_le (pos self.now.terms.withdrawal) (kept_balance self.now) }
     {
-        self.balance() >= self.terms.withdrawal as i128
+        self.older.saturating_add(self.present) >= self.terms.withdrawal as i128
     }
 
+    #[inline(always)]
     fn deposit(&mut self, moment: u64)
-        ensures { Changes (λ ledger. added (advanced ledger moment) (pos ledger.terms.deposit)) self.old self.new }
+        ensures changes { Changes (λ ledger. added (advanced ledger moment) (pos ledger.terms.deposit)) self.old self.new }
+        ensures writes { writes self.new ≤ writes self.old + 11 }
     {
         self.advance(moment);
         self.add(self.terms.deposit as i128);
     }
 
+    #[inline(always)]
     fn withdraw(&mut self, moment: u64) -> bool
-        ensures { (ledger : Ledger) → StandsFor self.old ledger → (next : Ledger) × Withdraws (advanced ledger moment) result next × StandsFor self.new next }
+        ensures withdraws { (ledger : Ledger) → StandsFor self.old ledger → (next : Ledger) × Withdraws (advanced ledger moment) result next × StandsFor self.new next }
+        ensures writes { writes self.new ≤ writes self.old + 11 }
     {
         self.advance(moment);
         if !self.affords() {
@@ -116,46 +128,6 @@ impl BudgetCore {
         self.add(-(self.terms.withdrawal as i128));
         true
     }
-}
-
-// The first amount of a new generation, for which there is room.
-#[cold]
-#[inline(never)]
-fn begin(kept: &mut Vec<Amount>, newest: Amount)
-    requires room { vec_len kept.old < vec_capacity kept.old }
-    ensures items { kept.new.items ≡ newest ∷ kept.old.items }
-    ensures capacity { vec_capacity kept.new ≡ vec_capacity kept.old }
-{
-    let Ok(()) = kept.insert(0, newest) else {
-        unreachable!();
-    };
-}
-
-// Only the amounts that still count in this generation stay.
-#[cold]
-#[inline(never)]
-fn expire(kept: &mut Vec<Amount>, generation: u64)
-    ensures filtered { kept.new.items ≡ filter (still generation) kept.old.items }
-    ensures capacity { vec_capacity kept.new ≡ vec_capacity kept.old }
-{
-    kept.retain(|amount| generation.saturating_sub(amount.generation) <= 10);
-}
-
-fn sum_of(kept: &[Amount], reserve: i128) -> i128
-    ensures { result ≡ fold (λ sum amount. saturate_signed w128 (sum +ℤ amount.amount)) reserve kept.now }
-{
-    let mut sum = reserve;
-    for amount in kept {
-        sum = sum.saturating_add(amount.amount);
-    }
-    sum
-}
-
-fn starts_at(kept: &[Amount], generation: u64) -> bool
-    ensures { result ≡ begins_with generation kept.now }
-{
-    kept.first()
-        .is_some_and(|newest| newest.generation == generation)
 }
 
 // The ranges keep the numbers small.
@@ -188,7 +160,7 @@ impl Core for BudgetCore {
     ghost use Rattle.std.specs.Prelude.{false};
     ghost use Rattle.tower_base.specs.Latch.{StepsAs};
     ghost use Rattle.tower_retry.specs.Budget.{Steps};
-    ghost use Rattle.tower_retry.specs.BudgetCore.{Opens, StandsFor};
+    ghost use Rattle.tower_retry.specs.BudgetCore.{Opens, StandsFor, writes};
 
     ghost opens = { Opens };
 
@@ -196,7 +168,11 @@ impl Core for BudgetCore {
 
     ghost is_wait = { λ _. false };
 
-    fn step(&mut self, step: BudgetStep) -> BudgetReply {
+    // It writes eleven slots at most.
+    fn step(&mut self, step: BudgetStep) -> BudgetReply
+        ensures steps { StepsAs StandsFor Steps self.old step result self.new }
+        ensures writes { writes self.new ≤ writes self.old + 11 }
+    {
         match step {
             BudgetStep::Deposit(moment) => {
                 self.deposit(moment);

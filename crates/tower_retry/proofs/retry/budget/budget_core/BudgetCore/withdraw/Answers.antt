@@ -8,13 +8,13 @@ use Rattle.tower_retry.specs.BudgetCore.{StandsFor}
 use Rattle.tower_retry.specs.declared.retry.budget.steps.Terms.{Terms}
 use Rattle.tower_retry.proofs.retry.budget.budget_core.BudgetCore.withdraw.Goals as goal
 
-pub returns-then-not-affords : goal.returns-then-not-affords
-returns-then-not-affords c = λ l s.
+pub returns-then-not-affords-clause-withdraws : goal.returns-then-not-affords-clause-withdraws
+returns-then-not-affords-clause-withdraws c = λ l s.
     let a = c.advance.ensures.changes l s in
     (_, record { made = affords _ _ a _ (sym c.if-not-affords.true ∙ c.affords.ensures); after = refl }, a)
 
-pub returns : goal.returns
-returns c = λ l s.
+pub returns-clause-withdraws : goal.returns-clause-withdraws
+returns-clause-withdraws c = λ l s.
     let a = c.advance.ensures.changes l s in
     let terms = a.terms in
     let amount : to_z w128 (of_z w128 (pos 0 -ℤ to_z w128 c.advance.new.self.terms.withdrawal)) ≡ neg_ℤ (pos c.advance.new.self.terms.withdrawal) = omega (arith, ints) in (
