@@ -384,7 +384,7 @@ fn a_hundred_thousand_steps_as_of_the_plain_list(rt: HostRuntime) -> Result<(), 
     };
     let (mut seed, mut at) = (1u64, 0u64);
     let (mut made, mut refused) = (0u32, 0u32);
-    for turn in 0..100_000u32 {
+    for number in 0..100_000u32 {
         seed = seed
             .wrapping_mul(6364136223846793005)
             .wrapping_add(1442695040888963407);
@@ -395,7 +395,7 @@ fn a_hundred_thousand_steps_as_of_the_plain_list(rt: HostRuntime) -> Result<(), 
             BudgetStep::Withdraw(at)
         };
         let reply = core.step(step);
-        assert_eq!(rt; reply, plain.answer(step)?, "at {turn}: {step:?}");
+        assert_eq!(rt; reply, plain.answer(step)?, "at {number}: {step:?}");
         made = made.saturating_add(u32::from(reply == BudgetReply::Allowed(true)));
         refused = refused.saturating_add(u32::from(reply == BudgetReply::Allowed(false)));
     }

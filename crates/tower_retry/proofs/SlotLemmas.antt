@@ -119,8 +119,8 @@ all_zero g i p xs slots e s low in_ring =
     (none_kept (g + 11) at.0 g xs _ e (omega arith) (s.each at.0 at.1 at.2))
 
 -- so it doesn't matter where the index stands
-pub turned : (g i j n : ℕ) (xs : List Amount) (slots : List ℤ) → Each (λ a. a.generation ≤ g) xs → Slotted (g + 11) xs i slots → i < 10 → j < 10 → 11 ≤ n → Slotted (g + n) xs j slots
-turned g i j n xs slots e s low within far = record {
+pub moved_past : (g i j n : ℕ) (xs : List Amount) (slots : List ℤ) → Each (λ a. a.generation ≤ g) xs → Slotted (g + 11) xs i slots → i < 10 → j < 10 → 11 ≤ n → Slotted (g + n) xs j slots
+moved_past g i j n xs slots e s low within far = record {
   none_later = each_later g (g + n) xs (omega arith) e;
   each = λ back some few.
       let zero_there = all_zero g i (place j back) xs slots e s low (place_low j back) in
@@ -151,7 +151,7 @@ moves_on n m rest present i j k a b (inl few) low is_rest is moves = λ g xs p s
     rw same (subst (λ (x : ℕ). Slotted (g + x) xs j b) count (moves g xs p s))
 moves_on n m rest present i j k a b (inr many) low is_rest is moves = λ g xs p s.
     let within : k < 10 = omega arith in
-    turned g j k n xs b s.none_later (subst (λ (x : ℕ). Slotted (g + x) xs j b) many.1 (moves g xs p s)) low within many.0
+    moved_past g j k n xs b s.none_later (subst (λ (x : ℕ). Slotted (g + x) xs j b) many.1 (moves g xs p s)) low within many.0
 
 pub kept_sum_more : (sum : ℤ) (i : ℕ) (slots : List ℤ) (n : ℕ) → kept_sum sum i slots (n + 1) ≡ saturate_signed w128 (kept_sum sum i slots n +ℤ slot i slots (n + 1))
 unfolding kept_sum

@@ -39,7 +39,7 @@ impl Slots {
         for past in 1..generations.min(11) {
             self.put(0);
         }
-        self.turn(generations.saturating_sub(11));
+        self.move_on(generations.saturating_sub(11));
     }
 
     /// The sum with all ten slots, the newest first.
@@ -60,11 +60,11 @@ impl Slots {
     {
         self.writes.tick();
         self.amounts[self.index] = amount;
-        self.turn(1);
+        self.move_on(1);
     }
 
     // Moves the index on, and writes no slot.
-    fn turn(&mut self, generations: u64)
+    fn move_on(&mut self, generations: u64)
         ensures index { self.new.index ≡ (self.old.index + generations % 10) % 10 }
         ensures amounts { self.new.amounts ≡ self.old.amounts }
         ensures writes { self.new.writes.count ≡ self.old.writes.count }

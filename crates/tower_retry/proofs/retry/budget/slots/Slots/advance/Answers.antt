@@ -20,10 +20,10 @@ returns-clause-moves c =
     let m = c.loop-past.past in
     let old = c.args.self.now in
     let slots = c.loop-past.self in
-    let new = c.turn.new.self in
+    let new = c.move_on.new.self in
     let moves : Moves m c.args.present old.index old.amounts.items slots.index slots.amounts.items =
     subst (λ (z : ℤ). Moves m z old.index old.amounts.items slots.index slots.amounts.items) present c.loop-past.invariant.moves in
     let ended : (n ≤ 11 × m ≡ n) ⊎ (11 ≤ n × m ≡ 11) =
     elim (leb_tells n 11) [ inl few ↦ inl (omega arith, omega arith) | inr many ↦ inr (omega arith, omega arith) ] in
-    rw (ap (λ v. v.items) c.turn.ensures.amounts)
-    (moves_on n m c.saturating_sub.result c.args.present old.index slots.index new.index old.amounts.items slots.amounts.items ended slots.within c.saturating_sub.ensures c.turn.ensures.index moves)
+    rw (ap (λ v. v.items) c.move_on.ensures.amounts)
+    (moves_on n m c.saturating_sub.result c.args.present old.index slots.index new.index old.amounts.items slots.amounts.items ended slots.within c.saturating_sub.ensures c.move_on.ensures.index moves)

@@ -9,4 +9,4 @@ pub returns-clause-moves : goal.returns-clause-moves
 returns-clause-moves c =
     let old = c.args.self.now in
     put_moves c.args.amount old.index _ old.amounts.items _ (omega arith) (omega arith) (omega arith)
-    (ap (λ v. v.items) c.turn.ensures.amounts ∙ ap (λ (z : ℤ). slice_set old.amounts.items old.index z) (to_z-of_z w128 c.args.amount c.ranges.amount))
+    (ap (λ v. v.items) c.move_on.ensures.amounts ∙ ap (λ (z : ℤ). slice_set old.amounts.items old.index z) (to_z-of_z w128 c.args.amount c.ranges.amount))
