@@ -1,4 +1,4 @@
-use Rattle.std.proofs.Common.{◌≡◌, ◌≤◌, ◌+◌, ◌-◌, true, false, None, is_some, ◌∙◌, inl, inr, refl, sym, ap, arith, length}
+use Rattle.std.proofs.Common.{◌≡◌, ◌≤◌, ◌+◌, ◌-◌, true, false, None, is_some, ◌∙◌, inr, refl, sym, ap, arith, length}
 use Rattle.slab.specs.Slab.{get, slab_len}
 use Rattle.tower_base.specs.Order.{has}
 use Rattle.tower_pool.proofs.KeysLemmas.{apart_is, length_without, without_lacks}

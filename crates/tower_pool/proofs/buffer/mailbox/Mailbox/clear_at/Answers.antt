@@ -1,4 +1,4 @@
-use Rattle.std.proofs.Common.{◌<◌, ◌≤◌, ◌-◌, ◌+◌, ◌∙◌, is_some, slice_set, refl, sym, ap, arith}
+use Rattle.std.proofs.Common.{◌≤◌, ◌-◌, ◌+◌, ◌∙◌, is_some, slice_set, refl, sym, ap, arith}
 use Rattle.tower_pool.specs.Letters.{queued_letters}
 use Rattle.tower_pool.specs.Mail.{Entry}
 use Rattle.tower_pool.specs.declared.buffer.letter.Fate.TheVariants.{Cancelled}
