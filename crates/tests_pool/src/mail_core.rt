@@ -41,6 +41,49 @@ fn place_is_reserved_used_and_waited_for(rt: HostRuntime) -> Result<(), Fail> {
     Ok(())
 }
 
+// Mail that answers `Memory` from some key on would be noticed here. Who waited longest leaves last.
+#[test]
+fn ten_thousand_wait_and_leave(rt: HostRuntime) -> Result<(), Fail> {
+    let mut mail = mail(rt, 1);
+    assert!(rt; matches!(mail.step(Step::Reserve), Reply::Place));
+    for key in 0..10_000u64 {
+        assert!(rt; matches!(mail.step(Step::Reserve), Reply::Waiting(fresh) if fresh == key));
+    }
+    for later in 0..10_000u64 {
+        let last = Step::Cancel(9_999 - later);
+        assert!(rt; matches!(mail.step(last), Reply::Done));
+    }
+    assert!(rt; matches!(mail.step(Step::Look(0)), Reply::Unknown));
+    assert!(rt; matches!(mail.step(Step::Unreserve), Reply::Done));
+    assert!(rt; matches!(mail.step(Step::Reserve), Reply::Place));
+    Ok(())
+}
+
+#[test]
+fn granted_place_is_its_waiters(rt: HostRuntime) -> Result<(), Fail> {
+    let mut mail = mail(rt, 1);
+    assert!(rt; matches!(mail.step(Step::Reserve), Reply::Place));
+    assert!(rt; matches!(mail.step(Step::Reserve), Reply::Waiting(0)));
+    assert!(rt; matches!(mail.step(Step::Reserve), Reply::Waiting(1)));
+    assert!(rt; matches!(mail.step(Step::Unreserve), Reply::Done));
+    // Who comes before the oldest has looked waits too.
+    assert!(rt; matches!(mail.step(Step::Reserve), Reply::Waiting(2)));
+    assert!(rt; matches!(mail.step(Step::Look(1)), Reply::Waiting(1)));
+    assert!(rt; matches!(mail.step(Step::Cancel(1)), Reply::Done));
+    assert!(rt; matches!(mail.step(Step::Look(0)), Reply::Place));
+    // The last key that was freed is given again.
+    assert!(rt; matches!(mail.step(Step::Reserve), Reply::Waiting(0)));
+    assert!(rt; matches!(mail.step(Step::Unreserve), Reply::Done));
+    assert!(rt; matches!(mail.step(Step::Look(0)), Reply::Waiting(0)));
+    assert!(rt; matches!(mail.step(Step::Look(2)), Reply::Place));
+    // A wait that is given up hands its place on.
+    assert!(rt; matches!(mail.step(Step::Reserve), Reply::Waiting(2)));
+    assert!(rt; matches!(mail.step(Step::Unreserve), Reply::Done));
+    assert!(rt; matches!(mail.step(Step::Cancel(0)), Reply::Done));
+    assert!(rt; matches!(mail.step(Step::Look(2)), Reply::Place));
+    Ok(())
+}
+
 #[test]
 fn failure_of_a_forgotten_message_is_stored(rt: HostRuntime) -> Result<(), Fail> {
     let mut mail = mail(rt, 1);

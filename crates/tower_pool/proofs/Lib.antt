@@ -1,6 +1,8 @@
 pub mod Abandoned
 pub mod AskLemmas
 pub mod CacheLemmas
+pub mod KeysLemmas
+pub mod LineMoves
 pub mod Lines
 pub mod Machine
 pub mod MailRuns
@@ -12,3 +14,4 @@ pub mod PlaceLemmas
 pub mod Positions
 pub mod Queues
 pub mod Replies
+pub mod Waiters

@@ -1,9 +1,10 @@
 -- What holds of each line that a mailbox stands for.
-use Rattle.std.proofs.Common.{◌≡◌, ◌≢◌, ℕ, ◌+◌, ◌-◌, ◌<◌, ◌≤◌, zero, suc, List, [], ◌∷◌, ◌++◌, length, Some, slice_get, slice_set, remove, All, refl, ap, ◌∙◌, arith}
-use Rattle.std.proofs.lemmas.Option.{slice_get_within, get_or_from_slice_get}
+use Rattle.std.proofs.Common.{◌≡◌, ℕ, false, ◌+◌, ◌-◌, ◌<◌, ◌≤◌, zero, suc, List, [], ◌∷◌, ◌++◌, length, Some, slice_get, slice_set, remove, refl, ap, ◌∙◌, arith}
+use Rattle.tower_base.specs.Order.{has}
 use Rattle.tower_limit.specs.Line.{Ticket, At, Lacks, keys_of}
 use Rattle.tower_limit.specs.LineCore.{holders, HoldersBelow, Stands}
 use Rattle.tower_pool.specs.Mail.{Leave, holding}
+use Rattle.tower_pool.proofs.KeysLemmas.{has_at, not_both}
 
 pub counted : (line : List Ticket) → length line ≡ holders line + length (keys_of line)
 counted [] = refl
@@ -83,11 +84,9 @@ key_at (Ticket.held ∷ line) (suc place) key at = key_at line place key at
 key_at (Ticket.waits other ∷ line) zero key at = (0, (cc))
 key_at (Ticket.waits other ∷ line) (suc place) key at = let r = key_at line place key at in (suc r.0, r.1)
 
-pub lacks : (line : List Ticket) (key : ℕ) → All (λ other. other ≢ key) (keys_of line) → Lacks line (Ticket.waits key)
+pub lacks : (line : List Ticket) (key : ℕ) → has (keys_of line) key ≡ false → Lacks line (Ticket.waits key)
 lacks line key none place at =
-    let r = key_at line place key at in
-    let here = none r.0 key (slice_get_within (keys_of line) r.0 key r.1) in
-    here (get_or_from_slice_get (keys_of line) r.0 key key r.1)
+    let r = key_at line place key at in not_both (has (keys_of line) key) (has_at (keys_of line) r.0 key r.1) none
 
 -- a holder that may leave
 pub record Leaves (max : ℕ) (line : List Ticket) : Type 0 where

@@ -1,14 +1,16 @@
 -- What a mailbox serves is the machine's.
-use Rattle.std.proofs.Common.{◌≡◌, List, [], ◌∷◌, refl, ◌+◌, ap, subst, sym}
+use Rattle.std.proofs.Common.{◌≡◌, List, [], ◌∷◌, ◌++◌, refl, ◌+◌, ap, subst, sym, arith}
 use Rattle.tower_base.specs.Latch.{FollowsMachine, StepsAs}
-use Rattle.tower_pool.specs.Letters.{queued_letters}
+use Rattle.tower_limit.specs.Waiters.{outside}
 use Rattle.tower_pool.specs.Mail.{Entry, Mail, MailSteps}
 use Rattle.tower_pool.specs.Mailbox.{Follows, StandsFor, plain_of, present}
 use Rattle.tower_pool.specs.declared.buffer.letter.Letter.{Letter}
 use Rattle.tower_pool.specs.declared.buffer.mail.MailStep.{MailStep}
 use Rattle.tower_pool.specs.declared.buffer.mail.MailReply.{MailReply}
 use Rattle.tower_pool.specs.declared.buffer.mailbox.Mailbox.{Mailbox}
+use Rattle.tower_pool.proofs.KeysLemmas.{apart_is}
 use Rattle.tower_pool.proofs.Lines.{some_line}
+use Rattle.tower_pool.proofs.Waiters.{outside_waits}
 
 module _ {Q F : Type 0} where
   abbrev entries : List (Letter Q F) → List (Entry Q F)
@@ -23,8 +25,9 @@ module _ {Q F E : Type 0} where
   -- some mail is what the box stands for
   pub some_mail : (box : Mailbox Q F E) → (mail : Mail Q F E) × StandsFor box mail
   some_mail box =
-      let line = some_line box.bound (box.reserved + queued_letters box.letters.items) box.keys.items box.fits in
-      (plain_of box (entries box.letters.items) line.0, (all_present box.letters.items, line.1, refl))
+      let keys = outside box.waiters ++ box.waiters.order in
+      let line = some_line box.bound (box.reserved + box.queued) keys (omega (arith, box.fits)) in
+      (plain_of box (entries box.letters.items) line.0, (all_present box.letters.items, (outside box.waiters, outside_waits box.waiters (apart_is box.waiters.order box.apart) box.present, box.count, line.1), refl))
 
   pub follows : (old new : Mailbox Q F E) (step : MailStep Q F E) (reply : MailReply Q F E) → Follows old step reply new
       → FollowsMachine StandsFor MailSteps old step reply new

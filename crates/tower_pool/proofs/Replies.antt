@@ -1,6 +1,8 @@
 -- What a closed mail tells.
-use Rattle.std.proofs.Common.{◌≡◌, ◌≢◌, ◌<◌, ◌-◌, ℕ, true, false, is_some, slice_set, ap, sym, Option, Some, None, remove, refl}
-use Rattle.tower_limit.specs.Line.{Ticket, At as TicketAt}
+use Rattle.std.proofs.Common.{◌≡◌, ◌≢◌, ◌<◌, ◌-◌, ℕ, true, false, is_some, slice_set, ap, sym, Option, Some, None, List, refl}
+use Rattle.tower_limit.specs.Line.{Ticket, Steps}
+use Rattle.tower_limit.specs.declared.limit.concurrency.line_core.LineStep.TheVariants.{Release}
+use Rattle.tower_limit.specs.declared.limit.concurrency.line_core.LineReply.TheVariants.{Left}
 use Rattle.tower_pool.specs.Mail.{At, Entry, Mail, MailSteps, Tells}
 use Rattle.tower_pool.specs.declared.buffer.mail.MailStep.TheVariants.{Outcome, Send}
 use Rattle.tower_pool.specs.declared.buffer.letter.Fate.TheVariants.{Failed as HasFailed}
@@ -23,13 +25,13 @@ module _ {Q F E : Type 0} where
   told _ _ t = absurd t
 
   -- where the worker is gone, a place is used up as the mail tells
-  pub refused : (mail : Mail Q F E) (request : Q) (reply : MailReply Q F E) (place : ℕ) → 0 < mail.reserved → mail.has_worker ≡ false → Tells mail.stored reply
-      → reply ≢ Memory → TicketAt mail.line place Ticket.held
-      → MailSteps mail (Send request) reply (record mail { line = remove mail.line place; reserved = mail.reserved - 1 })
-  refused mail request (Failed e) place some gone t not at = (some, gone, t, (place, at, refl), refl)
-  refused mail request Closed place some gone t not at = (some, gone, t, (place, at, refl), refl)
-  refused mail request Memory place some gone t not at = absurd (not refl)
-  refused mail request reply place some gone t not at = absurd (told mail.stored reply t)
+  pub refused : (mail : Mail Q F E) (request : Q) (reply : MailReply Q F E) (next : List Ticket) → 0 < mail.reserved → mail.has_worker ≡ false → Tells mail.stored reply
+      → reply ≢ Memory → Steps mail.bound mail.line Release Left next
+      → MailSteps mail (Send request) reply (record mail { line = next; reserved = mail.reserved - 1 })
+  refused mail request (Failed e) next some gone t not leaves = (some, gone, t, leaves, refl)
+  refused mail request Closed next some gone t not leaves = (some, gone, t, leaves, refl)
+  refused mail request Memory next some gone t not leaves = absurd (not refl)
+  refused mail request reply next some gone t not leaves = absurd (told mail.stored reply t)
 
   told_is : (mail : Mail Q F E) (stored : Option E) (e : E) → Tells {Q = Q} {F = F} stored (Failed e) → stored ≡ Some e
   told_is mail None e t = absurd t

@@ -9,5 +9,6 @@ pub mod Making
 pub mod ReadyCache
 pub mod ReadyCacheLends
 pub mod ReadyCachePoll
+pub mod Waiting
 pub mod Worker
 pub mod WorkerOrder

@@ -1,11 +1,12 @@
 -- Which plain mails a `Mailbox` stands for.
-use Rattle.std.specs.Prelude.{◌≡◌, ◌<◌, ◌+◌, ◌^◌, ℕ, List, [], ◌∷◌, vec_len, vec_capacity}
+use Rattle.std.specs.Prelude.{◌≡◌, ◌<◌, ◌≤◌, ◌+◌, ◌*◌, ◌^◌, ℕ, List, [], ◌∷◌, vec_len, vec_capacity}
+use Rattle.slab.specs.Slab.{slab_len}
 use Rattle.tower_limit.specs.Line.{Ticket}
-use Rattle.tower_limit.specs.LineCore.{Stands}
+use Rattle.tower_limit.specs.LineCore.{StandsAt}
 use Rattle.tower_pool.specs.Mail.{Entry, Mail, MailSteps, blank}
-use Rattle.tower_pool.specs.Letters.{queued_letters}
 use Rattle.tower_pool.specs.declared.buffer.letter.Letter.{Letter}
 use Rattle.tower_pool.specs.declared.buffer.mail.MailStep.{MailStep}
+use Rattle.tower_pool.specs.declared.buffer.mail.MailStep.TheVariants.{Reserve, Look, Cancel, Unreserve, Take}
 use Rattle.tower_pool.specs.declared.buffer.mail.MailReply.{MailReply}
 use Rattle.tower_pool.specs.declared.buffer.mailbox.Mailbox.{Mailbox}
 
@@ -17,6 +18,23 @@ module _ {Q F : Type 0} where
   present (Entry.gone fate ∷ rest) = present rest
 
 module _ {Q F E : Type 0} where
+  -- how many entries of those who wait were reached so far
+  abbrev pub touches : Mailbox Q F E → ℕ
+  touches box = box.waiters.touches
+
+  -- six at most for each message that left the queue
+  abbrev pub FewEach : Mailbox Q F E → Mailbox Q F E → Type 0
+  FewEach old new = touches new + 6 * new.queued ≤ touches old + 6 * old.queued
+
+  -- A step for a place reaches at most six of them, and `Take` at most six for each message that leaves the queue.
+  abbrev pub Few : Mailbox Q F E → MailStep Q F E → Mailbox Q F E → Type 0
+  Few old Reserve new = touches new ≤ touches old + 6
+  Few old (Look key) new = touches new ≤ touches old + 6
+  Few old (Cancel key) new = touches new ≤ touches old + 6
+  Few old Unreserve new = touches new ≤ touches old + 6
+  Few old Take new = FewEach old new
+  Few old _ new = Unit {0}
+
   -- the mail with these messages and this line
   abbrev pub plain_of : Mailbox Q F E → List (Entry Q F) → List Ticket → Mail Q F E
   plain_of box messages line = record {
@@ -32,7 +50,7 @@ module _ {Q F E : Type 0} where
 
   -- the line has the same who wait, and holds the reserved places and the queued messages
   abbrev pub HasLine : Mailbox Q F E → List Ticket → Type 0
-  HasLine box line = Stands box.bound (box.reserved + queued_letters box.letters.items) box.keys.items line
+  HasLine box line = StandsAt box.bound (box.reserved + box.queued) box.granted box.waiters line
 
   -- the same messages have their ids, and all else is as in the box
   abbrev pub StandsFor : Mailbox Q F E → Mail Q F E → Type 0
@@ -54,7 +72,8 @@ module _ {Q F E : Type 0} where
       → (left : List (Entry Q F)) × (goes : List Ticket) × MailSteps (plain_of old messages line) step reply (plain_of new left goes)
       × (present left ≡ new.letters.items) × HasLine new goes
 
-  -- a further place may be asked for: it has an id and a key, and room for its message and its key
+  -- a further place may be asked for: it has an id, and room for its message and its key
   abbrev pub HasRoom : Mailbox Q F E → Type 0
-  HasRoom box = (box.next_id + box.reserved + vec_len box.keys + 1 < 2 ^ 64) × (box.next_key + 1 < 2 ^ 64)
-      × (vec_len box.letters + box.reserved + vec_len box.keys < vec_capacity box.letters) × (vec_len box.keys < vec_capacity box.keys)
+  HasRoom box = (box.next_id + box.reserved + slab_len box.waiters.entries + 1 < 2 ^ 64)
+      × (vec_len box.letters + box.reserved + slab_len box.waiters.entries < vec_capacity box.letters)
+      × (slab_len box.waiters.entries < box.waiters.entries.capacity)

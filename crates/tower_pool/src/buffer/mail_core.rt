@@ -58,7 +58,7 @@ impl<Request: Drop, F: Drop, E: Clone> Core for MailCore<Request, F, E> {
     ghost use Rattle.tower_base.specs.Latch.{StepsAs};
     ghost use Rattle.tower_pool.specs.Mail.{MailSteps, is_waiting};
     ghost use Rattle.std.specs.Prelude.{false};
-    ghost use Rattle.tower_pool.specs.Mailbox.{HasRoom, Opens, StandsFor};
+    ghost use Rattle.tower_pool.specs.Mailbox.{Few, HasRoom, Opens, StandsFor};
 
     ghost opens = { Opens };
 
@@ -66,10 +66,13 @@ impl<Request: Drop, F: Drop, E: Clone> Core for MailCore<Request, F, E> {
 
     ghost is_wait = { is_waiting };
 
-    /// Open mail answers `Memory` to `Reserve` only where the ids or the keys are used up, or room was missing.
+    /// Open mail answers `Memory` to `Reserve` only where the ids are used up, or room was missing. `Reserve`,
+    /// `Look`, `Cancel` and `Unreserve` reach at most six entries of those who wait, and `Take` at most six
+    /// for each message that leaves the queue.
     fn step(&mut self, step: MailStep<Request, F, E>) -> MailReply<Request, F, E>
         ensures steps { StepsAs StandsFor MailSteps self.old step result self.new }
         ensures excused { step ≡ MailStep.Reserve → result ≡ MailReply.Memory → self.old.closed ≡ false → ¬ (HasRoom self.old) }
+        ensures touches { Few self.old step self.new }
     {
         match step {
             MailStep::Join => self.mail.join(),

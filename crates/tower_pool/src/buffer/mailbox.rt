@@ -1,49 +1,63 @@
 //! Mail: the messages on their way to a worker, and the line for places.
-ghost use Rattle.std.specs.Prelude.{◌≡◌, ◌≢◌, ◌⊎◌, ◌<◌, ◌≤◌, ◌+◌, ◌^◌, All, IfSome, IfNone, position, remove, unwrap_or, slice_get, slice_set, Some, None, true, filter, map, vec_len, vec_capacity, count_by, is_some, length};
+ghost use Rattle.std.specs.Prelude.{◌≡◌, ◌<◌, ◌≤◌, ◌+◌, ◌^◌, All, position, remove, unwrap_or, slice_get, slice_set, Some, None, true, filter, map, vec_len, vec_capacity, is_some, length};
+ghost use Rattle.slab.specs.Slab.{slab_len};
+ghost use Rattle.tower_limit.specs.Waiters.{IsPresent, outside};
 ghost use Rattle.tower_pool.specs.Letters.{Finishes, Fits, is_cancelled, is_failed, is_kept, is_known, is_open, lost, is_taken, queued_letters};
 ghost use Rattle.tower_pool.specs.Mail.{Tells};
+ghost use Rattle.tower_pool.specs.Waiting.{Admits, are_apart};
 ghost use Rattle.tower_pool.specs.declared.buffer.letter.Letter.{Letter};
 
 use crate::buffer::letter::{Fate, Letter};
 use crate::buffer::mail::{MailReply, MailStep};
 use std::alloc::{AllocError, Global};
+use tower_base::links::Links;
 
-/// The messages that have their ids, in the order of sending, and the keys that wait for places, in the
-/// order of asking.
+/// The messages that have their ids, in the order of sending, and those who wait for places.
 ///
-/// Each reserved place and each key has room for its message, and an id.
+/// Who has no place is linked in the order of asking. Who was granted one, and hasn't seen it, stands
+/// outside the order. Each reserved place and each waiter has room for its message, and an id.
 #[derive(Drop)]
 pub(crate) struct Mailbox<Request, F, E> {
+    alloc: Global,
     bound: usize,
     reserved: usize,
-    keys: Vec<u64>,
-    next_key: u64,
+    queued: usize,
+    granted: usize,
+    waiters: Links<()>,
     letters: Vec<Letter<Request, F>>,
     next_id: u64,
     buffers: u64,
     stored: Option<E>,
     closed: bool,
     has_worker: bool,
-    ghost fits: { reserved + queued_letters letters.items ≤ bound },
-    ghost room: { vec_len letters + reserved + vec_len keys ≤ vec_capacity letters },
-    ghost numbers: { next_id + reserved + vec_len keys < 2 ^ 64 },
-    ghost given: { All (λ key. key < next_key) keys.items },
+    ghost fits: { reserved + queued + granted ≤ bound },
+    // Nobody waits in the order while a place is free.
+    ghost full: { 0 < length waiters.order → reserved + queued + granted ≡ bound },
+    ghost apart: { are_apart waiters.order ≡ true },
+    ghost present: { IsPresent waiters },
+    ghost count: { length (outside waiters) ≡ granted },
+    ghost places: { slab_len waiters.entries ≡ granted + length waiters.order },
+    ghost held: { queued ≡ queued_letters letters.items },
+    ghost room: { vec_len letters + reserved + slab_len waiters.entries ≤ vec_capacity letters },
+    ghost numbers: { next_id + reserved + slab_len waiters.entries < 2 ^ 64 },
     ghost sent: { All (Fits next_id stored) letters.items },
 }
 
 impl<Request, F, E> Mailbox<Request, F, E> {
     ghost use Rattle.std.specs.Prelude.{false};
     ghost use Rattle.tower_pool.specs.Mail.{blank};
-    ghost use Rattle.tower_pool.specs.Mailbox.{Follows, StandsFor};
+    ghost use Rattle.tower_pool.specs.Mailbox.{Follows, StandsFor, touches};
 
     pub(crate) fn new(alloc: Global, bound: usize) -> Mailbox<Request, F, E>
         ensures { StandsFor result (blank bound) }
     {
         Mailbox {
+            alloc,
             bound,
             reserved: 0,
-            keys: Vec::new(alloc),
-            next_key: 0,
+            queued: 0,
+            granted: 0,
+            waiters: Links::new(alloc),
             letters: Vec::new(alloc),
             next_id: 0,
             buffers: 1,
@@ -75,75 +89,80 @@ impl<Request, F, E> Mailbox<Request, F, E> {
 
     // How many places are free.
     fn free(&self) -> usize
-        ensures { result + (self.now.reserved + queued_letters self.now.letters.items) ≡ self.now.bound }
+        ensures { result + (self.now.reserved + self.now.queued + self.now.granted) ≡ self.now.bound }
     {
-        self.bound - self.reserved - count_queued(&self.letters)
+        self.bound - (self.reserved + self.queued + self.granted)
     }
 
     pub(crate) fn cancel(&mut self, key: u64) -> MailReply<Request, F, E>
-        ensures { Follows self.old (MailStep.Cancel key) result self.new }
+        ensures follows { Follows self.old (MailStep.Cancel key) result self.new }
+        ensures touches { touches self.new ≤ touches self.old + 6 }
     {
         if self.closed {
             return MailReply::Done;
         }
-        let Some(place) = place_of(&self.keys, key) else {
+        let waiting = self.waiters.len();
+        let Some(()) = self.waiters.remove(key as usize) else {
             return MailReply::Unknown;
         };
-        self.keys.remove(place);
+        if self.waiters.len() < waiting {
+            return MailReply::Done;
+        }
+        self.granted -= 1;
+        admit(&mut self.waiters, &mut self.granted);
         MailReply::Done
     }
 
     pub(crate) fn unreserve(&mut self) -> MailReply<Request, F, E>
-        ensures { Follows self.old MailStep.Unreserve result self.new }
+        ensures follows { Follows self.old MailStep.Unreserve result self.new }
+        ensures touches { touches self.new ≤ touches self.old + 6 }
     {
         if self.reserved == 0 {
             return MailReply::Unknown;
         }
         self.reserved -= 1;
+        admit(&mut self.waiters, &mut self.granted);
         MailReply::Done
     }
 
-    // A further key, where no place is free. There is room for its message, and an id.
+    // Waits, where no place is free. There is room for its message, and an id.
     fn queue_up(&mut self) -> MailReply<Request, F, E>
         requires closed { self.old.closed ≡ false }
-        requires full { self.old.bound ≤ self.old.reserved + queued_letters self.old.letters.items + vec_len self.old.keys }
-        requires room { vec_len self.old.letters + self.old.reserved + vec_len self.old.keys < vec_capacity self.old.letters }
-        requires number { self.old.next_id + self.old.reserved + vec_len self.old.keys + 1 < 2 ^ 64 }
+        requires full { self.old.bound ≤ self.old.reserved + self.old.queued + self.old.granted }
+        requires room { vec_len self.old.letters + self.old.reserved + slab_len self.old.waiters.entries < vec_capacity self.old.letters }
+        requires number { self.old.next_id + self.old.reserved + slab_len self.old.waiters.entries + 1 < 2 ^ 64 }
         ensures follows { Follows self.old MailStep.Reserve result self.new }
-        ensures excused { result ≡ MailReply.Memory → (2 ^ 64 ≤ self.old.next_key + 1) ⊎ (vec_capacity self.old.keys ≤ vec_len self.old.keys) }
+        ensures excused { result ≡ MailReply.Memory → self.old.waiters.entries.capacity ≤ slab_len self.old.waiters.entries }
+        ensures touches { touches self.new ≤ touches self.old + 6 }
     {
-        let key = self.next_key;
-        if key == u64::MAX {
-            return MailReply::Memory;
-        }
-        let Ok(()) = self.keys.push(key) else {
+        let Ok(()) = self.waiters.reserve(1) else {
             return MailReply::Memory;
         };
-        self.next_key += 1;
-        MailReply::Waiting(key)
+        MailReply::Waiting(self.waiters.push_back(()) as u64)
     }
 }
 
 impl<Request: Drop, F, E: Clone> Mailbox<Request, F, E> {
     ghost use Rattle.std.specs.Prelude.{false};
-    ghost use Rattle.tower_pool.specs.Mailbox.{Follows, HasRoom};
+    ghost use Rattle.tower_pool.specs.Mailbox.{Follows, HasRoom, touches};
 
     pub(crate) fn reserve(&mut self) -> MailReply<Request, F, E>
         requires { (x y : E) → E.is_clone x y → y ≡ x }
         ensures follows { Follows self.old MailStep.Reserve result self.new }
         ensures excused { result ≡ MailReply.Memory → self.old.closed ≡ false → ¬ (HasRoom self.old) }
+        ensures touches { touches self.new ≤ touches self.old + 6 }
     {
         if self.closed {
             return shut(&self.stored);
         }
-        let promised = self.reserved + self.keys.len();
+        let promised = self.reserved + self.granted + self.waiters.len();
         if u64::MAX - self.next_id <= promised as u64 {
             return MailReply::Memory;
         }
         let Ok(()) = self.letters.reserve(promised + 1) else {
             return MailReply::Memory;
         };
-        if self.keys.len() < self.free() {
+        if 0 < self.free() {
             self.reserved += 1;
             return MailReply::Place;
         }
@@ -152,18 +171,19 @@ impl<Request: Drop, F, E: Clone> Mailbox<Request, F, E> {
 
     pub(crate) fn look(&mut self, key: u64) -> MailReply<Request, F, E>
         requires { (x y : E) → E.is_clone x y → y ≡ x }
-        ensures { Follows self.old (MailStep.Look key) result self.new }
+        ensures follows { Follows self.old (MailStep.Look key) result self.new }
+        ensures touches { touches self.new ≤ touches self.old + 6 }
     {
         if self.closed {
             return shut(&self.stored);
         }
-        let Some(place) = place_of(&self.keys, key) else {
-            return MailReply::Unknown;
-        };
-        if self.free() <= place {
+        if self.waiters.is_linked(key as usize) {
             return MailReply::Waiting(key);
         }
-        self.keys.remove(place);
+        let Some(()) = self.waiters.remove(key as usize) else {
+            return MailReply::Unknown;
+        };
+        self.granted -= 1;
         self.reserved += 1;
         MailReply::Place
     }
@@ -186,6 +206,7 @@ impl<Request: Drop, F, E: Clone> Mailbox<Request, F, E> {
         });
         self.next_id += 1;
         self.reserved -= 1;
+        self.queued += 1;
         MailReply::Sent(id)
     }
 
@@ -200,6 +221,7 @@ impl<Request: Drop, F, E: Clone> Mailbox<Request, F, E> {
             MailReply::Memory => MailReply::Memory,
             reply => {
                 self.reserved -= 1;
+                admit(&mut self.waiters, &mut self.granted);
                 reply
             }
         }
@@ -209,10 +231,11 @@ impl<Request: Drop, F, E: Clone> Mailbox<Request, F, E> {
 impl<Request: Drop, F: Drop, E: Drop> Mailbox<Request, F, E> {
     ghost use Rattle.std.specs.Prelude.{ℕ, nat_eq, ◌&&◌, ◌||◌};
     ghost use Rattle.tower_pool.specs.Mail.{ClearsOldest, TakesOldest};
-    ghost use Rattle.tower_pool.specs.Mailbox.{Changes, Follows};
+    ghost use Rattle.tower_pool.specs.Mailbox.{Changes, FewEach, Follows};
 
     pub(crate) fn take(&mut self) -> MailReply<Request, F, E>
-        ensures { Follows self.old MailStep.Take result self.new }
+        ensures follows { Follows self.old MailStep.Take result self.new }
+        ensures few { FewEach self.old self.new }
     {
         let mut cleared = false;
         'clearing: while let Some(place) = oldest(&self.letters) {
@@ -244,17 +267,23 @@ impl<Request: Drop, F: Drop, E: Drop> Mailbox<Request, F, E> {
         requires cancelled { (letter : Letter Request F) → slice_get self.old.letters.items place ≡ Some letter → letter.fate ≡ Fate.Cancelled }
         ensures clears { Changes ClearsOldest self.old self.new }
         ensures fewer { vec_len self.new.letters + 1 ≡ vec_len self.old.letters }
+        ensures few { FewEach self.old self.new }
     {
         strike(&mut self.letters, place);
+        self.queued -= 1;
+        admit(&mut self.waiters, &mut self.granted);
     }
 
     // The oldest queued message, which somebody waits for.
     fn take_at(&mut self, place: usize) -> MailReply<Request, F, E>
         requires oldest { position (λ letter. is_some letter.request) self.old.letters.items ≡ Some place }
         requires open { (letter : Letter Request F) → slice_get self.old.letters.items place ≡ Some letter → letter.fate ≡ Fate.Open }
-        ensures { (id : ℕ) × (request : Request) × (result ≡ MailReply.Message id request) × Changes (λ old new. TakesOldest old id request new) self.old self.new }
+        ensures takes { (id : ℕ) × (request : Request) × (result ≡ MailReply.Message id request) × Changes (λ old new. TakesOldest old id request new) self.old self.new }
+        ensures few { FewEach self.old self.new }
     {
         let (id, request) = open_letter(&mut self.letters, place);
+        self.queued -= 1;
+        admit(&mut self.waiters, &mut self.granted);
         MailReply::Message(id, request)
     }
 
@@ -306,7 +335,8 @@ impl<Request: Drop, F: Drop, E: Drop> Mailbox<Request, F, E> {
             return MailReply::Unknown;
         };
         finish(&mut self.letters, place, Fate::Failed);
-        self.keys.clear();
+        self.waiters = Links::new(self.alloc);
+        self.granted = 0;
         self.closed = true;
         keep_first(&mut self.stored, error);
         MailReply::Done
@@ -329,7 +359,9 @@ impl<Request: Drop, F: Drop, E: Drop> Mailbox<Request, F, E> {
         ensures { Follows self.old MailStep.WorkerGone result self.new }
     {
         abandon(&mut self.letters);
-        self.keys.clear();
+        self.queued = 0;
+        self.waiters = Links::new(self.alloc);
+        self.granted = 0;
         self.closed = true;
         self.has_worker = false;
         MailReply::Done
@@ -390,21 +422,16 @@ fn shut<Request, F, E: Clone>(stored: &Option<E>) -> MailReply<Request, F, E>
     }
 }
 
-fn count_queued<Request, F>(letters: &[Letter<Request, F>]) -> usize
-    ensures { result ≡ queued_letters letters.now }
+// A place is free: it is granted to the first in the order, if there is one.
+fn admit(waiters: &mut Links<()>, granted: &mut usize)
+    requires { granted.old + 1 < 2 ^ 64 }
+    ensures admits { Admits granted.old waiters.old granted.new waiters.new }
+    ensures touches { waiters.new.touches ≤ waiters.old.touches + 3 }
 {
-    letters
-        .iter()
-        .filter(|letter| letter.request.is_some())
-        .count()
-}
-
-fn place_of(keys: &[u64], key: u64) -> Option<usize>
-    ensures found { IfSome result (λ place. slice_get keys.now place ≡ Some key) }
-    ensures within { IfSome result (λ place. place < length keys.now) }
-    ensures missing { IfNone result (All (λ other. other ≢ key) keys.now) }
-{
-    keys.iter().position(|other| *other == key)
+    if let Some(first) = waiters.front() {
+        waiters.unlink(first);
+        *granted += 1;
+    }
 }
 
 // The message of this id, which was taken, and has no outcome or isn't waited for.

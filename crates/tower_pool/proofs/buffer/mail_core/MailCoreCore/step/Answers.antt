@@ -11,19 +11,19 @@ pub returns-in-Reserve-clause-steps : goal.returns-in-Reserve-clause-steps
 returns-in-Reserve-clause-steps g c = served c.self.inside.mail c.args.self.now c.reserve.new.self c.args.step _ c.reserve.result c.self.view_is c.in-Reserve.is c.reserve.ensures.follows
 
 pub returns-in-Look-clause-steps : goal.returns-in-Look-clause-steps
-returns-in-Look-clause-steps g c = served c.self.inside.mail c.args.self.now c.look.new.self c.args.step _ c.look.result c.self.view_is c.in-Look.is c.look.ensures
+returns-in-Look-clause-steps g c = served c.self.inside.mail c.args.self.now c.look.new.self c.args.step _ c.look.result c.self.view_is c.in-Look.is c.look.ensures.follows
 
 pub returns-in-Cancel-clause-steps : goal.returns-in-Cancel-clause-steps
-returns-in-Cancel-clause-steps g c = served c.self.inside.mail c.args.self.now c.cancel.new.self c.args.step _ c.cancel.result c.self.view_is c.in-Cancel.is c.cancel.ensures
+returns-in-Cancel-clause-steps g c = served c.self.inside.mail c.args.self.now c.cancel.new.self c.args.step _ c.cancel.result c.self.view_is c.in-Cancel.is c.cancel.ensures.follows
 
 pub returns-in-Unreserve-clause-steps : goal.returns-in-Unreserve-clause-steps
-returns-in-Unreserve-clause-steps g c = served c.self.inside.mail c.args.self.now c.unreserve.new.self c.args.step _ c.unreserve.result c.self.view_is c.in-Unreserve.is c.unreserve.ensures
+returns-in-Unreserve-clause-steps g c = served c.self.inside.mail c.args.self.now c.unreserve.new.self c.args.step _ c.unreserve.result c.self.view_is c.in-Unreserve.is c.unreserve.ensures.follows
 
 pub returns-in-Send-clause-steps : goal.returns-in-Send-clause-steps
 returns-in-Send-clause-steps g c = served c.self.inside.mail c.args.self.now c.send.new.self c.args.step _ c.send.result c.self.view_is c.in-Send.is c.send.ensures
 
 pub returns-in-Take-clause-steps : goal.returns-in-Take-clause-steps
-returns-in-Take-clause-steps g c = served c.self.inside.mail c.args.self.now c.take.new.self c.args.step _ c.take.result c.self.view_is c.in-Take.is c.take.ensures
+returns-in-Take-clause-steps g c = served c.self.inside.mail c.args.self.now c.take.new.self c.args.step _ c.take.result c.self.view_is c.in-Take.is c.take.ensures.follows
 
 pub returns-in-Live-clause-steps : goal.returns-in-Live-clause-steps
 returns-in-Live-clause-steps g c = served c.self.inside.mail c.args.self.now c.live.new.self c.args.step _ c.live.result c.self.view_is c.in-Live.is c.live.ensures

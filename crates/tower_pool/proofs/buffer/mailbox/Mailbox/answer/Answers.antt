@@ -29,7 +29,7 @@ returns-then-is_open_at g c = λ messages line p s.
       line,
       (t.spot, t.letter, (t.at, w.0, w.1), open_is t.letter.fate o, refl),
       t.changes now ∙ sym news,
-      (omega (arith, s.0, well.queued, ap queued_letters news), s.1, s.2),
+      s,
     )
 
 pub invariant_of-self : goal.invariant_of-self
@@ -42,10 +42,15 @@ invariant_of-self g c =
     let news = c.settle.ensures.items a.0 a.1 in
     let well = changed old.next_id old.stored old.letters.items c.in-Some.place a.0 now a.1 old.sent refl
     ((holds_at (Fits old.next_id old.stored) old.letters.items c.in-Some.place a.0 old.sent a.1).0, (λ failed. absurd (cc)), (λ settled. w.1)) in record {
-      fits = omega (arith, old.fits, well.queued, ap queued_letters news);
+      fits = old.fits;
+      full = old.full;
+      apart = old.apart;
+      present = old.present;
+      count = old.count;
+      places = old.places;
+      held = omega (arith, old.held, well.queued, ap queued_letters news);
       room = omega (arith, old.room, c.settle.ensures.len, c.settle.ensures.capacity);
       numbers = old.numbers;
-      given = old.given;
       sent = rw news well.fit;
     }
 
@@ -54,11 +59,17 @@ invariant_of-self-2 g c =
     let old = c.args.self.now in
     let e : position (is_taken c.args.id) old.letters.items ≡ Some c.in-Some.place = cc (c.in-Some.ensures, c.deref.ensures.value) in
     let a = at_position (is_taken c.args.id) old.letters.items c.in-Some.place e in
+    let w = taken_tells c.args.id a.0 a.2 in
     let less = fewer old.next_id old.stored old.letters.items c.in-Some.place a.0 a.1 old.sent in record {
-      fits = omega (arith, old.fits, less.queued, ap queued_letters c.strike.ensures.items);
+      fits = old.fits;
+      full = old.full;
+      apart = old.apart;
+      present = old.present;
+      count = old.count;
+      places = old.places;
+      held = omega (arith, old.held, less.queued, ap one_queued w.1, ap queued_letters c.strike.ensures.items);
       room = omega (arith, old.room, c.strike.ensures.len, c.strike.ensures.capacity);
       numbers = old.numbers;
-      given = old.given;
       sent = rw c.strike.ensures.items less.fit;
     }
 
@@ -74,5 +85,5 @@ returns g c = λ messages line p s.
       line,
       (t.spot, t.letter, (t.at, w.0, w.1), closed_now t.letter.fate w.2 o, refl, refl),
       t.leaves Cancelled ∙ sym c.strike.ensures.items,
-      (omega (arith, s.0, less.queued, ap one_queued w.1, ap queued_letters c.strike.ensures.items), s.1, s.2),
+      s,
     )

@@ -1,6 +1,7 @@
-use Rattle.std.proofs.Common.{is_some, ◌≡◌, ◌∙◌, None, Some, position, refl, sym, ap, arith}
+use Rattle.std.proofs.Common.{is_some, length, ◌≡◌, ◌+◌, None, Some, position, refl, ap, arith}
 use Rattle.tower_pool.specs.Letters.{is_taken}
 use Rattle.tower_pool.specs.Mail.{IsTaken, holding}
+use Rattle.tower_pool.proofs.LineMoves.{kept_apart, kept_count, kept_present, nobody_waits, stands_alone}
 use Rattle.tower_pool.proofs.Lines.{closes}
 use Rattle.tower_pool.proofs.Moves.{finished, not_there, stays_well}
 use Rattle.tower_pool.proofs.Positions.{not_taken}
@@ -16,11 +17,18 @@ pub invariant_of-self : goal.invariant_of-self
 invariant_of-self g c =
     let old = c.args.self.now in
     let e : position (is_taken c.args.id) old.letters.items ≡ Some c.in-Some.place = cc (c.in-Some.ensures, c.deref.ensures.value) in
-    let well = stays_well old.next_id old.stored c.keep_first.new.stored old.letters.items c.finish.new.letters.items c.args.id c.in-Some.place e (ap is_some c.keep_first.ensures) old.sent c.finish.ensures.finishes in record {
-      fits = omega (arith, old.fits, well.queued);
-      room = omega (arith, old.room, c.finish.ensures.len, c.finish.ensures.capacity, c.clear.ensures.len);
-      numbers = omega (arith, old.numbers, c.clear.ensures.len);
-      given = rw c.clear.ensures.items (λ k d low. absurd (omega (arith, low)));
+    let well = stays_well old.next_id old.stored c.keep_first.new.stored old.letters.items c.finish.new.letters.items c.args.id c.in-Some.place e (ap is_some c.keep_first.ensures) old.sent c.finish.ensures.finishes in
+    let w = nobody_waits old.bound (old.reserved + old.queued) c.new.result (omega (arith, old.fits)) c.new.ensures.order c.new.ensures.entries in
+    record {
+      fits = w.fits;
+      full = w.full;
+      apart = kept_apart 0 c.new.result w.kept;
+      present = kept_present 0 c.new.result w.kept;
+      count = kept_count 0 c.new.result w.kept;
+      places = w.places;
+      held = omega (arith, old.held, well.queued);
+      room = omega (arith, old.room, c.finish.ensures.len, c.finish.ensures.capacity, w.places, ap length c.new.ensures.order);
+      numbers = omega (arith, old.numbers, w.places, ap length c.new.ensures.order);
       sent = well.fit;
     }
 
@@ -30,5 +38,5 @@ returns g c = λ messages line p s.
     let e : position (is_taken c.args.id) old.letters.items ≡ Some c.in-Some.place = cc (c.in-Some.ensures, c.deref.ensures.value) in
     let well = stays_well old.next_id old.stored c.keep_first.new.stored old.letters.items c.finish.new.letters.items c.args.id c.in-Some.place e (ap is_some c.keep_first.ensures) old.sent c.finish.ensures.finishes in
     let r = finished messages old.letters.items c.finish.new.letters.items c.args.id c.in-Some.place p e c.finish.ensures.finishes in
-    let shut = closes _ _ _ line s in
-    (r.left, holding line, (r.settles, rw c.keep_first.ensures refl), r.same, (omega (arith, shut.0, well.queued), shut.1 ∙ sym c.clear.ensures.items, shut.2))
+    let shut = closes _ _ _ line s.3 in
+    (r.left, holding line, (r.settles, rw c.keep_first.ensures refl), r.same, stands_alone old.bound (old.reserved + old.queued) c.new.result (holding line) c.new.ensures.order c.new.ensures.entries shut)

@@ -17,10 +17,15 @@ invariant_of-self g c =
     let e : position (is_taken c.args.id) old.letters.items ≡ Some c.in-Some.place = cc (c.in-Some.ensures, c.deref.ensures.value) in
     let some : is_some old.stored ≡ true = c.is_none.ensures ∙ ap not c.if-is_none.false in
     let well = stays_well old.next_id old.stored old.stored old.letters.items c.finish.new.letters.items c.args.id c.in-Some.place e some old.sent c.finish.ensures.finishes in record {
-      fits = omega (arith, old.fits, well.queued);
+      fits = old.fits;
+      full = old.full;
+      apart = old.apart;
+      present = old.present;
+      count = old.count;
+      places = old.places;
+      held = omega (arith, old.held, well.queued);
       room = omega (arith, old.room, c.finish.ensures.len, c.finish.ensures.capacity);
       numbers = old.numbers;
-      given = old.given;
       sent = well.fit;
     }
 
@@ -31,4 +36,4 @@ returns g c = λ messages line p s.
     let some : is_some old.stored ≡ true = c.is_none.ensures ∙ ap not c.if-is_none.false in
     let well = stays_well old.next_id old.stored old.stored old.letters.items c.finish.new.letters.items c.args.id c.in-Some.place e some old.sent c.finish.ensures.finishes in
     let r = finished messages old.letters.items c.finish.new.letters.items c.args.id c.in-Some.place p e c.finish.ensures.finishes in
-    (r.left, line, (some, r.settles, refl), r.same, (omega (arith, s.0, well.queued), s.1, s.2))
+    (r.left, line, (some, r.settles, refl), r.same, s)

@@ -26,11 +26,17 @@ invariant_of-self g c =
     let old = c.args.self.now in
     let e : position (is_taken c.args.id) old.letters.items ≡ Some c.in-Some.place = cc (c.in-Some.ensures, c.deref.ensures.value) in
     let a = at_position (is_taken c.args.id) old.letters.items c.in-Some.place e in
+    let w = taken_tells c.args.id a.0 a.2 in
     let less = fewer old.next_id old.stored old.letters.items c.in-Some.place a.0 a.1 old.sent in record {
-      fits = omega (arith, old.fits, less.queued, ap queued_letters c.strike.ensures.items);
+      fits = old.fits;
+      full = old.full;
+      apart = old.apart;
+      present = old.present;
+      count = old.count;
+      places = old.places;
+      held = omega (arith, old.held, less.queued, ap one_queued w.1, ap queued_letters c.strike.ensures.items);
       room = omega (arith, old.room, c.strike.ensures.len, c.strike.ensures.capacity);
       numbers = old.numbers;
-      given = old.given;
       sent = rw c.strike.ensures.items less.fit;
     }
 
@@ -46,5 +52,5 @@ returns g c = λ messages line p s.
       line,
       (t.spot, t.letter, (t.at, w.0, w.1), closed_now t.letter.fate w.2 o, refl),
       t.leaves Cancelled ∙ sym c.strike.ensures.items,
-      (omega (arith, s.0, less.queued, ap one_queued w.1, ap queued_letters c.strike.ensures.items), s.1, s.2),
+      s,
     )

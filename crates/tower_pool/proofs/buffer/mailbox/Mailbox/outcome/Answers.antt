@@ -36,11 +36,19 @@ invariant_of-self g c =
     let old = c.args.self.now in
     let e : position (is_known c.args.id) old.letters.items ≡ Some c.in-Some.place = cc (c.in-Some.ensures, c.deref.ensures.value) in
     let a = at_position (is_known c.args.id) old.letters.items c.in-Some.place e in
+    let w = known_tells c.args.id a.0 a.2 in
+    let o = sym (c.is_open_at.ensures a.0 (rw c.deref-2.ensures.value a.1)) ∙ c.if-is_open_at.false in
+    let out = (holds_at (Fits old.next_id old.stored) old.letters.items c.in-Some.place a.0 old.sent a.1).2 (settled a.0.fate o w.1) in
     let less = fewer old.next_id old.stored old.letters.items c.in-Some.place a.0 a.1 old.sent in record {
-      fits = omega (arith, old.fits, less.queued, ap queued_letters c.strike.ensures.items);
+      fits = old.fits;
+      full = old.full;
+      apart = old.apart;
+      present = old.present;
+      count = old.count;
+      places = old.places;
+      held = omega (arith, old.held, less.queued, ap one_queued out, ap queued_letters c.strike.ensures.items);
       room = omega (arith, old.room, c.strike.ensures.len, c.strike.ensures.capacity);
       numbers = old.numbers;
-      given = old.given;
       sent = rw c.strike.ensures.items less.fit;
     }
 
@@ -68,7 +76,7 @@ returns-in-Answered g c = λ messages line p s.
       line,
       (t.spot, t.letter, t.at, w.0, sym (c.strike.ensures.fate t.letter t.item) ∙ c.in-Answered.is, refl),
       t.leaves t.letter.fate ∙ sym c.strike.ensures.items,
-      (omega (arith, s.0, less.queued, ap one_queued out, ap queued_letters c.strike.ensures.items), s.1, s.2),
+      s,
     )
 
 pub returns-in-Lost : goal.returns-in-Lost
@@ -84,5 +92,5 @@ returns-in-Lost g c = λ messages line p s.
       line,
       (t.spot, t.letter, t.at, w.0, sym (c.strike.ensures.fate t.letter t.item) ∙ c.in-Lost.is, refl),
       t.leaves t.letter.fate ∙ sym c.strike.ensures.items,
-      (omega (arith, s.0, less.queued, ap one_queued out, ap queued_letters c.strike.ensures.items), s.1, s.2),
+      s,
     )

@@ -1,15 +1,51 @@
-use Rattle.std.proofs.Common.{◌≤◌, ◌∙◌, ◌++◌, ◌∷◌, [], length, refl, ap, arith}
-use Rattle.tower_limit.specs.Line.{Ticket}
-use Rattle.tower_pool.proofs.Lines.{counted, lacks, waits_last}
+use Rattle.std.proofs.Common.{◌∷◌, [], ◌+◌, refl, ap, arith, length, length-append}
+use Rattle.slab.specs.Slab.{get, slab_len}
+use Rattle.tower_pool.proofs.LineMoves.{Kept, kept_apart, kept_count, kept_from, kept_grown, kept_present, kept_pushed, place, stands_grown}
 use Rattle.tower_pool.proofs.buffer.mailbox.Mailbox.queue_up.Goals as goal
+
+pub invariant_of-self : goal.invariant_of-self
+invariant_of-self g c =
+    let old = c.args.self.now in
+    let new = c.reserve.new.self in
+    let first : Kept old.granted old.waiters = kept_from old.granted old.waiters old.apart old.present old.count in
+    let k : Kept old.granted new = kept_grown old.granted old.waiters new first c.reserve.ensures.order (λ key. ap (λ e. get e key) c.reserve.ensures.rest_kept) in
+    record {
+      fits = old.fits;
+      full = λ some. old.full (omega (arith, some, ap length c.reserve.ensures.order));
+      apart = kept_apart old.granted new k;
+      present = kept_present old.granted new k;
+      count = kept_count old.granted new k;
+      places = omega (arith, ap slab_len c.reserve.ensures.rest_kept, ap length c.reserve.ensures.order, old.places);
+      held = old.held;
+      room = omega (arith, old.room, ap slab_len c.reserve.ensures.rest_kept);
+      numbers = omega (arith, old.numbers, ap slab_len c.reserve.ensures.rest_kept);
+      sent = old.sent;
+    }
+
+pub invariant_of-self-2 : goal.invariant_of-self-2
+invariant_of-self-2 g c =
+    let old = c.args.self.now in
+    let mid = c.reserve.new.self in
+    let new = c.push_back.new.self in
+    let first : Kept old.granted old.waiters = kept_from old.granted old.waiters old.apart old.present old.count in
+    let grown : Kept old.granted mid = kept_grown old.granted old.waiters mid first c.reserve.ensures.order (λ key. ap (λ e. get e key) c.reserve.ensures.rest_kept) in
+    let k : Kept old.granted new = kept_pushed old.granted mid new grown c.push_back.result c.push_back.ensures.was_vacant c.push_back.ensures.entries c.push_back.ensures.order in
+    record {
+      fits = old.fits;
+      full = λ some. omega (arith, old.fits, c.requires.full);
+      apart = kept_apart old.granted new k;
+      present = kept_present old.granted new k;
+      count = kept_count old.granted new k;
+      places = omega (arith, c.push_back.ensures.len, ap slab_len c.reserve.ensures.rest_kept, old.places, ap length c.push_back.ensures.order, length-append mid.order (c.push_back.result ∷ []), ap length c.reserve.ensures.order);
+      held = old.held;
+      room = omega (arith, c.requires.room, c.push_back.ensures.len, ap slab_len c.reserve.ensures.rest_kept);
+      numbers = omega (arith, c.requires.number, c.push_back.ensures.len, ap slab_len c.reserve.ensures.rest_kept);
+      sent = old.sent;
+    }
 
 pub returns-clause-follows : goal.returns-clause-follows
 returns-clause-follows g c = λ messages line p s.
-    let r = waits_last _ c.args.self.now.next_key line s.2 in
-    let full : c.args.self.now.bound ≤ length line = omega (arith, counted line, s.0, ap length s.1, c.requires.full) in (
-      messages,
-      line ++ Ticket.waits c.args.self.now.next_key ∷ [],
-      (c.requires.closed, (full, lacks line _ (rw s.1 (λ k d h e. omega (arith, c.args.self.now.given k d h))), refl), refl),
-      p,
-      (r.0 ∙ s.0, (cc (r.1, s.1, c.in-Ok.ensures.items)), r.2),
-    )
+    let old = c.args.self.now in
+    let grown = stands_grown old.bound (old.reserved + old.queued) old.granted old.waiters line s c.reserve.new.self c.reserve.ensures.order (λ key. ap (λ e. get e key) c.reserve.ensures.rest_kept) in
+    let r = place _ _ _ _ line grown c.push_back.new.self c.push_back.result c.requires.full c.push_back.ensures.was_vacant c.push_back.ensures.entries c.push_back.ensures.order in
+    (messages, r.0, (c.requires.closed, r.1, refl), p, r.2)

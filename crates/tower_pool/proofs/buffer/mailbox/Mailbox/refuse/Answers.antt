@@ -1,17 +1,39 @@
-use Rattle.std.proofs.Common.{◌∙◌, refl, remove, arith}
-use Rattle.tower_pool.proofs.Lines.{leaves}
+use Rattle.std.proofs.Common.{◌-◌, ◌+◌, refl, arith}
+use Rattle.tower_pool.proofs.LineMoves.{admits_size, admits_stands, admits_well, kept_apart, kept_count, kept_from, kept_present, returned, stands_as}
 use Rattle.tower_pool.proofs.Replies.{refused}
 use Rattle.tower_pool.proofs.buffer.mailbox.Mailbox.refuse.Goals as goal
 
 pub returns-in-Memory : goal.returns-in-Memory
 returns-in-Memory g c = λ messages line p s. (messages, line, (c.requires.reserved, c.requires.gone, c.in-Memory.ensures, refl), p, s)
 
+pub invariant_of-self : goal.invariant_of-self
+invariant_of-self g c =
+    let old = c.args.self.now in
+    let some = c.requires.reserved in
+    let w = admits_well old.bound (old.reserved - 1 + old.queued) (old.granted) c.admit.new.granted old.waiters c.admit.new.waiters c.admit.ensures.admits
+    (omega (arith, old.fits, some)) (λ waits. omega (arith, old.full waits, some)) (kept_from old.granted old.waiters old.apart old.present old.count) old.places in
+    let same = admits_size old.bound 0 old.granted c.admit.new.granted old.waiters c.admit.new.waiters c.admit.ensures.admits in
+    record {
+      fits = w.fits;
+      full = w.full;
+      apart = kept_apart c.admit.new.granted c.admit.new.waiters w.kept;
+      present = kept_present c.admit.new.granted c.admit.new.waiters w.kept;
+      count = kept_count c.admit.new.granted c.admit.new.waiters w.kept;
+      places = w.places;
+      held = old.held;
+      room = omega (arith, old.room, some, same);
+      numbers = omega (arith, old.numbers, some, same);
+      sent = old.sent;
+    }
+
 pub returns : goal.returns
 returns g c = λ messages line p s.
-    let r = leaves _ line s.2 (omega (arith, s.0, c.requires.reserved)) in (
+    let old = c.args.self.now in
+    let some = c.requires.reserved in
+    let r = returned old.bound (old.reserved + old.queued) old.granted old.waiters line s (omega (arith, some)) in (
       messages,
-      remove line r.place,
-      refused _ _ _ r.place c.requires.reserved c.requires.gone c.shut.ensures c.in_default.not-Memory r.at,
+      r.0,
+      refused _ _ _ r.0 some c.requires.gone c.shut.ensures c.in_default.not-Memory r.1,
       p,
-      (omega (arith, r.gone.0, s.0, c.requires.reserved), r.gone.1 ∙ s.1, r.gone.2),
+      admits_stands old.bound (old.reserved - 1 + old.queued) old.granted c.admit.new.granted old.waiters c.admit.new.waiters c.admit.ensures.admits r.0 (stands_as old.bound (old.reserved + old.queued - 1) (old.reserved - 1 + old.queued) old.granted old.waiters r.0 (omega (arith, some)) r.2),
     )

@@ -1,10 +1,10 @@
 use Rattle.std.proofs.Common.{◌≡◌, ℕ, nat_lt, vec_len}
 use Rattle.tower_pool.specs.Mail.{Clears}
-use Rattle.tower_pool.specs.Mailbox.{Changes}
+use Rattle.tower_pool.specs.Mailbox.{Changes, FewEach}
 use Rattle.tower_pool.proofs.buffer.mailbox.Mailbox.take.Given as goal
 
 abbrev pub invariant-clearing : goal.invariant-clearing
-invariant-clearing g l = (n : ℕ) × Changes (Clears n) l.fn.self l.self × (l.cleared ≡ nat_lt 0 n)
+invariant-clearing g l = (n : ℕ) × Changes (Clears n) l.fn.self l.self × (l.cleared ≡ nat_lt 0 n) × FewEach l.fn.self l.self
 
 abbrev pub decreases-clearing : goal.decreases-clearing
 decreases-clearing g l = vec_len l.self.letters

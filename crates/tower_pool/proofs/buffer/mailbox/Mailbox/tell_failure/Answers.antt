@@ -12,11 +12,18 @@ invariant_of-self g c =
     let old = c.args.self.now in
     let low : c.args.place < length old.letters.items = omega (arith, c.requires.low) in
     let a = item_at old.letters.items c.args.place low in
+    let is = c.requires.failed a.0 a.1 in
+    let fits = holds_at (Fits old.next_id old.stored) old.letters.items c.args.place a.0 old.sent a.1 in
     let less = fewer old.next_id old.stored old.letters.items c.args.place a.0 a.1 old.sent in record {
-      fits = omega (arith, old.fits, less.queued, ap queued_letters c.strike.ensures.items);
+      fits = old.fits;
+      full = old.full;
+      apart = old.apart;
+      present = old.present;
+      count = old.count;
+      places = old.places;
+      held = omega (arith, old.held, less.queued, ap one_queued (fits.2 (ap is_unsettled is.1)), ap queued_letters c.strike.ensures.items);
       room = omega (arith, old.room, c.strike.ensures.len, c.strike.ensures.capacity);
       numbers = old.numbers;
-      given = old.given;
       sent = rw c.strike.ensures.items less.fit;
     }
 
@@ -42,5 +49,5 @@ returns-in_default g c = λ messages line p s.
       line,
       told_failure _ c.args.id _ r.place a.0 r.at is.0 is.1 (fits.1 (ap is_failed is.1)) c.shut.ensures c.in_default.not-Memory,
       r.left a.0.fate ∙ ap (λ l. remove l c.args.place) p ∙ sym c.strike.ensures.items,
-      (omega (arith, s.0, less.queued, ap one_queued (fits.2 (ap is_unsettled is.1)), ap queued_letters c.strike.ensures.items), s.1, s.2),
+      s,
     )
