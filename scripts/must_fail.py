@@ -162,8 +162,10 @@ def is_of(crate, printed, name):
 
 
 def proved_of(crate, output):
-    """The functions of a crate that a check proved, by what it printed."""
-    return re.findall(rf"^fn {crate.name}::(\S+): proved", output, re.M)
+    """The functions of a crate that a check proved, by what it printed. (Of what `rt ci` printed it is the part of the crate without its tests.)"""
+    parts = re.split(r"^== (.*)\n", output, flags=re.M)
+    text = "".join(it for name, it in zip(parts[1::2], parts[2::2]) if name == crate.name) if len(parts) > 1 else output
+    return re.findall(rf"^fn {crate.name}::(\S+): proved", text, re.M)
 
 
 def verdict(edit, output):
@@ -208,18 +210,25 @@ class Tried:
                 os.mkdir(copy)
         return ran
 
-    def is_proved_without(self):
-        """Proves the crate without an edit, or one function of it where `rt ci` proved it, and finds the names of the functions that edits change."""
-        names = proved_of(self.crate, self.proved)
-        ran = self.check([], names[:1])
-        if ran.returncode:
-            print(f"must-fail {self.crate.name}: NOT PROVED without an edit:\n{ran.stdout[-3000:]}", flush=True)
-            return False
-        names = names or proved_of(self.crate, ran.stdout)
+    def find(self, names):
+        """Finds the names of the functions that edits change."""
         for it in self.edits:
             it.functions = [named(pattern, names) for pattern in it.patterns]
             if None in it.functions or not it.functions:
                 it.functions, it.is_of_bodies = [], False
+
+    def is_proved_without(self):
+        """Proves the crate without an edit, or one function of it where `rt ci` proved it."""
+        names = proved_of(self.crate, self.proved)
+        if names:
+            self.find(names)
+        first = next((it.functions[:1] for it in self.edits if it.functions), [])
+        ran = self.check([], first)
+        if ran.returncode:
+            print(f"must-fail {self.crate.name}: NOT PROVED without an edit:\n{ran.stdout[-3000:]}", flush=True)
+            return False
+        if not names:
+            self.find(proved_of(self.crate, ran.stdout))
         return True
 
     def try_together(self, edits):
