@@ -1,18 +1,23 @@
 #!/usr/bin/env python3
-"""scripts/must_fail.py [--built LOG] [--until SECONDS] [CRATE ..]: the prover has to refuse each wrong body must-fail/CRATE/NAME.edit.
+"""scripts/must_fail.py [--built] [--until SECONDS] [--anew] [CRATE ..]: the prover has to refuse each wrong body must-fail/CRATE/NAME.edit.
 
 The edits of `crates/CRATE/must-fail/` are tried too. An edit has the form that the kit's `rt must-fail` reads. That tries edits one by one,
 and each check first loads its crate, so they are tried here, many in one check: a function is proved from the contracts of those that it calls, and so a
 wrong body fails its own function alone. An edit counts as refused only where its own function isn't proved and calls none that isn't;
-where it calls such a one, it is tried again in another check. What changes more than bodies (a bound, a constant) is tried alone; an edit
-that stands in no function names by a line `function: PATH` the one that has to be refused.
+where it calls such a one, it is tried again in another check. What changes more than bodies (a bound, a constant) shares a check with
+edits of files alone that don't name its own. An edit that stands in no function names by a line `function: PATH` the one that has to be refused.
 
-First each crate is proved without an edit. With --built the libraries are taken as `rt ci` left them, and LOG, what it printed, tells
-which functions it proved, so that they aren't proved again. With --until no check begins after that moment (as `date +%s` tells it), and what is left is said to be untried.
+With --built the libraries are taken as `rt ci` left them; else they are proved first, where they have changed.
+With --until no check begins after that moment (as `date +%s` tells it), and what is left is said to be untried.
+What was refused is kept on this machine, as `rt ci` keeps what it proved: by the checksums of the edit, of this script, and of all that the kit reads for the crate.
+A later run tries only what has changed, and says how many were kept. With --anew it tries all.
 The last line is `N refused, M not` (and `, K untried`); status 1 where M isn't 0.
 """
+import collections
+import hashlib
 import importlib.machinery
 import importlib.util
+import json
 import os
 import re
 import shutil
@@ -22,8 +27,10 @@ import threading
 import time
 from concurrent.futures import ThreadPoolExecutor
 
-AT_ONCE = 12
+AT_ONCE = 24
 ROUNDS = 6
+PARTS = ("error", "future", "layer", "service", "state", "task")
+KEPT = "refused by an earlier run"
 FUNCTION = re.compile(r"( *)(?:pub(?:\([^)]*\))? )?(?:(?:final|const|unsafe) )*fn (\w+)")
 BLOCK = re.compile(r"( *)(?:pub(?:\([^)]*\))? )?(impl|trait|mod)\b")
 
@@ -92,13 +99,19 @@ def named(pattern, names):
     return min(found, key=len) if found else None
 
 
+def module_of(path):
+    """The module that a file stands in, by the name that others use: a part of it, as `future.rt`, is known by its folder."""
+    *folders, name = path[: -len(".rt")].split("/")
+    return folders[-1] if name in PARTS and len(folders) > 1 else name
+
+
 class Edit:
     """A wrong body: the pairs of texts, the functions that it changes, and whether it changes bodies alone."""
 
     def __init__(self, crate, file):
         self.crate, self.file = crate, file
         self.name = os.path.basename(file)[: -len(".edit")]
-        self.pairs, self.patterns, self.functions, self.bodies, self.is_of_bodies = [], [], [], "", True
+        self.pairs, self.paths, self.patterns, self.functions, self.bodies, self.is_of_bodies = [], [], [], [], "", True
         texts, self.why = rt.read_edit(file, crate.folder)
         if self.why:
             return
@@ -112,6 +125,7 @@ class Edit:
                 old = line[len("old: ") :]
             elif line.startswith("new:"):
                 self.pairs.append((path, old, line[len("new:") :].removeprefix(" ")))
+                self.paths += [path] * (path not in self.paths)
                 text = rt.rtlib.text_of(f"{crate.folder}/{path}")
                 name, body, is_body = function_at(path, text, text.find(old))
                 self.patterns += [name] * (name is not None and name not in self.patterns)
@@ -119,11 +133,22 @@ class Edit:
                 self.is_of_bodies = self.is_of_bodies and is_body
 
     def goes_with(self, others):
-        """Whether the functions of this edit and those of the others are different, and no two edits change one line."""
+        """Whether the functions of this edit and those of the others are different, no two edits change one line, and no verdict rests on another edit."""
         theirs = {it for other in others for it in other.functions}
-        if not self.is_of_bodies or theirs & {*self.functions} or not all(it.is_of_bodies for it in others):
+        if not self.functions or theirs & {*self.functions}:
             return False
-        return not any(it.may_call(self) or self.may_call(it) for it in others) and texts_of(self.crate, [*others, self]) is not None
+        if any(it.may_change(self) or self.may_change(it) or it.may_call(self) or self.may_call(it) for it in others):
+            return False
+        return texts_of(self.crate, [*others, self]) is not None
+
+    def may_change(self, other):
+        """Whether what changes here beside bodies may have to do with the other's files: they are the same, or name a module of this edit's."""
+        if self.is_of_bodies:
+            return False
+        if not other.functions or {*self.paths} & {*other.paths}:
+            return True
+        words = {word for path in other.paths for word in re.findall(r"\w+", path + rt.rtlib.text_of(f"{self.crate.folder}/{path}"))}
+        return any(module_of(path) in words | {"lib", "main"} for path in self.paths)
 
     def may_call(self, other):
         """Whether names of the other's functions are called here, in the same module. (Other modules are rarely called by an edit's function.)"""
@@ -144,8 +169,10 @@ def texts_of(crate, edits):
 
 
 def groups_of(edits):
+    """Edits that are tried together. Those of functions with many edits come first, so that there are few groups."""
+    number = collections.Counter(name for it in edits for name in it.functions)
     groups = []
-    for edit in edits:
+    for edit in sorted(edits, key=lambda it: -max((number[name] for name in it.functions), default=0)):
         fitting = next((it for it in groups if len(it) < AT_ONCE and edit.goes_with(it)), None)
         if fitting is None:
             groups.append([edit])
@@ -161,11 +188,13 @@ def is_of(crate, printed, name):
     return printed == name or printed.startswith((f"{name}::", f"{name}+"))
 
 
-def proved_of(crate, output):
-    """The functions of a crate that a check proved, by what it printed. (Of what `rt ci` printed it is the part of the crate without its tests.)"""
-    parts = re.split(r"^== (.*)\n", output, flags=re.M)
-    text = "".join(it for name, it in zip(parts[1::2], parts[2::2]) if name == crate.name) if len(parts) > 1 else output
-    return re.findall(rf"^fn {crate.name}::(\S+): proved", text, re.M)
+def functions_of(crate):
+    """The functions of a library as its built rlib names them. (A program has none: there what has no generics is named by its path.)"""
+    try:
+        with open(f"{crate.folder}/out/rlib/{crate.name}.rlib/toolchain/mir.json", encoding="utf-8") as it:
+            return [name.removeprefix(f"{crate.name}::") for name, *_ in json.load(it)]
+    except (OSError, ValueError, TypeError):
+        return []
 
 
 def verdict(edit, output):
@@ -189,9 +218,25 @@ class TimeIsOver(Exception):
 class Tried:
     """The edits of a crate."""
 
-    def __init__(self, crate, edits, room, lanes, until, proved):
-        self.crate, self.edits, self.room, self.lanes, self.until, self.proved = crate, edits, room, lanes, until, proved
+    def __init__(self, crate, edits, room, lanes, until, store):
+        self.crate, self.edits, self.room, self.lanes, self.until = crate, edits, room, lanes, until
         self.kept, self.answers, self.checks = f"{room}/{crate.name}", {}, 0
+        # (the sum is of what stands now: what was touched meanwhile isn't kept)
+        self.store, self.sum, self.first = store, rt.stamp_of(crate, {}), rt.touched(crate)
+
+    def recall(self):
+        """The edits that an earlier run saw refused."""
+        for it in self.edits:
+            why = self.store.get("refused", self.sum, it.name, rt.rtlib.text_of(it.file))
+            if why:
+                self.answers[it.name] = KEPT, why
+
+    def keep(self, edits):
+        """Keeps what was refused, unless a file of the crate was touched since."""
+        for it in edits:
+            answer, why = self.answers.get(it.name, ("", ""))
+            if answer == "refused" and rt.touched(self.crate) == self.first:
+                self.store.put(why or "refused", "refused", self.sum, it.name, rt.rtlib.text_of(it.file))
 
     def check(self, edits, functions):
         """Checks these functions of the crate with the edits, over a copy of what the check without an edit proved."""
@@ -210,26 +255,20 @@ class Tried:
                 os.mkdir(copy)
         return ran
 
-    def find(self, names):
+    def find(self):
         """Finds the names of the functions that edits change."""
+        names = functions_of(self.crate)
         for it in self.edits:
-            it.functions = [named(pattern, names) for pattern in it.patterns]
-            if None in it.functions or not it.functions:
-                it.functions, it.is_of_bodies = [], False
+            found = [named(pattern, names) or (pattern if re.fullmatch(r"[\w:]+", pattern) else None) for pattern in it.patterns]
+            it.functions = [] if None in found else found
 
     def is_proved_without(self):
-        """Proves the crate without an edit, or one function of it where `rt ci` proved it."""
-        names = proved_of(self.crate, self.proved)
-        if names:
-            self.find(names)
+        """Proves a function without an edit, or the crate where none is known."""
         first = next((it.functions[:1] for it in self.edits if it.functions), [])
         ran = self.check([], first)
         if ran.returncode:
             print(f"must-fail {self.crate.name}: NOT PROVED without an edit:\n{ran.stdout[-3000:]}", flush=True)
-            return False
-        if not names:
-            self.find(proved_of(self.crate, ran.stdout))
-        return True
+        return not ran.returncode
 
     def try_together(self, edits):
         """Returns the edits to be tried again."""
@@ -251,6 +290,7 @@ class Tried:
                 again.append(it)
             else:
                 self.try_alone(it)
+        self.keep(edits)
         return again
 
     def try_alone(self, edit):
@@ -272,13 +312,15 @@ class Tried:
             self.answers[edit.name] = "NOT REFUSED", "the crate is still proved with this edit"
         else:
             self.answers[edit.name] = "BAD EDIT", "it did not reach the prover: " + " / ".join(lines[:6])
+        self.keep([edit])
 
     def run(self):
+        self.recall()
         for it in self.edits:
             if it.why:
                 self.answers[it.name] = "BAD EDIT", it.why
         try:
-            self.try_all([it for it in self.edits if not it.why])
+            self.try_all([it for it in self.edits if it.name not in self.answers])
         except TimeIsOver:
             for it in self.edits:
                 self.answers.setdefault(it.name, ("untried", "there was no time"))
@@ -286,6 +328,9 @@ class Tried:
         return self
 
     def try_all(self, left):
+        if not left:
+            return
+        self.find()
         if not self.is_proved_without():
             self.answers.update({it.name: ("NOT TRIED", "its crate is not proved") for it in left})
             return
@@ -308,6 +353,32 @@ def files_of(root, name):
     return [f"{at}/{it}" for at in folders if os.path.isdir(at) for it in sorted(os.listdir(at)) if it.endswith(".edit")]
 
 
+class Store:
+    """What earlier runs on this machine came to, a file an entry. Its name is the sum of all that it was made from, so it never goes stale."""
+
+    def __init__(self, folder):
+        self.folder, self.script = folder, rt.rtlib.text_of(os.path.realpath(__file__))
+
+    def name(self, *parts):
+        return hashlib.sha256(repr((self.script, parts)).encode()).hexdigest()
+
+    def get(self, *parts):
+        try:
+            with open(f"{self.folder}/{self.name(*parts)}", encoding="utf-8") as it:
+                return json.load(it)
+        except (OSError, ValueError):
+            return None
+
+    def put(self, told, *parts):
+        try:
+            os.makedirs(self.folder, 0o700, exist_ok=True)
+            with tempfile.NamedTemporaryFile("w", dir=self.folder, delete=False, encoding="utf-8") as it:
+                json.dump(told, it)
+            os.replace(it.name, f"{self.folder}/{self.name(*parts)}")
+        except OSError:
+            pass
+
+
 def taken(words, flag):
     """What stands after a flag, and the other words."""
     if flag not in words:
@@ -318,15 +389,16 @@ def taken(words, flag):
 
 def main(words):
     until, words = taken(words, "--until")
-    built, names = taken(words, "--built")
     until = int(until or 0)
-    proved = rt.rtlib.text_of(built) if built else ""
+    is_built, is_anew = "--built" in words, "--anew" in words
+    names = [it for it in words if it not in ("--built", "--anew")]
     root = os.path.dirname(os.path.dirname(os.path.realpath(__file__)))
     os.chdir(root)
     os.environ.pop(rt.rtlib.ALLOW_C, None)
     # (its first call sets a signal's handler, which only the main thread may)
     rt.rtlib.guarded()
     rt.rtlib.Crate = rt.Crate
+    rt.Crate.allowed = rt.handles_of(root)
     crates = {it.name: it for it in rt.rtlib.crates_below(root)}
     unknown = [it for it in [*sorted(os.listdir("must-fail")), *names] if it not in crates]
     if unknown:
@@ -336,18 +408,24 @@ def main(words):
     number = os.environ.get("RT_JOBS", "")
     lanes = threading.Semaphore(int(number) if number.isdigit() else max(1, min(rt.processors(), rt.free() // 4_500_000_000)))
     with tempfile.TemporaryDirectory(prefix="must-fail-") as room:
+        store = Store(f"{room}/none" if is_anew else os.path.expanduser("~/.cache/tower-edits"))
         for name in names or [it for it in sorted(crates) if files_of(root, it)]:
             crate = crates[name]
-            if not built and any(it.build_rlib([], anew=False) for it in crate.below()):
+            if not is_built and any(it.build_rlib([], anew=False) for it in [*crate.below(), *[crate] * (not crate.is_program)]):
+                print("a library is not proved\n0 refused, 1 not")
                 return 1
-            tried.append(Tried(crate, [Edit(crate, it) for it in files_of(root, name)], room, lanes, until, proved))
+            edits = [Edit(crate, it) for it in files_of(root, name)]
+            tried.append(Tried(crate, edits, room, lanes, until, store))
         tried.sort(key=lambda it: -len(it.edits))
         with ThreadPoolExecutor(max(len(tried), 1)) as pool:
             for it in pool.map(Tried.run, tried):
                 it.show()
     answers = [it for one in tried for it in one.answers.values()]
-    refused, untried = (sum(it == which for it, _ in answers) for which in ("refused", "untried"))
+    refused, kept, untried = (sum(it == which for it, _ in answers) for which in ("refused", KEPT, "untried"))
+    refused += kept
     proved = len(answers) - refused - untried
+    if kept:
+        print(f"{kept} of the edits were refused by an earlier run on this machine, of the same files")
     print(f"{refused} refused, {proved} not" + (f", {untried} untried" if untried else ""))
     return 1 if proved else 0
 

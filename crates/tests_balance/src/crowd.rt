@@ -8,6 +8,7 @@ use futures::test::MockTask;
 use std::cell::Cell;
 use std::convert::Infallible;
 use std::test::Fail;
+use tests_support::checks::Checks;
 use tests_support::run::{called, polled, task};
 use tower::balance::p2c::Balance;
 use tower_base::service::Service;
@@ -155,6 +156,7 @@ impl<'a> Discover for Turns<'a> {
 
 #[test]
 fn list_of_a_hundred_takes_two_polls(rt: HostRuntime) -> Result<(), Fail> {
+    let checks = Checks::new(rt.alloc());
     let hall = Hall::new(false);
     let mut services = Vec::new(rt.alloc());
     for _ in 0..100u8 {
@@ -163,17 +165,18 @@ fn list_of_a_hundred_takes_two_polls(rt: HostRuntime) -> Result<(), Fail> {
     let mut balance = Balance::new(rt.alloc(), ServiceList::new(services));
     let solo = task(&rt)?;
     assert!(rt; polled(&solo, &mut balance).is_pending());
-    assert_eq!(rt; (balance.len(), hall.asked.get()), (64, 64));
+    checks.same(&(balance.len(), hall.asked.get()), &(64, 64));
     assert!(rt; polled(&solo, &mut balance).is_pending());
-    assert_eq!(rt; (balance.len(), hall.asked.get()), (100, 164));
-    assert_eq!(rt; hall.live.get(), 100);
+    checks.same(&(balance.len(), hall.asked.get()), &(100, 164));
+    checks.same(&hall.live.get(), &100);
     drop(balance);
-    assert_eq!(rt; hall.live.get(), 0);
-    Ok(())
+    checks.same(&hall.live.get(), &0);
+    checks.verdict()
 }
 
 #[test]
 fn thousand_inserts_take_sixteen_polls(rt: HostRuntime) -> Result<(), Fail> {
+    let checks = Checks::new(rt.alloc());
     let hall = Hall::new(false);
     let turns = Turns {
         hall: &hall,
@@ -182,20 +185,21 @@ fn thousand_inserts_take_sixteen_polls(rt: HostRuntime) -> Result<(), Fail> {
     let mut balance = Balance::new(rt.alloc(), turns);
     let solo = task(&rt)?;
     assert!(rt; polled(&solo, &mut balance).is_pending());
-    assert_eq!(rt; balance.len(), 64);
+    checks.same(&balance.len(), &64);
     for _ in 0..14u8 {
         assert!(rt; polled(&solo, &mut balance).is_pending());
     }
-    assert_eq!(rt; balance.len(), 960);
+    checks.same(&balance.len(), &960);
     assert!(rt; polled(&solo, &mut balance).is_pending());
-    assert_eq!(rt; (balance.len(), hall.live.get()), (1000, 1000));
+    checks.same(&(balance.len(), hall.live.get()), &(1000, 1000));
     drop(balance);
-    assert_eq!(rt; hall.live.get(), 0);
-    Ok(())
+    checks.same(&hall.live.get(), &0);
+    checks.verdict()
 }
 
 #[test]
 fn endless_changes_of_one_key_leave_nothing(rt: HostRuntime) -> Result<(), Fail> {
+    let checks = Checks::new(rt.alloc());
     let hall = Hall::new(false);
     let turns = Turns {
         hall: &hall,
@@ -206,10 +210,10 @@ fn endless_changes_of_one_key_leave_nothing(rt: HostRuntime) -> Result<(), Fail>
     for _ in 0..3u8 {
         hall.found.set(0);
         assert!(rt; polled(&solo, &mut balance).is_pending());
-        assert_eq!(rt; (hall.found.get(), balance.len()), (64, 0));
-        assert_eq!(rt; (hall.live.get(), hall.asked.get()), (0, 0));
+        checks.same(&(hall.found.get(), balance.len()), &(64, 0));
+        checks.same(&(hall.live.get(), hall.asked.get()), &(0, 0));
     }
-    Ok(())
+    checks.verdict()
 }
 
 /// The readiness of a service as a future.
@@ -230,6 +234,7 @@ impl<B: Service<u8>> Future for Asked<B> {
 
 #[test]
 fn poll_of_64_changes_wakes_its_task(rt: HostRuntime) -> Result<(), Fail> {
+    let checks = Checks::new(rt.alloc());
     let hall = Hall::new(false);
     let turns = Turns {
         hall: &hall,
@@ -239,19 +244,20 @@ fn poll_of_64_changes_wakes_its_task(rt: HostRuntime) -> Result<(), Fail> {
     let mut endless = Asked { service };
     let task = MockTask::new(&rt)?;
     assert!(rt; task.poll(&mut endless).is_pending());
-    assert!(rt; task.is_woken());
+    checks.holds(task.is_woken());
     let services: Vec<Quiet<'_>> = Vec::new(rt.alloc());
     let service = Balance::new(rt.alloc(), ServiceList::new(services));
     let mut over = Asked { service };
     let task = MockTask::new(&rt)?;
     assert!(rt; task.poll(&mut over).is_pending());
-    assert!(rt; !task.is_woken());
-    Ok(())
+    checks.holds(!task.is_woken());
+    checks.verdict()
 }
 
 // The one that is called waits again, so fifty are ready and none is kept.
 #[test]
 fn fifty_that_turn_busy_are_asked_once_each(rt: HostRuntime) -> Result<(), Fail> {
+    let checks = Checks::new(rt.alloc());
     let hall = Hall::new(true);
     let turns = Turns {
         hall: &hall,
@@ -262,14 +268,14 @@ fn fifty_that_turn_busy_are_asked_once_each(rt: HostRuntime) -> Result<(), Fail>
     let solo = task(&rt)?;
     let future = called(&solo, &mut balance, 1).ok_or("not ready")?;
     drop(future);
-    assert_eq!(rt; (hall.asked.get(), hall.words.get()), (52, 2));
+    checks.same(&(hall.asked.get(), hall.words.get()), &(52, 2));
     hall.asked.set(0);
     hall.words.set(0);
     hall.is_willing.set(false);
     assert!(rt; polled(&solo, &mut balance).is_pending());
-    assert_eq!(rt; (hall.asked.get(), hall.words.get()), (51, 98));
-    assert_eq!(rt; (balance.len(), hall.live.get()), (51, 51));
+    checks.same(&(hall.asked.get(), hall.words.get()), &(51, 98));
+    checks.same(&(balance.len(), hall.live.get()), &(51, 51));
     drop(balance);
-    assert_eq!(rt; hall.live.get(), 0);
-    Ok(())
+    checks.same(&hall.live.get(), &0);
+    checks.verdict()
 }

@@ -6,6 +6,7 @@ use crate::parts::{Find, Finds, Fleet, Words};
 use futures::task::{Context, Poll};
 use std::alloc::AllocError;
 use std::test::Fail;
+use tests_support::checks::Checks;
 use tests_support::future::After;
 use tests_support::log::Log;
 use tests_support::run::{awaited, called, polled, stepped, task};
@@ -82,6 +83,7 @@ impl<'a> Service<u8> for Maker<'a> {
 
 #[test]
 fn each_balancer_draws_by_a_clone(rt: HostRuntime) -> Result<(), Fail> {
+    let checks = Checks::new(rt.alloc());
     let alloc = rt.alloc();
     let log = Log::new(alloc)?;
     let fleet = Fleet::new(&log);
@@ -95,22 +97,23 @@ fn each_balancer_draws_by_a_clone(rt: HostRuntime) -> Result<(), Fail> {
         let Poll::Ready(Ok(mut balance)) = stepped(&solo, &mut future) else {
             return Err("no balancer".into());
         };
-        assert!(rt; polled(&solo, &mut balance).is_ready());
-        assert_eq!(rt; balance.len(), 2);
+        checks.holds(polled(&solo, &mut balance).is_ready());
+        checks.same(&balance.len(), &2);
         drop(balance);
-        assert_eq!(rt;
-            log.told(alloc)?.as_str(),
+        checks.told(
+            &log,
             "maker Willing;words cloned;maker called 2;f pending;f ready;found the end;a ready;b ready;\
-             word 0;word 1;a weighed;b weighed;a ready;a dropped;b dropped;"
+             word 0;word 1;a weighed;b weighed;a ready;a dropped;b dropped;",
         );
         drop(future);
-        assert_eq!(rt; log.told(alloc)?.as_str(), "f dropped;");
+        checks.told(&log, "f dropped;");
     }
-    Ok(())
+    checks.verdict()
 }
 
 #[test]
 fn error_of_the_maker_is_inner(rt: HostRuntime) -> Result<(), Fail> {
+    let checks = Checks::new(rt.alloc());
     let alloc = rt.alloc();
     let log = Log::new(alloc)?;
     let fleet = Fleet::new(&log);
@@ -118,7 +121,7 @@ fn error_of_the_maker_is_inner(rt: HostRuntime) -> Result<(), Fail> {
     let mut make = MakeBalance::new(alloc, maker, Words::new(&log, &[]));
     let solo = task(&rt)?;
     let future = called(&solo, &mut make, 3).ok_or("not ready")?;
-    assert!(rt; matches!(awaited(&solo, future), Some(Err(MakeError::Inner(3)))));
+    checks.holds(matches!(awaited(&solo, future), Some(Err(MakeError::Inner(3)))));
     let mut busy = MakeBalance::new(alloc, Maker::new(&fleet, &[], Busy), Words::new(&log, &[]));
     assert!(rt; polled(&solo, &mut busy).is_pending());
     let mut broken = MakeBalance::new(
@@ -126,21 +129,20 @@ fn error_of_the_maker_is_inner(rt: HostRuntime) -> Result<(), Fail> {
         Maker::new(&fleet, &[], Broken(9)),
         Words::new(&log, &[]),
     );
-    assert!(rt;
-        matches!(
-            polled(&solo, &mut broken),
-            Poll::Ready(Err(MakeError::Inner(9)))
-        )
+    checks.holds(matches!(
+        polled(&solo, &mut broken),
+        Poll::Ready(Err(MakeError::Inner(9)))
+    ));
+    checks.told(
+        &log,
+        "maker Willing;words cloned;maker called 3;f pending;f ready;f dropped;maker Busy;maker Broken(9);",
     );
-    assert_eq!(rt;
-        log.told(alloc)?.as_str(),
-        "maker Willing;words cloned;maker called 3;f pending;f ready;f dropped;maker Busy;maker Broken(9);"
-    );
-    Ok(())
+    checks.verdict()
 }
 
 #[test]
 fn maker_is_not_called_where_the_clone_is_refused(rt: HostRuntime) -> Result<(), Fail> {
+    let checks = Checks::new(rt.alloc());
     let alloc = rt.alloc();
     let log = Log::new(alloc)?;
     let fleet = Fleet::new(&log);
@@ -148,13 +150,14 @@ fn maker_is_not_called_where_the_clone_is_refused(rt: HostRuntime) -> Result<(),
     let mut make = MakeBalance::new(alloc, maker, Words::refusing(&log));
     let solo = task(&rt)?;
     let future = called(&solo, &mut make, 2).ok_or("not ready")?;
-    assert!(rt; matches!(awaited(&solo, future), Some(Err(MakeError::Memory))));
-    assert_eq!(rt; log.told(alloc)?.as_str(), "maker Willing;words refused;");
-    Ok(())
+    checks.holds(matches!(awaited(&solo, future), Some(Err(MakeError::Memory))));
+    checks.told(&log, "maker Willing;words refused;");
+    checks.verdict()
 }
 
 #[test]
 fn layer_and_clones_have_clones_of_the_words(rt: HostRuntime) -> Result<(), Fail> {
+    let checks = Checks::new(rt.alloc());
     let alloc = rt.alloc();
     let log = Log::new(alloc)?;
     let fleet = Fleet::new(&log);
@@ -167,19 +170,19 @@ fn layer_and_clones_have_clones_of_the_words(rt: HostRuntime) -> Result<(), Fail
     let Some(Ok(mut balance)) = awaited(&solo, future) else {
         return Err("no balancer".into());
     };
-    assert!(rt; polled(&solo, &mut balance).is_ready());
-    assert_eq!(rt;
-        log.told(alloc)?.as_str(),
+    checks.holds(polled(&solo, &mut balance).is_ready());
+    checks.told(
+        &log,
         "words cloned;words cloned;maker cloned;words cloned;maker Willing;words cloned;maker called 4;\
-         f pending;f ready;f dropped;found the end;a ready;a ready;"
+         f pending;f ready;f dropped;found the end;a ready;a ready;",
     );
     let refusing: MakeBalanceLayer<Maker<'_>, Words<'_>, u8> = MakeBalanceLayer::new(
         alloc,
         Words::refusing(&log),
     );
-    assert!(rt; refusing.clone().is_err());
-    assert!(rt; refusing.layer(Maker::new(&fleet, &list, Willing)).is_err());
-    Ok(())
+    checks.holds(refusing.clone().is_err());
+    checks.holds(refusing.layer(Maker::new(&fleet, &list, Willing)).is_err());
+    checks.verdict()
 }
 
 #[test]

@@ -4,6 +4,7 @@ use crate::parts::Act::{self, Call, Poll};
 use crate::parts::{Find, Finds, Fleet, Never, Words, story};
 use std::alloc::AllocGlobal;
 use std::test::Fail;
+use tests_support::checks::Checks;
 use tests_support::log::Log;
 use tests_support::run::{awaited, called, fire, polled, task};
 use tests_support::script::Mood::{Broken, Busy, Willing};
@@ -164,6 +165,7 @@ fn busy_endpoint_is_chosen_no_more(rt: HostRuntime) -> Result<(), Fail> {
 
 #[test]
 fn error_of_a_response_is_inner(rt: HostRuntime) -> Result<(), Fail> {
+    let checks = Checks::new(rt.alloc());
     let alloc = rt.alloc();
     let log = Log::new(alloc)?;
     let script = Script::new(&log);
@@ -172,12 +174,12 @@ fn error_of_a_response_is_inner(rt: HostRuntime) -> Result<(), Fail> {
     let balance = Balance::new(alloc, ServiceList::new(services));
     let solo = task(&rt)?;
     let answer = fire(&solo, balance, 3);
-    assert!(rt; matches!(answer, Some(Err(Error::Inner(3)))));
-    assert_eq!(rt;
-        log.told(alloc)?.as_str(),
-        "s ready;s ready;s called 3;s(3) pending;s(3) ready;s(3) dropped;s dropped;"
+    checks.holds(matches!(answer, Some(Err(Error::Inner(3)))));
+    checks.told(
+        &log,
+        "s ready;s ready;s called 3;s(3) pending;s(3) ready;s(3) dropped;s dropped;",
     );
-    Ok(())
+    checks.verdict()
 }
 
 #[test]
@@ -195,6 +197,7 @@ fn errors_have_texts(rt: HostRuntime) -> Result<(), Fail> {
 
 #[test]
 fn whole_runs_go_inside(rt: HostRuntime) -> Result<(), Fail> {
+    let checks = Checks::new(rt.alloc());
     let alloc = rt.alloc();
     let log = Log::new(alloc)?;
     let stage = Stage::new(&log);
@@ -216,16 +219,16 @@ fn whole_runs_go_inside(rt: HostRuntime) -> Result<(), Fail> {
         Event::Poll,
     ]?;
     let story = driven(&rt, &stage, balance, events)?;
-    assert_eq!(rt;
-        story.entries.as_str(),
-        "pending;ready;call 0;0 pending;0 ok 1;ready;call 1;1 pending;drop 1;at 0;pending;"
+    checks.same(
+        &story.entries.as_str(),
+        &"pending;ready;call 0;0 pending;0 ok 1;ready;call 1;1 pending;drop 1;at 0;pending;",
     );
-    assert_eq!(rt;
-        story.told.as_str(),
-        "s pending;s ready;s ready;s called 1;s(1) pending;s(1) ready;s ready;s ready;s called 2;s(2) pending;\
-         s(2) dropped;s error 7;s dropped;s(1) dropped;"
+    checks.same(
+        &story.told.as_str(),
+        &"s pending;s ready;s ready;s called 1;s(1) pending;s(1) ready;s ready;s ready;s called 2;s(2) pending;\
+         s(2) dropped;s error 7;s dropped;s(1) dropped;",
     );
-    Ok(())
+    checks.verdict()
 }
 
 #[test]
@@ -240,6 +243,7 @@ fn balancer_of_nothing_is_pending(rt: HostRuntime) -> Result<(), Fail> {
 
 #[test]
 fn only_endpoint_is_called_until_it_is_lost(rt: HostRuntime) -> Result<(), Fail> {
+    let checks = Checks::new(rt.alloc());
     let alloc = rt.alloc();
     let log = Log::new(alloc)?;
     let script = Script::new(&log);
@@ -248,18 +252,18 @@ fn only_endpoint_is_called_until_it_is_lost(rt: HostRuntime) -> Result<(), Fail>
     let mut balance = Balance::new(alloc, ServiceList::new(services));
     let solo = task(&rt)?;
     assert!(rt; polled(&solo, &mut balance).is_pending());
-    assert_eq!(rt; (balance.len(), balance.is_empty()), (1, false));
+    checks.same(&(balance.len(), balance.is_empty()), &(1, false));
     let future = called(&solo, &mut balance, 1).ok_or("not ready")?;
-    assert!(rt; matches!(awaited(&solo, future), Some(Ok(1))));
-    assert!(rt; polled(&solo, &mut balance).is_ready());
+    checks.holds(matches!(awaited(&solo, future), Some(Ok(1))));
+    checks.holds(polled(&solo, &mut balance).is_ready());
     script.moods(&[Broken(7)]);
     assert!(rt; polled(&solo, &mut balance).is_pending());
-    assert_eq!(rt; (balance.len(), balance.is_empty()), (0, true));
-    assert_eq!(rt;
-        log.told(alloc)?.as_str(),
-        "s pending;s ready;s ready;s called 1;s(1) ready;s(1) dropped;s ready;s ready;s error 7;s dropped;"
+    checks.same(&(balance.len(), balance.is_empty()), &(0, true));
+    checks.told(
+        &log,
+        "s pending;s ready;s ready;s called 1;s(1) ready;s(1) dropped;s ready;s ready;s error 7;s dropped;",
     );
-    Ok(())
+    checks.verdict()
 }
 
 #[test]

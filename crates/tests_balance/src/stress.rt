@@ -7,6 +7,7 @@ use futures::task::{Context, Poll, Solo};
 use std::cell::Cell;
 use std::convert::Infallible;
 use std::test::Fail;
+use tests_support::checks::Checks;
 use tests_support::run::{polled, task};
 use tower::balance::p2c::Balance;
 use tower_base::service::Service;
@@ -258,6 +259,7 @@ where
 
 #[test]
 fn stress(rt: HostRuntime) -> Result<(), Fail> {
+    let checks = Checks::new(rt.alloc());
     let field = Field::new();
     let mut balance = Balance::from_rng(
         rt.alloc(),
@@ -268,9 +270,9 @@ fn stress(rt: HostRuntime) -> Result<(), Fail> {
     for _ in 0..STEPS {
         step(&solo, &field, &mut balance);
     }
-    assert_eq!(rt; field.faults.get(), 0);
-    assert!(rt; !balance.is_empty());
+    checks.same(&field.faults.get(), &0);
+    checks.holds(!balance.is_empty());
     drop(balance);
-    assert_eq!(rt; field.states.get(), [State::Free; ROOM]);
-    Ok(())
+    checks.same(&field.states.get(), &[State::Free; ROOM]);
+    checks.verdict()
 }

@@ -3,6 +3,7 @@
 use futures::task::Context;
 use futures::test::MockTask;
 use std::test::Fail;
+use tests_support::checks::Checks;
 use tests_support::log::Log;
 use tests_support::run::text_of;
 use tests_support::script::{Mood, Reply, Script};
@@ -26,6 +27,7 @@ fn run(rt: HostRuntime, script: &Script<'_>, events: Vec<Event<u8, u64>>) -> Res
 
 #[test]
 fn call_without_a_ready_poll_is_skipped(rt: HostRuntime) -> Result<(), Fail> {
+    let checks = Checks::new(rt.alloc());
     let log = Log::new(rt.alloc())?;
     let script = Script::new(&log);
     script.moods(&[Mood::Willing, Mood::Willing, Mood::Willing, Mood::Broken(9)]);
@@ -41,34 +43,33 @@ fn call_without_a_ready_poll_is_skipped(rt: HostRuntime) -> Result<(), Fail> {
         Event::Call(0),
     ]?;
     let text = run(rt, &script, events)?;
-    assert_eq!(rt;
-        text.as_str(),
-        "skipped;ready;call 0;skipped;ready;ready;call 1;error 9;skipped;"
+    checks.same(
+        &text.as_str(),
+        &"skipped;ready;call 0;skipped;ready;ready;call 1;error 9;skipped;",
     );
-    assert_eq!(rt;
-        log.told(rt.alloc())?.as_str(),
-        "a ready;a called 0;a ready;a ready;a called 1;a error 9;a dropped;a(0) dropped;a(1) dropped;"
+    checks.told(
+        &log,
+        "a ready;a called 0;a ready;a ready;a called 1;a error 9;a dropped;a(0) dropped;a(1) dropped;",
     );
-    Ok(())
+    checks.verdict()
 }
 
 #[test]
 fn call_after_a_pending_poll_is_skipped(rt: HostRuntime) -> Result<(), Fail> {
+    let checks = Checks::new(rt.alloc());
     let log = Log::new(rt.alloc())?;
     let script = Script::new(&log);
     script.moods(&[Mood::Willing, Mood::Busy]);
     let events = vec![in rt.alloc(); Event::Poll, Event::Poll, Event::Call(0)]?;
     let text = run(rt, &script, events)?;
-    assert_eq!(rt; text.as_str(), "ready;pending;skipped;");
-    assert_eq!(rt;
-        log.told(rt.alloc())?.as_str(),
-        "a ready;a pending;a dropped;"
-    );
-    Ok(())
+    checks.same(&text.as_str(), &"ready;pending;skipped;");
+    checks.told(&log, "a ready;a pending;a dropped;");
+    checks.verdict()
 }
 
 #[test]
 fn finished_dropped_and_unknown_futures_are_skipped(rt: HostRuntime) -> Result<(), Fail> {
+    let checks = Checks::new(rt.alloc());
     let log = Log::new(rt.alloc())?;
     let script = Script::new(&log);
     script.replies(&[Reply::Echo(1)]);
@@ -85,19 +86,20 @@ fn finished_dropped_and_unknown_futures_are_skipped(rt: HostRuntime) -> Result<(
         Event::Drop(7),
     ]?;
     let text = run(rt, &script, events)?;
-    assert_eq!(rt;
-        text.as_str(),
-        "skipped;ready;call 0;0 pending;0 ok 1;skipped;drop 0;skipped;skipped;skipped;"
+    checks.same(
+        &text.as_str(),
+        &"skipped;ready;call 0;0 pending;0 ok 1;skipped;drop 0;skipped;skipped;skipped;",
     );
-    assert_eq!(rt;
-        log.told(rt.alloc())?.as_str(),
-        "a ready;a called 1;a(1) pending;a(1) ready;a(1) dropped;a dropped;"
+    checks.told(
+        &log,
+        "a ready;a called 1;a(1) pending;a(1) ready;a(1) dropped;a dropped;",
     );
-    Ok(())
+    checks.verdict()
 }
 
 #[test]
 fn closure_keeps_its_state(rt: HostRuntime) -> Result<(), Fail> {
+    let checks = Checks::new(rt.alloc());
     let log = Log::new(rt.alloc())?;
     let script = Script::new(&log);
     let text = run(
@@ -105,9 +107,9 @@ fn closure_keeps_its_state(rt: HostRuntime) -> Result<(), Fail> {
         &script,
         vec![in rt.alloc(); Event::Turn(2), Event::Turn(3)]?,
     )?;
-    assert_eq!(rt; text.as_str(), "at 2;at 5;");
+    checks.same(&text.as_str(), &"at 2;at 5;");
     let text = run(rt, &script, Vec::new(rt.alloc()))?;
-    assert_eq!(rt; text.as_str(), "");
-    assert_eq!(rt; log.told(rt.alloc())?.as_str(), "a dropped;a dropped;");
-    Ok(())
+    checks.same(&text.as_str(), &"");
+    checks.told(&log, "a dropped;a dropped;");
+    checks.verdict()
 }

@@ -2,12 +2,14 @@
 
 use std::alloc::AllocError;
 use std::test::Fail;
+use tests_support::checks::Checks;
 use tests_support::log::Log;
 use tests_support::plain::Plain;
 use tower_base::layer::{Identity, Layer, Stack, layer_fn};
 
 #[test]
 fn outer_layer_is_applied_to_what_the_inner_one_makes(rt: HostRuntime) -> Result<(), Fail> {
+    let checks = Checks::new(rt.alloc());
     let log = Log::new(rt.alloc())?;
     let ten = |x: u32| -> Result<u32, AllocError> {
         log.note(format_args!("ten {x}"));
@@ -18,15 +20,12 @@ fn outer_layer_is_applied_to_what_the_inner_one_makes(rt: HostRuntime) -> Result
         Ok(x.wrapping_add(1))
     };
     let ten_inside = Stack::new(layer_fn(ten), layer_fn(one));
-    assert_eq!(rt; ten_inside.layer(4)?, 41);
+    checks.same(&ten_inside.layer(4)?, &41);
     let one_inside = Stack::new(layer_fn(one), layer_fn(ten));
-    assert_eq!(rt; one_inside.layer(4)?, 50);
-    assert_eq!(rt; layer_fn(ten).clone()?.layer(4)?, 40);
-    assert_eq!(rt;
-        log.told(rt.alloc())?.as_str(),
-        "ten 4;one 40;one 4;ten 5;ten 4;"
-    );
-    Ok(())
+    checks.same(&one_inside.layer(4)?, &50);
+    checks.same(&layer_fn(ten).clone()?.layer(4)?, &40);
+    checks.told(&log, "ten 4;one 40;one 4;ten 5;ten 4;");
+    checks.verdict()
 }
 
 #[test]
@@ -38,6 +37,7 @@ fn identity_leaves_the_service(rt: HostRuntime) -> Result<(), Fail> {
 
 #[test]
 fn refusal_of_either_layer_is_handed_on(rt: HostRuntime) -> Result<(), Fail> {
+    let checks = Checks::new(rt.alloc());
     let log = Log::new(rt.alloc())?;
     let refusing = |_x: u32| -> Result<u32, AllocError> {
         log.note("refused");
@@ -48,37 +48,36 @@ fn refusal_of_either_layer_is_handed_on(rt: HostRuntime) -> Result<(), Fail> {
         Ok(x)
     };
     let inner = Stack::new(layer_fn(refusing), layer_fn(passing));
-    assert!(rt; inner.layer(4).is_err());
+    checks.holds(inner.layer(4).is_err());
     let outer = Stack::new(layer_fn(passing), layer_fn(refusing));
-    assert!(rt; outer.layer(4).is_err());
-    assert_eq!(rt; log.told(rt.alloc())?.as_str(), "refused;passed;refused;");
-    Ok(())
+    checks.holds(outer.layer(4).is_err());
+    checks.told(&log, "refused;passed;refused;");
+    checks.verdict()
 }
 
 #[test]
 fn clones_of_layers_are_made_of_each_part_once(rt: HostRuntime) -> Result<(), Fail> {
+    let checks = Checks::new(rt.alloc());
     let log = Log::new(rt.alloc())?;
     let stack = Stack::new(Plain::new(&log, 'i'), Plain::new(&log, 'o')).clone()?;
-    assert_eq!(rt;
-        log.told(rt.alloc())?.as_str(),
-        "i cloned i1;o cloned o2;i dropped;o dropped;"
-    );
+    checks.told(&log, "i cloned i1;o cloned o2;i dropped;o dropped;");
     drop(stack);
-    assert_eq!(rt; log.told(rt.alloc())?.as_str(), "i1 dropped;o2 dropped;");
-    Ok(())
+    checks.told(&log, "i1 dropped;o2 dropped;");
+    checks.verdict()
 }
 
 #[test]
 fn refused_clones_of_parts_are_handed_on(rt: HostRuntime) -> Result<(), Fail> {
+    let checks = Checks::new(rt.alloc());
     let log = Log::new(rt.alloc())?;
     let plain = || Plain::new(&log, 'p');
     let refusing = || Plain::refusing(&log, 'r');
-    assert!(rt; layer_fn(refusing()).clone().is_err());
-    assert!(rt; Stack::new(refusing(), plain()).clone().is_err());
-    assert!(rt; Stack::new(plain(), refusing()).clone().is_err());
-    assert_eq!(rt;
-        log.told(rt.alloc())?.as_str(),
-        "r refused;r dropped;r refused;r dropped;p dropped;p cloned p1;r refused;p1 dropped;p dropped;r dropped;"
+    checks.holds(layer_fn(refusing()).clone().is_err());
+    checks.holds(Stack::new(refusing(), plain()).clone().is_err());
+    checks.holds(Stack::new(plain(), refusing()).clone().is_err());
+    checks.told(
+        &log,
+        "r refused;r dropped;r refused;r dropped;p dropped;p cloned p1;r refused;p1 dropped;p dropped;r dropped;",
     );
-    Ok(())
+    checks.verdict()
 }

@@ -3,6 +3,7 @@ ghost use Rattle.std.specs.Prelude.{⊤};
 
 use std::hash::{BuildHasherDefault, DefaultHasher};
 use std::test::Fail;
+use tests_support::checks::Checks;
 use tower_base::util::rng::{HasherRng, Rng, sample_floyd2};
 
 // A generic body, so that the proof goes by the trait's contract.
@@ -28,12 +29,13 @@ fn words_are_the_hashes_of_a_counter(rt: HostRuntime) {
 
 #[test]
 fn a_clone_goes_on_from_the_same_counter(rt: HostRuntime) -> Result<(), Fail> {
+    let checks = Checks::new(rt.alloc());
     let mut rng: HasherRng<Sip> = HasherRng::with_hasher(BuildHasherDefault::new());
     rng.next_u64();
     let mut other = rng.clone()?;
-    assert_eq!(rt; words(&mut other), [SIP[1], SIP[2]]);
-    assert_eq!(rt; words(&mut rng), [SIP[1], SIP[2]]);
-    Ok(())
+    checks.same(&words(&mut other), &[SIP[1], SIP[2]]);
+    checks.same(&words(&mut rng), &[SIP[1], SIP[2]]);
+    checks.verdict()
 }
 
 #[test]

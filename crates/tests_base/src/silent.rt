@@ -5,6 +5,7 @@ use futures::executor::block_on;
 use futures::future::{Future, Ready, ok};
 use futures::task::{Context, Poll};
 use std::test::Fail;
+use tests_support::checks::Checks;
 use tests_support::future::After;
 use tests_support::log::Log;
 use tests_support::run::{awaited, fire, task};
@@ -60,10 +61,11 @@ impl Clock for Ticks {
 
 #[test]
 fn clock_that_says_only_its_reading_is_waited_for(rt: HostRuntime) -> Result<(), Fail> {
+    let checks = Checks::new(rt.alloc());
     let solo = task(&rt)?;
-    assert_eq!(rt; awaited(&solo, Sleep::new(Ticks { last: 0 }, 3)), Some(()));
-    assert_eq!(rt; awaited(&solo, Sleep::new(Ticks { last: 0 }, 300)), None);
-    Ok(())
+    checks.same(&awaited(&solo, Sleep::new(Ticks { last: 0 }, 3)), &Some(()));
+    checks.same(&awaited(&solo, Sleep::new(Ticks { last: 0 }, 300)), &None);
+    checks.verdict()
 }
 
 // Takes no task.
@@ -148,15 +150,13 @@ impl<F: Steps> Steps for Quiet<F> {
 
 #[test]
 fn futures_of_ones_own_are_polled(rt: HostRuntime) -> Result<(), Fail> {
+    let checks = Checks::new(rt.alloc());
     let log = Log::new(rt.alloc())?;
     let inner = Quiet {
         inner: After::new(&log, 'f', 2, 7),
     };
     let answer = block_on(&rt, Polls { inner, polls: 0 })?;
-    assert_eq!(rt; answer, 7);
-    assert_eq!(rt;
-        log.told(rt.alloc())?.as_str(),
-        "f pending;f pending;f ready;f dropped;"
-    );
-    Ok(())
+    checks.same(&answer, &7);
+    checks.told(&log, "f pending;f pending;f ready;f dropped;");
+    checks.verdict()
 }

@@ -216,16 +216,6 @@ where
     }
 }
 
-type Shared<'a, Q, F, R> = Buffer<Q, F, u8, Named<'a, Guarded<MailCore<Q, Pollable<F>, u8>, R>>>;
-
-type Tasked<'a, S, Q, F, R> = Worker<
-    S,
-    Q,
-    F,
-    u8,
-    Named<'a, Guarded<MailCore<Q, Pollable<F>, u8>, R>>,
->;
-
 /// What came of a run: all that was noted, the last drops too, and whether the mail has no place taken then.
 #[derive(Drop)]
 pub struct Story {
@@ -257,6 +247,35 @@ where
     Ok(())
 }
 
+// The same over this latch. The probe is a share of its core.
+fn told_over<R, Q, P, S, L, M>(
+    rt: &R,
+    stage: Stage<'_>,
+    packs: P,
+    service: S,
+    latch: L,
+    probe: M,
+    acts: &[Act],
+) -> Result<Story, Fail>
+where
+    R: RandomSource + AllocGlobal,
+    Q: Drop,
+    P: Packs<Q> + Drop,
+    S: Service<Q, Response = u8, Error = u8>,
+    L: Latch<MailCore<Q, Pollable<S::Future>, u8>>,
+    M: Latch<MailCore<Q, Pollable<S::Future>, u8>>,
+    requires { S.sound service }
+{
+    let (buffer, worker): (Buffer<Q, S::Future, u8, L>, Worker<S, Q, S::Future, u8, L>) =
+        Buffer::with_latch(latch, service)?;
+    play::<R, Q, P, Buffer<Q, S::Future, u8, L>, Worker<S, Q, S::Future, u8, L>>(
+        rt, stage, packs, buffer, worker, acts,
+    )?;
+    let told = stage.script.log.told(rt.alloc())?;
+    let is_over = matches!(probe.step(MailStep::Take), MailReply::End);
+    Ok(Story { told, is_over })
+}
+
 /// So many places, and these acts. What is left then is dropped: handles, responses, the worker.
 pub fn told<R, Q, P, S>(
     rt: R,
@@ -279,12 +298,5 @@ where
     let guarded = Guarded::new(rt, alloc, core)?;
     let probe = guarded.share()?;
     let latch = Named::new(stage.script.log, stage.shares, guarded);
-    let (buffer, worker): (Shared<'_, Q, S::Future, R>, Tasked<'_, S, Q, S::Future, R>) =
-        Buffer::with_latch(latch, service)?;
-    play::<R, Q, P, Shared<'_, Q, S::Future, R>, Tasked<'_, S, Q, S::Future, R>>(
-        &rt, stage, packs, buffer, worker, acts,
-    )?;
-    let told = stage.script.log.told(alloc)?;
-    let is_over = matches!(probe.step(MailStep::Take), MailReply::End);
-    Ok(Story { told, is_over })
+    told_over(&rt, stage, packs, service, latch, probe, acts)
 }

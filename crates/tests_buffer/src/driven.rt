@@ -8,6 +8,7 @@ use std::alloc::AllocGlobal;
 use std::random::RandomSource;
 use std::sync::Wait;
 use std::test::Fail;
+use tests_support::checks::Checks;
 use tests_support::log::Log;
 use tests_support::service::Scripted;
 use tests_support::story::{Act, Stage, Story, driven};
@@ -166,6 +167,7 @@ where
 
 #[test]
 fn a_buffer_round_a_limit(rt: HostRuntime) -> Result<(), Fail> {
+    let checks = Checks::new(rt.alloc());
     let alloc = rt.alloc();
     let log = Log::new(alloc)?;
     let stage = Stage::new(&log);
@@ -182,13 +184,13 @@ fn a_buffer_round_a_limit(rt: HostRuntime) -> Result<(), Fail> {
         Event::Future(1),
     ]?;
     let story = buffered(rt, &stage, Flat { inner: limit }, events)?;
-    assert_eq!(rt;
-        story.entries.as_str(),
-        "ready;call 0;ready;call 1;0 ok 7;1 pending;drop 0;ready;1 ok 8;"
+    checks.same(
+        &story.entries.as_str(),
+        &"ready;call 0;ready;call 1;0 ok 7;1 pending;drop 0;ready;1 ok 8;",
     );
-    assert_eq!(rt;
-        story.told.as_str(),
-        "s ready;s called 7;s(7) ready;s(7) dropped;s ready;s called 8;s(8) ready;s dropped;s(8) dropped;"
+    checks.same(
+        &story.told.as_str(),
+        &"s ready;s called 7;s(7) ready;s(7) dropped;s ready;s called 8;s(8) ready;s dropped;s(8) dropped;",
     );
-    Ok(())
+    checks.verdict()
 }

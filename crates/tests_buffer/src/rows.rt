@@ -342,9 +342,9 @@ fn a_full_queue_waits_for_the_worker(rt: HostRuntime) -> Result<(), Fail> {
          worker pending;Reserve;Send;Reserve;b0 pending;Live 0;s pending;worker pending;Live 0;\
          s ready;s called 1;Answer 0;Take;s pending;worker pending;Outcome 0;s(1) ready;\
          r0 is 1;s(1) dropped;Look 0;Send;Live 1;s pending;worker pending;Live 1;s ready;\
-         s called 2;Answer 1;Take;s ready;s called 3;Answer 2;Take;s ready;s called 4;Answer 3;\
+         s called 2;Answer 1;Take;s ready;s called 3;Answer 2;Take;s ready;s called 4;Answer 0;\
          Take;worker pending;Outcome 1;s(2) ready;r1 is 2;s(2) dropped;Outcome 2;s(3) ready;\
-         r2 is 3;s(3) dropped;Outcome 3;s(4) ready;r3 is 4;s(4) dropped;Part;WorkerGone;\
+         r2 is 3;s(3) dropped;Outcome 0;s(4) ready;r3 is 4;s(4) dropped;Part;WorkerGone;\
          s dropped;";
     tells(rt, 2, &acts, want)
 }

@@ -5,6 +5,7 @@ use futures::future::{Ready, ready};
 use futures::task::{Context, Poll, Solo};
 use std::fmt::Write;
 use std::test::Fail;
+use tests_support::checks::Checks;
 use tests_support::future::After;
 use tests_support::log::Log;
 use tests_support::run::{fire, task};
@@ -61,47 +62,50 @@ fn call_all_answers_each_request(rt: HostRuntime) -> Result<(), Fail> {
 
 #[test]
 fn predicates_keep_requests_outside(rt: HostRuntime) -> Result<(), Fail> {
+    let checks = Checks::new(rt.alloc());
     let log = Log::new(rt.alloc())?;
     let script = Script::new(&log);
     let solo = task(&rt)?;
     let small = |x: u8| if x < 100 { Ok(x) } else { Err(x) };
     let service = Scripted::new(&script, 's').filter(PredicateFn::new(small));
-    assert!(rt; matches!(fire(&solo, service, 200u8), Some(Err(Error::Rejected(200)))));
+    checks.holds(matches!(fire(&solo, service, 200u8), Some(Err(Error::Rejected(200)))));
     let later = |x: u8| After::new(&log, 'c', 1, if x < 100 { Ok(x) } else { Err(x) });
     let service = Scripted::new(&script, 't').filter_async(AsyncPredicateFn::new(later));
-    assert!(rt; matches!(fire(&solo, service, 200u8), Some(Err(Error::Rejected(200)))));
-    assert_eq!(rt;
-        log.told(rt.alloc())?.as_str(),
-        "s ready;s dropped;t ready;t cloned t1;c pending;c ready;c dropped;t dropped;t1 dropped;"
+    checks.holds(matches!(fire(&solo, service, 200u8), Some(Err(Error::Rejected(200)))));
+    checks.told(
+        &log,
+        "s ready;s dropped;t ready;t cloned t1;c pending;c ready;c dropped;t dropped;t1 dropped;",
     );
-    Ok(())
+    checks.verdict()
 }
 
 #[test]
 fn closure_over_requests(rt: HostRuntime) -> Result<(), Fail> {
+    let checks = Checks::new(rt.alloc());
     let log = Log::new(rt.alloc())?;
     let script = Script::new(&log);
     let solo = task(&rt)?;
     let service = Scripted::new(&script, 's').map_request(|x: u8| x.wrapping_add(1));
-    assert_eq!(rt; fire(&solo, service, 6u8), Some(Ok(7)));
-    assert_eq!(rt;
-        log.told(rt.alloc())?.as_str(),
-        "s ready;s called 7;s(7) ready;s(7) dropped;s dropped;"
+    checks.same(&fire(&solo, service, 6u8), &Some(Ok(7)));
+    checks.told(
+        &log,
+        "s ready;s called 7;s(7) ready;s(7) dropped;s dropped;",
     );
-    Ok(())
+    checks.verdict()
 }
 
 #[test]
 fn closures_over_answers(rt: HostRuntime) -> Result<(), Fail> {
+    let checks = Checks::new(rt.alloc());
     let log = Log::new(rt.alloc())?;
     let script = Script::new(&log);
     let solo = task(&rt)?;
     script.replies(&[Reply::Echo(0), Reply::Fail(0)]);
     let plus = |x: u8| x.wrapping_add(1);
     let service = || Scripted::new(&script, 's');
-    assert_eq!(rt; fire(&solo, service().map_response(plus), 7), Some(Ok(8)));
-    assert_eq!(rt; fire(&solo, service().map_err(plus), 9), Some(Err(10)));
-    Ok(())
+    checks.same(&fire(&solo, service().map_response(plus), 7), &Some(Ok(8)));
+    checks.same(&fire(&solo, service().map_err(plus), 9), &Some(Err(10)));
+    checks.verdict()
 }
 
 // The answer to a 6 of the service under the closure.
@@ -164,16 +168,17 @@ impl Service<u8> for Same {
 
 #[test]
 fn closure_over_futures_is_given_each_once(rt: HostRuntime) -> Result<(), Fail> {
+    let checks = Checks::new(rt.alloc());
     let log = Log::new(rt.alloc())?;
     let solo = task(&rt)?;
     let same = |future: Ready<Result<u8, u8>>| {
         log.note("given");
         future
     };
-    assert_eq!(rt;
-        fire(&solo, Same.map_future(same), 6),
-        Some(Ok::<u8, u8>(6))
+    checks.same(
+        &fire(&solo, Same.map_future(same), 6),
+        &Some(Ok::<u8, u8>(6)),
     );
-    assert_eq!(rt; log.told(rt.alloc())?.as_str(), "given;");
-    Ok(())
+    checks.told(&log, "given;");
+    checks.verdict()
 }

@@ -3,6 +3,7 @@
 use futures::executor::block_on;
 use std::cell::Cell;
 use std::test::Fail;
+use tests_support::checks::Checks;
 use tests_support::log::Log;
 use tests_support::run::{awaited, task};
 use tests_support::script::{Mood, Reply, Script};
@@ -11,24 +12,26 @@ use tower::{Service, ServiceExt};
 
 #[test]
 fn ready_gives_the_borrow_back(rt: HostRuntime) -> Result<(), Fail> {
+    let checks = Checks::new(rt.alloc());
     let log = Log::new(rt.alloc())?;
     let script = Script::new(&log);
     let solo = task(&rt)?;
     script.moods(&[Mood::Busy, Mood::Willing]);
     let mut service = Scripted::new(&script, 's');
     match block_on(&rt, service.ready())? {
-        Ok(lent) => assert_eq!(rt; awaited(&solo, lent.call(6)), Some(Ok(6))),
-        Err(_) => assert!(rt; false),
+        Ok(lent) => checks.same(&awaited(&solo, lent.call(6)), &Some(Ok(6))),
+        Err(_) => checks.holds(false),
     }
-    assert_eq!(rt;
-        log.told(rt.alloc())?.as_str(),
-        "s pending;s ready;s called 6;s(6) ready;s(6) dropped;"
+    checks.told(
+        &log,
+        "s pending;s ready;s called 6;s(6) ready;s(6) dropped;",
     );
-    Ok(())
+    checks.verdict()
 }
 
 #[test]
 fn ready_oneshot_gives_the_service_back(rt: HostRuntime) -> Result<(), Fail> {
+    let checks = Checks::new(rt.alloc());
     let log = Log::new(rt.alloc())?;
     let script = Script::new(&log);
     script.moods(&[Mood::Busy, Mood::Willing, Mood::Broken(90)]);
@@ -37,57 +40,56 @@ fn ready_oneshot_gives_the_service_back(rt: HostRuntime) -> Result<(), Fail> {
         Ok(mut service) => {
             drop(service.call(6));
         }
-        Err(_) => assert!(rt; false),
+        Err(_) => checks.holds(false),
     }
-    assert_eq!(rt;
-        log.told(rt.alloc())?.as_str(),
-        "s pending;s ready;s called 6;s(6) dropped;s dropped;"
-    );
+    checks.told(&log, "s pending;s ready;s called 6;s(6) dropped;s dropped;");
     match block_on(&rt, Scripted::new(&script, 't').ready_oneshot())? {
-        Ok(_) => assert!(rt; false),
-        Err(error) => assert_eq!(rt; error, 90),
+        Ok(_) => checks.holds(false),
+        Err(error) => checks.same(&error, &90),
     }
-    Ok(())
+    checks.verdict()
 }
 
 #[test]
 fn oneshot_waits_and_calls_once(rt: HostRuntime) -> Result<(), Fail> {
+    let checks = Checks::new(rt.alloc());
     let log = Log::new(rt.alloc())?;
     let script = Script::new(&log);
     script.moods(&[Mood::Busy, Mood::Willing]);
     script.replies(&[Reply::Echo(1)]);
-    assert_eq!(rt;
-        block_on(&rt, Scripted::new(&script, 's').oneshot(6))?,
-        Ok(6)
+    checks.same(
+        &block_on(&rt, Scripted::new(&script, 's').oneshot(6))?,
+        &Ok(6),
     );
-    assert_eq!(rt;
-        log.told(rt.alloc())?.as_str(),
-        "s pending;s ready;s called 6;s(6) pending;s dropped;s(6) ready;s(6) dropped;"
+    checks.told(
+        &log,
+        "s pending;s ready;s called 6;s(6) pending;s dropped;s(6) ready;s(6) dropped;",
     );
-    Ok(())
+    checks.verdict()
 }
 
 #[test]
 fn waits_on_a_borrowed_service(rt: HostRuntime) -> Result<(), Fail> {
+    let checks = Checks::new(rt.alloc());
     let log = Log::new(rt.alloc())?;
     let script = Script::new(&log);
     script.moods(&[Mood::Busy, Mood::Willing]);
     let mut service = Scripted::new(&script, 's');
-    assert_eq!(rt; service.block_on_ready(&rt)?, Ok(()));
-    assert_eq!(rt; service.block_on_call(&rt, 6)?, Ok(6));
-    assert_eq!(rt;
-        log.told(rt.alloc())?.as_str(),
-        "s pending;s ready;s ready;s called 6;s(6) ready;s(6) dropped;"
+    checks.same(&service.block_on_ready(&rt)?, &Ok(()));
+    checks.same(&service.block_on_call(&rt, 6)?, &Ok(6));
+    checks.told(
+        &log,
+        "s pending;s ready;s ready;s called 6;s(6) ready;s(6) dropped;",
     );
     let sum = Cell::new(0u8);
     let requests = vec![in rt.alloc(); 7u8, 8]?;
     service.block_on_each(&rt, requests, |answer: Result<u8, u8>| {
         sum.set(sum.get().wrapping_add(answer.unwrap_or(0)));
     })?;
-    assert_eq!(rt; sum.get(), 15);
-    assert_eq!(rt;
-        log.told(rt.alloc())?.as_str(),
-        "s ready;s called 7;s(7) ready;s(7) dropped;s ready;s called 8;s(8) ready;s(8) dropped;"
+    checks.same(&sum.get(), &15);
+    checks.told(
+        &log,
+        "s ready;s called 7;s(7) ready;s(7) dropped;s ready;s called 8;s(8) ready;s(8) dropped;",
     );
-    Ok(())
+    checks.verdict()
 }

@@ -2,6 +2,7 @@
 
 use crate::parts::Twice;
 use std::test::Fail;
+use tests_support::checks::Checks;
 use tests_support::clock::Hand;
 use tests_support::log::Log;
 use tests_support::script::Mood::{Broken, Busy, Willing};
@@ -21,6 +22,7 @@ fn run(rt: &HostRuntime, stage: &Stage<'_>, events: Vec<Event<u8, Act>>) -> Resu
 // Nothing inside is asked before the delay is over, and it is always ready.
 #[test]
 fn clone_is_asked_after_the_delay(rt: HostRuntime) -> Result<(), Fail> {
+    let checks = Checks::new(rt.alloc());
     let log = Log::new(rt.alloc())?;
     let stage = Stage::new(&log);
     stage.script.moods(&[Busy, Willing]);
@@ -37,17 +39,17 @@ fn clone_is_asked_after_the_delay(rt: HostRuntime) -> Result<(), Fail> {
         Event::Future(0),
     ]?;
     let story = run(&rt, &stage, events)?;
-    assert_eq!(rt;
-        story.entries.as_str(),
-        "at 3;ready;call 0;at 9;0 pending;at 10;0 pending;0 pending;0 ok 7;"
+    checks.same(
+        &story.entries.as_str(),
+        &"at 3;ready;call 0;at 9;0 pending;at 10;0 pending;0 pending;0 ok 7;",
     );
-    assert_eq!(rt;
-        story.told.as_str(),
-        "delay 7;clock shared;clock read 3;s cloned s1;clock read 9;clock read 10;clock dropped;s1 pending;\
+    checks.same(
+        &story.told.as_str(),
+        &"delay 7;clock shared;clock read 3;s cloned s1;clock read 9;clock read 10;clock dropped;s1 pending;\
          s1 ready;s1 called 7;s1(7) pending;s1 dropped;s1(7) ready;s1(7) dropped;\
-         p dropped;s dropped;clock dropped;"
+         p dropped;s dropped;clock dropped;",
     );
-    Ok(())
+    checks.verdict()
 }
 
 #[test]
@@ -74,25 +76,27 @@ fn errors_are_the_services(rt: HostRuntime) -> Result<(), Fail> {
 
 #[test]
 fn refused_clone_is_the_answer_and_nothing_is_called(rt: HostRuntime) -> Result<(), Fail> {
+    let checks = Checks::new(rt.alloc());
     let log = Log::new(rt.alloc())?;
     let stage = Stage::new(&log);
     stage.script.clones(0);
     let events = vec![in rt.alloc(); Event::Poll, Event::Call(7), Event::Future(0)]?;
     let story = run(&rt, &stage, events)?;
-    assert_eq!(rt;
-        story.entries.as_str(),
-        "ready;call 0;0 error out of memory;"
+    checks.same(
+        &story.entries.as_str(),
+        &"ready;call 0;0 error out of memory;",
     );
-    assert_eq!(rt;
-        story.told.as_str(),
-        "delay 7;clock shared;clock read 0;s refused;clock dropped;p dropped;s dropped;clock dropped;"
+    checks.same(
+        &story.told.as_str(),
+        &"delay 7;clock shared;clock read 0;s refused;clock dropped;p dropped;s dropped;clock dropped;",
     );
-    Ok(())
+    checks.verdict()
 }
 
 // The clone that waits is dropped with its future.
 #[test]
 fn waiting_call_is_dropped(rt: HostRuntime) -> Result<(), Fail> {
+    let checks = Checks::new(rt.alloc());
     let log = Log::new(rt.alloc())?;
     let stage = Stage::new(&log);
     let events = vec![in rt.alloc();
@@ -102,23 +106,24 @@ fn waiting_call_is_dropped(rt: HostRuntime) -> Result<(), Fail> {
         Event::Drop(0),
     ]?;
     let story = run(&rt, &stage, events)?;
-    assert_eq!(rt; story.entries.as_str(), "ready;call 0;0 pending;drop 0;");
-    assert_eq!(rt;
-        story.told.as_str(),
-        "delay 7;clock shared;clock read 0;s cloned s1;clock read 0;clock dropped;s1 dropped;\
-         p dropped;s dropped;clock dropped;"
+    checks.same(&story.entries.as_str(), &"ready;call 0;0 pending;drop 0;");
+    checks.same(
+        &story.told.as_str(),
+        &"delay 7;clock shared;clock read 0;s cloned s1;clock read 0;clock dropped;s1 dropped;\
+         p dropped;s dropped;clock dropped;",
     );
-    Ok(())
+    checks.verdict()
 }
 
 #[test]
 fn errors_have_texts(rt: HostRuntime) -> Result<(), Fail> {
+    let checks = Checks::new(rt.alloc());
     let inner: Error<u8> = Error::Inner(8);
-    assert_eq!(rt; format!(in rt.alloc(); "{inner}")?.as_str(), "8");
+    checks.same(&format!(in rt.alloc(); "{inner}")?.as_str(), &"8");
     let memory: Error<u8> = Error::Memory;
-    assert_eq!(rt;
-        format!(in rt.alloc(); "{memory}")?.as_str(),
-        "out of memory"
+    checks.same(
+        &format!(in rt.alloc(); "{memory}")?.as_str(),
+        &"out of memory",
     );
-    Ok(())
+    checks.verdict()
 }

@@ -7,6 +7,7 @@ use std::cell::Cell;
 use std::random::RandomSource;
 use std::sync::Wait;
 use std::test::Fail;
+use tests_support::checks::Checks;
 use tests_support::clock::Hand;
 use tests_support::latch::Noting;
 use tests_support::log::Log;
@@ -77,17 +78,18 @@ fn calls_of(story: &Story) -> usize {
 
 #[test]
 fn second_call_comes_after_the_time_of_nine_of_ten(rt: HostRuntime) -> Result<(), Fail> {
+    let checks = Checks::new(rt.alloc());
     let log = Log::new(rt.alloc())?;
     let stage = Stage::new(&log);
     stage.script.replies(&[Reply::Never, Reply::Give(0, Ok(2))]);
     let story = run(rt, &stage, 10, one_call(&rt, 7)?)?;
-    assert_eq!(rt;
-        story.entries.as_str(),
-        "ready;call 0;0 pending;at 9999999;0 pending;at 10000000;0 ok 2;"
+    checks.same(
+        &story.entries.as_str(),
+        &"ready;call 0;0 pending;at 9999999;0 pending;at 10000000;0 ok 2;",
     );
-    assert_eq!(rt;
-        told_of(&story),
-        "s1 ready;copied 7;clock read 0;latch stepped Points(0);\
+    checks.same(
+        &told_of(&story),
+        &"s1 ready;copied 7;clock read 0;latch stepped Points(0);\
          clock read 0;latch stepped Quantile(0, Fraction { numerator: 9, divisor: 10 });\
          clock shared;clock read 0;latch shared;clock shared;s cloned s3;clock shared;p2 cloned p4;\
          clock read 0;latch shared;clock shared;s1 called 7;clock shared;\
@@ -100,76 +102,80 @@ fn second_call_comes_after_the_time_of_nine_of_ten(rt: HostRuntime) -> Result<()
          latch dropped;clock dropped;s5 dropped;clock dropped;p4 dropped;\
          p dropped;latch dropped;clock dropped;latch dropped;clock dropped;s1 dropped;clock dropped;\
          latch dropped;clock dropped;latch dropped;clock dropped;s dropped;clock dropped;p2 dropped;clock dropped;\
-         latch dropped;clock dropped;s1(7) dropped;clock dropped;"
+         latch dropped;clock dropped;s1(7) dropped;clock dropped;",
     );
-    Ok(())
+    checks.verdict()
 }
 
 #[test]
 fn request_that_may_not_be_repeated_is_called_once(rt: HostRuntime) -> Result<(), Fail> {
+    let checks = Checks::new(rt.alloc());
     let log = Log::new(rt.alloc())?;
     let stage = Stage::new(&log);
     stage.script.replies(&[Reply::Never]);
     let story = run(rt, &stage, 10, one_call(&rt, ONCE)?)?;
-    assert_eq!(rt;
-        story.entries.as_str(),
-        "ready;call 0;0 pending;at 9999999;0 pending;at 10000000;0 pending;"
+    checks.same(
+        &story.entries.as_str(),
+        &"ready;call 0;0 pending;at 9999999;0 pending;at 10000000;0 pending;",
     );
-    assert_eq!(rt; calls_of(&story), 1);
-    assert_eq!(rt; story.told.as_str().split("allowed 91 false;").count(), 2);
-    Ok(())
+    checks.same(&calls_of(&story), &1);
+    checks.same(&story.told.as_str().split("allowed 91 false;").count(), &2);
+    checks.verdict()
 }
 
 // The service isn't cloned for a second call, and the clock isn't asked how many points there are.
 #[test]
 fn request_without_a_copy_is_called_once(rt: HostRuntime) -> Result<(), Fail> {
+    let checks = Checks::new(rt.alloc());
     let log = Log::new(rt.alloc())?;
     let stage = Stage::new(&log);
     stage.script.replies(&[Reply::Give(2, Ok(4))]);
     let story = run(rt, &stage, 10, one_call(&rt, NO_COPY)?)?;
-    assert_eq!(rt;
-        story.entries.as_str(),
-        "ready;call 0;0 pending;at 9999999;0 pending;at 10000000;0 ok 4;"
+    checks.same(
+        &story.entries.as_str(),
+        &"ready;call 0;0 pending;at 9999999;0 pending;at 10000000;0 ok 4;",
     );
-    assert_eq!(rt; calls_of(&story), 1);
-    assert_eq!(rt;
-        told_of(&story),
-        "s1 ready;left 90;clock read 0;latch shared;clock shared;s1 called 90;clock shared;\
+    checks.same(&calls_of(&story), &1);
+    checks.same(
+        &told_of(&story),
+        &"s1 ready;left 90;clock read 0;latch shared;clock shared;s1 called 90;clock shared;\
          s1(90) pending;s1(90) pending;s1(90) ready;\
          clock read 10000000;clock read 10000000;latch stepped Record(10000000, 10);\
          p dropped;latch dropped;clock dropped;latch dropped;clock dropped;s1 dropped;clock dropped;\
          latch dropped;clock dropped;latch dropped;clock dropped;s dropped;clock dropped;p2 dropped;clock dropped;\
-         latch dropped;clock dropped;s1(90) dropped;clock dropped;"
+         latch dropped;clock dropped;s1(90) dropped;clock dropped;",
     );
-    Ok(())
+    checks.verdict()
 }
 
 // Ten points are known, and eleven are asked for.
 #[test]
 fn too_few_points_give_one_call(rt: HostRuntime) -> Result<(), Fail> {
+    let checks = Checks::new(rt.alloc());
     let log = Log::new(rt.alloc())?;
     let stage = Stage::new(&log);
     stage.script.replies(&[Reply::Never]);
     let story = run(rt, &stage, 11, one_call(&rt, 7)?)?;
-    assert_eq!(rt;
-        story.entries.as_str(),
-        "ready;call 0;0 pending;at 9999999;0 pending;at 10000000;0 pending;"
+    checks.same(
+        &story.entries.as_str(),
+        &"ready;call 0;0 pending;at 9999999;0 pending;at 10000000;0 pending;",
     );
-    assert_eq!(rt; calls_of(&story), 1);
-    assert_eq!(rt;
-        story.told.as_str().split("latch stepped Points").count(),
-        2
+    checks.same(&calls_of(&story), &1);
+    checks.same(
+        &story.told.as_str().split("latch stepped Points").count(),
+        &2,
     );
-    assert_eq!(rt;
-        story.told.as_str().split("latch stepped Quantile").count(),
-        1
+    checks.same(
+        &story.told.as_str().split("latch stepped Quantile").count(),
+        &1,
     );
-    Ok(())
+    checks.verdict()
 }
 
 // The waiting second call is dropped with its clone.
 #[test]
 fn first_answer_before_the_delay(rt: HostRuntime) -> Result<(), Fail> {
+    let checks = Checks::new(rt.alloc());
     let log = Log::new(rt.alloc())?;
     let stage = Stage::new(&log);
     stage.script.replies(&[Reply::Give(1, Ok(3))]);
@@ -181,18 +187,19 @@ fn first_answer_before_the_delay(rt: HostRuntime) -> Result<(), Fail> {
         Event::Future(0),
     ]?;
     let story = run(rt, &stage, 10, events)?;
-    assert_eq!(rt;
-        story.entries.as_str(),
-        "ready;call 0;0 pending;at 9000000;0 ok 3;"
+    checks.same(
+        &story.entries.as_str(),
+        &"ready;call 0;0 pending;at 9000000;0 ok 3;",
     );
-    assert_eq!(rt; calls_of(&story), 1);
-    assert_eq!(rt; story.told.as_str().split("s cloned s3;").count(), 2);
-    assert_eq!(rt; story.told.as_str().split("s3 dropped;").count(), 2);
-    Ok(())
+    checks.same(&calls_of(&story), &1);
+    checks.same(&story.told.as_str().split("s cloned s3;").count(), &2);
+    checks.same(&story.told.as_str().split("s3 dropped;").count(), &2);
+    checks.verdict()
 }
 
 #[test]
 fn first_answer_after_the_second_call(rt: HostRuntime) -> Result<(), Fail> {
+    let checks = Checks::new(rt.alloc());
     let log = Log::new(rt.alloc())?;
     let stage = Stage::new(&log);
     stage.script.replies(&[Reply::Gated(Ok(1)), Reply::Never]);
@@ -205,20 +212,20 @@ fn first_answer_after_the_second_call(rt: HostRuntime) -> Result<(), Fail> {
         Event::Future(0),
     ]?;
     let story = run(rt, &stage, 10, events)?;
-    assert_eq!(rt;
-        story.entries.as_str(),
-        "ready;call 0;at 11000000;0 pending;at 11000000;0 ok 1;"
+    checks.same(
+        &story.entries.as_str(),
+        &"ready;call 0;at 11000000;0 pending;at 11000000;0 ok 1;",
     );
-    assert_eq!(rt; calls_of(&story), 2);
-    assert_eq!(rt;
-        story
+    checks.same(&calls_of(&story), &2);
+    checks.same(
+        &story
             .told
             .as_str()
             .split("latch stepped Record(11000000, 11);")
             .count(),
-        2
+        &2,
     );
-    Ok(())
+    checks.verdict()
 }
 
 // The first service's errors, and those of the second call, are `Inner`; a refused clone is `Memory`.
@@ -259,12 +266,13 @@ fn errors_of_both_calls(rt: HostRuntime) -> Result<(), Fail> {
 
 #[test]
 fn making_shares_one_histogram(rt: HostRuntime) -> Result<(), Fail> {
+    let checks = Checks::new(rt.alloc());
     let log = Log::new(rt.alloc())?;
     let stage = Stage::new(&log);
     stage.moment.set(3);
     let events = Vec::new(rt.alloc());
     let story = run(rt, &stage, 10, events)?;
-    assert_eq!(rt; story.entries.as_str(), "");
+    checks.same(&story.entries.as_str(), &"");
     let seeds = "clock read 3;latch stepped Seed(3, 1);clock read 3;latch stepped Seed(3, 1);\
          clock read 3;latch stepped Seed(3, 1);clock read 3;latch stepped Seed(3, 1);\
          clock read 3;latch stepped Seed(3, 1);clock read 3;latch stepped Seed(3, 1);\
@@ -274,13 +282,13 @@ fn making_shares_one_histogram(rt: HostRuntime) -> Result<(), Fail> {
         "latch shared;clock shared;s cloned s1;clock shared;latch shared;clock shared;clock shared;\
          p cloned p2;latch shared;clock shared;clock shared;clock dropped;";
     let told = story.told.as_str();
-    assert!(rt; told.starts_with("clock shared;"));
-    assert_eq!(rt; told.split(seeds).count(), 2);
-    assert_eq!(rt; told.split(parts).count(), 2);
-    assert_eq!(rt;
-        told_of(&story),
-        "p dropped;latch dropped;clock dropped;latch dropped;clock dropped;s1 dropped;clock dropped;\
-         latch dropped;clock dropped;latch dropped;clock dropped;s dropped;clock dropped;p2 dropped;clock dropped;"
+    checks.holds(told.starts_with("clock shared;"));
+    checks.same(&told.split(seeds).count(), &2);
+    checks.same(&told.split(parts).count(), &2);
+    checks.same(
+        &told_of(&story),
+        &"p dropped;latch dropped;clock dropped;latch dropped;clock dropped;s1 dropped;clock dropped;\
+         latch dropped;clock dropped;latch dropped;clock dropped;s dropped;clock dropped;p2 dropped;clock dropped;",
     );
-    Ok(())
+    checks.verdict()
 }

@@ -5,6 +5,7 @@ use std::alloc::AllocGlobal;
 use std::cell::Cell;
 use std::process::Abort;
 use std::test::Fail;
+use tests_support::checks::Checks;
 use tests_support::clock::Hand;
 use tests_support::latch::Noting;
 use tests_support::log::Log;
@@ -73,11 +74,12 @@ fn long_gaps_leave_nothing(rt: HostRuntime) -> Result<(), Fail> {
 
 #[test]
 fn quantiles_of_ten_seeds(rt: HostRuntime) -> Result<(), Fail> {
+    let checks = Checks::new(rt.alloc());
     let mut core = HistoCore::new(rt.alloc(), 10, 0);
     let none = core.step(HistoStep::Quantile(0, Fraction::new(9, 10)));
-    assert_eq!(rt; none, HistoReply::Millis(0));
+    checks.same(&none, &HistoReply::Millis(0));
     for millis in [1, 10, 1, 1, 1, 10, 1, 1, 1, 1] {
-        assert_eq!(rt; core.step(HistoStep::Seed(0, millis)), HistoReply::Done);
+        checks.same(&core.step(HistoStep::Seed(0, millis)), &HistoReply::Done);
     }
     for (fraction, millis) in [
         (Fraction::new(9, 10), 10),
@@ -88,22 +90,24 @@ fn quantiles_of_ten_seeds(rt: HostRuntime) -> Result<(), Fail> {
         let step = HistoStep::Quantile(9, fraction);
         assert_eq!(rt; core.step(step), HistoReply::Millis(millis), "at {step:?}");
     }
-    assert_eq!(rt; core.step(HistoStep::Points(9)), HistoReply::Count(10));
-    assert_eq!(rt; core.step(HistoStep::Points(10)), HistoReply::Count(0));
-    Ok(())
+    checks.same(&core.step(HistoStep::Points(9)), &HistoReply::Count(10));
+    checks.same(&core.step(HistoStep::Points(10)), &HistoReply::Count(0));
+    checks.verdict()
 }
 
 #[test]
 fn periods_that_fit(rt: HostRuntime) -> Result<(), Fail> {
-    assert!(rt; !HistoCore::fits(0));
-    assert!(rt; HistoCore::fits(1));
-    assert!(rt; HistoCore::fits(u64::MAX));
-    Ok(())
+    let checks = Checks::new(rt.alloc());
+    checks.holds(!HistoCore::fits(0));
+    checks.holds(HistoCore::fits(1));
+    checks.holds(HistoCore::fits(u64::MAX));
+    checks.verdict()
 }
 
 // Nanoseconds become milliseconds, rounded up. Each call makes one reading and then one step.
 #[test]
 fn each_call_is_one_reading_and_one_step(rt: HostRuntime) -> Result<(), Fail> {
+    let checks = Checks::new(rt.alloc());
     let alloc = rt.alloc();
     let log = Log::new(alloc)?;
     let moment = Cell::new(23);
@@ -114,32 +118,33 @@ fn each_call_is_one_reading_and_one_step(rt: HostRuntime) -> Result<(), Fail> {
     for nanos in [0, 1, 1_000_000, 1_000_000_001] {
         histogram.record(nanos);
     }
-    assert_eq!(rt;
-        log.told(alloc)?.as_str(),
+    checks.told(
+        &log,
         "clock read 23;latch stepped Record(23, 0);clock read 23;latch stepped Record(23, 1);\
-         clock read 23;latch stepped Record(23, 1);clock read 23;latch stepped Record(23, 1001);"
+         clock read 23;latch stepped Record(23, 1);clock read 23;latch stepped Record(23, 1001);",
     );
     moment.set(1019);
-    assert_eq!(rt; histogram.points(), 0);
+    checks.same(&histogram.points(), &0);
     moment.set(1020);
     let mut clone = histogram.clone()?;
-    assert_eq!(rt; clone.points(), 4);
-    assert_eq!(rt; clone.quantile(Fraction::new(3, 4)), 1);
+    checks.same(&clone.points(), &4);
+    checks.same(&clone.quantile(Fraction::new(3, 4)), &1);
     histogram.seed_all(&[5, 6]);
-    assert_eq!(rt; clone.quantile(Fraction::new(1, 1)), 1001);
-    assert_eq!(rt;
-        log.told(alloc)?.as_str(),
+    checks.same(&clone.quantile(Fraction::new(1, 1)), &1001);
+    checks.told(
+        &log,
         "clock read 1019;latch stepped Points(1019);latch shared;clock shared;\
          clock read 1020;latch stepped Points(1020);\
          clock read 1020;latch stepped Quantile(1020, Fraction { numerator: 3, divisor: 4 });\
          clock read 1020;latch stepped Seed(1020, 5);clock read 1020;latch stepped Seed(1020, 6);\
-         clock read 1020;latch stepped Quantile(1020, Fraction { numerator: 1, divisor: 1 });"
+         clock read 1020;latch stepped Quantile(1020, Fraction { numerator: 1, divisor: 1 });",
     );
-    Ok(())
+    checks.verdict()
 }
 
 #[test]
 fn clone_without_a_share_is_refused(rt: HostRuntime) -> Result<(), Fail> {
+    let checks = Checks::new(rt.alloc());
     let alloc = rt.alloc();
     let log = Log::new(alloc)?;
     let moment = Cell::new(0);
@@ -147,29 +152,30 @@ fn clone_without_a_share_is_refused(rt: HostRuntime) -> Result<(), Fail> {
     let core = HistoCore::new(alloc, 1000, 0);
     let latch = Noting::new(&log, &shares, Guarded::new(rt, alloc, core)?);
     let histogram = RotatingHistogram::with_latch(latch, Hand::new(&log, &moment));
-    assert!(rt; histogram.clone().is_err());
-    assert_eq!(rt; log.told(alloc)?.as_str(), "latch refused;");
-    Ok(())
+    checks.holds(histogram.clone().is_err());
+    checks.told(&log, "latch refused;");
+    checks.verdict()
 }
 
 #[test]
 fn histogram_of_ones_own_begins_at_its_making(rt: HostRuntime) -> Result<(), Fail> {
+    let checks = Checks::new(rt.alloc());
     let log = Log::new(rt.alloc())?;
     let moment = Cell::new(95);
     let clock = Hand::new(&log, &moment);
     let mut histogram = RotatingHistogram::new(rt, rt.alloc(), 100, clock)?;
     histogram.record(3_000_000);
     moment.set(194);
-    assert_eq!(rt; histogram.points(), 0);
+    checks.same(&histogram.points(), &0);
     moment.set(195);
-    assert_eq!(rt; histogram.points(), 1);
+    checks.same(&histogram.points(), &1);
     moment.set(294);
-    assert_eq!(rt; histogram.quantile(Fraction::new(9, 10)), 3);
+    checks.same(&histogram.quantile(Fraction::new(9, 10)), &3);
     moment.set(295);
-    assert_eq!(rt; histogram.points(), 0);
-    assert_eq!(rt;
-        log.told(rt.alloc())?.as_str(),
-        "clock read 95;clock read 95;clock read 194;clock read 195;clock read 294;clock read 295;"
+    checks.same(&histogram.points(), &0);
+    checks.told(
+        &log,
+        "clock read 95;clock read 95;clock read 194;clock read 195;clock read 294;clock read 295;",
     );
-    Ok(())
+    checks.verdict()
 }

@@ -2,6 +2,7 @@
 
 use crate::parts::Noted;
 use std::test::Fail;
+use tests_support::checks::Checks;
 use tests_support::clock::Hand;
 use tests_support::log::Log;
 use tests_support::script::Mood::{Broken, Busy, Willing};
@@ -38,76 +39,81 @@ fn one_call(rt: &HostRuntime) -> Result<Vec<Event<u8, Act>>, Fail> {
 
 #[test]
 fn response_is_recorded_once(rt: HostRuntime) -> Result<(), Fail> {
+    let checks = Checks::new(rt.alloc());
     let log = Log::new(rt.alloc())?;
     let stage = Stage::new(&log);
     stage.script.replies(&[Reply::Echo(1)]);
     let story = run(&rt, &stage, Noted::new(&log), one_call(&rt)?)?;
-    assert_eq!(rt;
-        story.entries.as_str(),
-        "ready;at 5;call 0;at 8;0 pending;at 12;0 ok 7;"
+    checks.same(
+        &story.entries.as_str(),
+        &"ready;at 5;call 0;at 8;0 pending;at 12;0 ok 7;",
     );
-    assert_eq!(rt;
-        story.told.as_str(),
-        "s ready;clock read 5;n cloned n1;s called 7;clock shared;s(7) pending;s(7) ready;\
-         clock read 12;recorded 7;n dropped;s dropped;clock dropped;n1 dropped;s(7) dropped;clock dropped;"
+    checks.same(
+        &story.told.as_str(),
+        &"s ready;clock read 5;n cloned n1;s called 7;clock shared;s(7) pending;s(7) ready;\
+         clock read 12;recorded 7;n dropped;s dropped;clock dropped;n1 dropped;s(7) dropped;clock dropped;",
     );
-    Ok(())
+    checks.verdict()
 }
 
 #[test]
 fn error_is_not_recorded(rt: HostRuntime) -> Result<(), Fail> {
+    let checks = Checks::new(rt.alloc());
     let log = Log::new(rt.alloc())?;
     let stage = Stage::new(&log);
     stage.script.replies(&[Reply::Fail(1)]);
     let story = run(&rt, &stage, Noted::new(&log), one_call(&rt)?)?;
-    assert_eq!(rt;
-        story.entries.as_str(),
-        "ready;at 5;call 0;at 8;0 pending;at 12;0 error 7;"
+    checks.same(
+        &story.entries.as_str(),
+        &"ready;at 5;call 0;at 8;0 pending;at 12;0 error 7;",
     );
-    assert_eq!(rt;
-        story.told.as_str(),
-        "s ready;clock read 5;n cloned n1;s called 7;clock shared;s(7) pending;s(7) ready;\
-         n dropped;s dropped;clock dropped;n1 dropped;s(7) dropped;clock dropped;"
+    checks.same(
+        &story.told.as_str(),
+        &"s ready;clock read 5;n cloned n1;s called 7;clock shared;s(7) pending;s(7) ready;\
+         n dropped;s dropped;clock dropped;n1 dropped;s(7) dropped;clock dropped;",
     );
-    Ok(())
+    checks.verdict()
 }
 
 // No reading is made for what isn't recorded, and the answer is the response all the same.
 #[test]
 fn refused_recorder_hides_no_response(rt: HostRuntime) -> Result<(), Fail> {
+    let checks = Checks::new(rt.alloc());
     let log = Log::new(rt.alloc())?;
     let stage = Stage::new(&log);
     stage.script.replies(&[Reply::Echo(1)]);
     let story = run(&rt, &stage, Noted::refusing(&log), one_call(&rt)?)?;
-    assert_eq!(rt;
-        story.entries.as_str(),
-        "ready;at 5;call 0;at 8;0 pending;at 12;0 ok 7;"
+    checks.same(
+        &story.entries.as_str(),
+        &"ready;at 5;call 0;at 8;0 pending;at 12;0 ok 7;",
     );
-    assert_eq!(rt;
-        story.told.as_str(),
-        "s ready;clock read 5;n refused;s called 7;clock shared;s(7) pending;s(7) ready;\
-         n dropped;s dropped;clock dropped;s(7) dropped;clock dropped;"
+    checks.same(
+        &story.told.as_str(),
+        &"s ready;clock read 5;n refused;s called 7;clock shared;s(7) pending;s(7) ready;\
+         n dropped;s dropped;clock dropped;s(7) dropped;clock dropped;",
     );
-    Ok(())
+    checks.verdict()
 }
 
 #[test]
 fn readiness_is_passed_on_without_a_reading(rt: HostRuntime) -> Result<(), Fail> {
+    let checks = Checks::new(rt.alloc());
     let log = Log::new(rt.alloc())?;
     let stage = Stage::new(&log);
     stage.script.moods(&[Busy, Broken(3), Willing]);
     let events = vec![in rt.alloc(); Event::Poll, Event::Poll, Event::Poll]?;
     let story = run(&rt, &stage, Noted::new(&log), events)?;
-    assert_eq!(rt; story.entries.as_str(), "pending;error 3;ready;");
-    assert_eq!(rt;
-        story.told.as_str(),
-        "s pending;s error 3;s ready;n dropped;s dropped;clock dropped;"
+    checks.same(&story.entries.as_str(), &"pending;error 3;ready;");
+    checks.same(
+        &story.told.as_str(),
+        &"s pending;s error 3;s ready;n dropped;s dropped;clock dropped;",
     );
-    Ok(())
+    checks.verdict()
 }
 
 #[test]
 fn clock_that_goes_back_gives_no_time(rt: HostRuntime) -> Result<(), Fail> {
+    let checks = Checks::new(rt.alloc());
     let log = Log::new(rt.alloc())?;
     let stage = Stage::new(&log);
     let events = vec![in rt.alloc();
@@ -118,32 +124,27 @@ fn clock_that_goes_back_gives_no_time(rt: HostRuntime) -> Result<(), Fail> {
         Event::Future(0),
     ]?;
     let story = run(&rt, &stage, Noted::new(&log), events)?;
-    assert_eq!(rt; story.entries.as_str(), "at 50;ready;call 0;at 49;0 ok 7;");
-    assert_eq!(rt;
-        story.told.as_str(),
-        "s ready;clock read 50;n cloned n1;s called 7;clock shared;s(7) ready;clock read 49;recorded 0;\
-         n dropped;s dropped;clock dropped;n1 dropped;s(7) dropped;clock dropped;"
+    checks.same(&story.entries.as_str(), &"at 50;ready;call 0;at 49;0 ok 7;");
+    checks.same(
+        &story.told.as_str(),
+        &"s ready;clock read 50;n cloned n1;s called 7;clock shared;s(7) ready;clock read 49;recorded 0;\
+         n dropped;s dropped;clock dropped;n1 dropped;s(7) dropped;clock dropped;",
     );
-    Ok(())
+    checks.verdict()
 }
 
 #[test]
 fn clone_clones_both_parts_and_shares_the_clock(rt: HostRuntime) -> Result<(), Fail> {
+    let checks = Checks::new(rt.alloc());
     let log = Log::new(rt.alloc())?;
     let stage = Stage::new(&log);
     let clock = Hand::new(&log, &stage.moment);
     let first = Latency::new(Noted::new(&log), Scripted::new(&stage.script, 's'), clock);
     let clone: Result<_, _> = first.clone();
-    assert!(rt; clone.is_ok());
-    assert_eq!(rt;
-        log.told(rt.alloc())?.as_str(),
-        "n cloned n1;s cloned s2;clock shared;"
-    );
+    checks.holds(clone.is_ok());
+    checks.told(&log, "n cloned n1;s cloned s2;clock shared;");
     stage.script.clones(0);
-    assert!(rt; first.clone().is_err());
-    assert_eq!(rt;
-        log.told(rt.alloc())?.as_str(),
-        "n cloned n3;s refused;n3 dropped;"
-    );
-    Ok(())
+    checks.holds(first.clone().is_err());
+    checks.told(&log, "n cloned n3;s refused;n3 dropped;");
+    checks.verdict()
 }

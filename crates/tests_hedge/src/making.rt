@@ -7,6 +7,7 @@ use std::cell::Cell;
 use std::random::RandomSource;
 use std::sync::Wait;
 use std::test::Fail;
+use tests_support::checks::Checks;
 use tests_support::clock::Hand;
 use tests_support::latch::Noting;
 use tests_support::log::Log;
@@ -41,6 +42,7 @@ fn own<R: Wait + RandomSource + AllocGlobal + Copy>(
 // The first response takes three nanoseconds, which is a millisecond when it is rounded up, and is known from 105 on.
 #[test]
 fn latency_counts_from_the_next_period_on(rt: HostRuntime) -> Result<(), Fail> {
+    let checks = Checks::new(rt.alloc());
     let log = Log::new(rt.alloc())?;
     let stage = Stage::new(&log);
     stage.moment.set(5);
@@ -69,19 +71,20 @@ fn latency_counts_from_the_next_period_on(rt: HostRuntime) -> Result<(), Fail> {
         Event::Future(2),
     ]?;
     let story = own(rt, &stage, events)?;
-    assert_eq!(rt;
-        story.entries.as_str(),
-        "ready;call 0;at 8;0 ok 7;at 104;ready;call 1;at 105;ready;call 2;at 1000104;1 pending;2 pending;\
-         at 1000105;1 pending;2 ok 2;"
+    checks.same(
+        &story.entries.as_str(),
+        &"ready;call 0;at 8;0 ok 7;at 104;ready;call 1;at 105;ready;call 2;at 1000104;1 pending;2 pending;\
+         at 1000105;1 pending;2 ok 2;",
     );
-    assert_eq!(rt; story.told.as_str().split(" called 8;").count(), 2);
-    assert_eq!(rt; story.told.as_str().split(" called 9;").count(), 3);
-    Ok(())
+    checks.same(&story.told.as_str().split(" called 8;").count(), &2);
+    checks.same(&story.told.as_str().split(" called 9;").count(), &3);
+    checks.verdict()
 }
 
 // The clock is read once as the hedge is made, and once for each latency.
 #[test]
 fn mock_latencies_are_known_at_once(rt: HostRuntime) -> Result<(), Fail> {
+    let checks = Checks::new(rt.alloc());
     let log = Log::new(rt.alloc())?;
     let stage = Stage::new(&log);
     stage.moment.set(40);
@@ -106,13 +109,13 @@ fn mock_latencies_are_known_at_once(rt: HostRuntime) -> Result<(), Fail> {
         &[1, 3],
     )?;
     let made = log.told(rt.alloc())?;
-    assert_eq!(rt; made.as_str().split("clock read 40;").count(), 4);
+    checks.same(&made.as_str().split("clock read 40;").count(), &4);
     let story = of_hedge(&rt, &stage, hedge, events)?;
-    assert_eq!(rt;
-        story.entries.as_str(),
-        "ready;call 0;at 3000039;0 pending;at 3000040;0 ok 2;"
+    checks.same(
+        &story.entries.as_str(),
+        &"ready;call 0;at 3000039;0 pending;at 3000040;0 ok 2;",
     );
-    Ok(())
+    checks.verdict()
 }
 
 // Three shares are asked for, the latch itself is the fourth handle.
@@ -140,6 +143,7 @@ fn refused_share_makes_no_hedge(rt: HostRuntime) -> Result<(), Fail> {
 // A service and a policy that can't be cloned make none either.
 #[test]
 fn refused_clone_makes_no_hedge(rt: HostRuntime) -> Result<(), Fail> {
+    let checks = Checks::new(rt.alloc());
     let alloc = rt.alloc();
     let log = Log::new(alloc)?;
     let stage = Stage::new(&log);
@@ -154,10 +158,10 @@ fn refused_clone_makes_no_hedge(rt: HostRuntime) -> Result<(), Fail> {
         100,
         Hand::new(&log, &stage.moment),
     );
-    assert!(rt; hedge.is_err());
-    assert_eq!(rt;
-        log.told(alloc)?.as_str(),
-        "clock read 0;clock shared;clock shared;s refused;clock dropped;clock dropped;p dropped;s dropped;clock dropped;"
+    checks.holds(hedge.is_err());
+    checks.told(
+        &log,
+        "clock read 0;clock shared;clock shared;s refused;clock dropped;clock dropped;p dropped;s dropped;clock dropped;",
     );
-    Ok(())
+    checks.verdict()
 }

@@ -3,6 +3,7 @@
 use crate::parts::{NO_COPY, Twice};
 use futures::task::Poll;
 use std::test::Fail;
+use tests_support::checks::Checks;
 use tests_support::log::Log;
 use tests_support::run::{polled, task};
 use tests_support::script::Mood::{Broken, Busy, Willing};
@@ -38,18 +39,19 @@ fn one_call(rt: &HostRuntime, request: u8) -> Result<Vec<Event<u8, Act>>, Fail> 
 // Readiness asks the first and then the second; a call asks the policy, and calls the second before the first.
 #[test]
 fn first_answer_counts(rt: HostRuntime) -> Result<(), Fail> {
+    let checks = Checks::new(rt.alloc());
     let log = Log::new(rt.alloc())?;
     let stage = Stage::new(&log);
     stage.script.replies(&[Reply::Give(1, Ok(1))]);
     stage.made.replies(&[Reply::Give(5, Ok(2))]);
     let story = run(&rt, &stage, one_call(&rt, 7)?)?;
-    assert_eq!(rt; story.entries.as_str(), "ready;call 0;0 pending;0 ok 1;");
-    assert_eq!(rt;
-        story.told.as_str(),
-        "a ready;b ready;copied 7;b called 7;a called 7;a(7) pending;b(7) pending;a(7) ready;\
-         p dropped;a dropped;b dropped;a(7) dropped;b(7) dropped;"
+    checks.same(&story.entries.as_str(), &"ready;call 0;0 pending;0 ok 1;");
+    checks.same(
+        &story.told.as_str(),
+        &"a ready;b ready;copied 7;b called 7;a called 7;a(7) pending;b(7) pending;a(7) ready;\
+         p dropped;a dropped;b dropped;a(7) dropped;b(7) dropped;",
     );
-    Ok(())
+    checks.verdict()
 }
 
 #[test]
@@ -90,21 +92,23 @@ fn error_of_either_call_is_its_sides(rt: HostRuntime) -> Result<(), Fail> {
 
 #[test]
 fn request_without_a_copy_calls_the_first_alone(rt: HostRuntime) -> Result<(), Fail> {
+    let checks = Checks::new(rt.alloc());
     let log = Log::new(rt.alloc())?;
     let stage = Stage::new(&log);
     stage.script.replies(&[Reply::Echo(1)]);
     let story = run(&rt, &stage, one_call(&rt, NO_COPY)?)?;
-    assert_eq!(rt; story.entries.as_str(), "ready;call 0;0 pending;0 ok 90;");
-    assert_eq!(rt;
-        story.told.as_str(),
-        "a ready;b ready;left 90;a called 90;a(90) pending;a(90) ready;\
-         p dropped;a dropped;b dropped;a(90) dropped;"
+    checks.same(&story.entries.as_str(), &"ready;call 0;0 pending;0 ok 90;");
+    checks.same(
+        &story.told.as_str(),
+        &"a ready;b ready;left 90;a called 90;a(90) pending;a(90) ready;\
+         p dropped;a dropped;b dropped;a(90) dropped;",
     );
-    Ok(())
+    checks.verdict()
 }
 
 #[test]
 fn both_are_polled_and_the_firsts_error_goes_before(rt: HostRuntime) -> Result<(), Fail> {
+    let checks = Checks::new(rt.alloc());
     let log = Log::new(rt.alloc())?;
     let stage = Stage::new(&log);
     let solo = task(&rt)?;
@@ -122,11 +126,11 @@ fn both_are_polled_and_the_firsts_error_goes_before(rt: HostRuntime) -> Result<(
         Poll::Pending,
         Poll::Ready(Ok(())),
     ] {
-        assert!(rt; polled::<u8, _>(&solo, &mut select) == expected);
+        checks.holds(polled::<u8, _>(&solo, &mut select) == expected);
     }
-    assert_eq!(rt;
-        log.told(rt.alloc())?.as_str(),
-        "a error 1;b error 2;a pending;b error 3;a ready;b pending;a pending;b ready;a ready;b ready;"
+    checks.told(
+        &log,
+        "a error 1;b error 2;a pending;b error 3;a ready;b pending;a pending;b ready;a ready;b ready;",
     );
-    Ok(())
+    checks.verdict()
 }

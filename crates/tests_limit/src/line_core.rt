@@ -1,6 +1,7 @@
 //! `tower::limit::concurrency::LineCore` by hand.
 
 use std::test::Fail;
+use tests_support::checks::Checks;
 use tower_base::latch::Core;
 use tower_limit::limit::concurrency::{LineCore, LineReply, LineStep};
 
@@ -32,15 +33,16 @@ fn line_of_one_permit(rt: HostRuntime) -> Result<(), Fail> {
 // A line that answers `Memory` from some key on would be noticed here. Who waited longest leaves last.
 #[test]
 fn ten_thousand_wait_and_leave(rt: HostRuntime) -> Result<(), Fail> {
+    let checks = Checks::new(rt.alloc());
     let mut line = LineCore::new(rt.alloc(), 0);
     for key in 0..10_000u64 {
-        assert_eq!(rt; line.step(LineStep::Join), LineReply::Waiting(key));
+        checks.same(&line.step(LineStep::Join), &LineReply::Waiting(key));
     }
     for later in 0..10_000u64 {
         let last = LineStep::Cancel(9_999 - later);
-        assert_eq!(rt; line.step(last), LineReply::Left);
+        checks.same(&line.step(last), &LineReply::Left);
     }
-    assert_eq!(rt; line.step(LineStep::Free), LineReply::Count(0));
-    assert_eq!(rt; line.step(LineStep::Look(0)), LineReply::Unknown);
-    Ok(())
+    checks.same(&line.step(LineStep::Free), &LineReply::Count(0));
+    checks.same(&line.step(LineStep::Look(0)), &LineReply::Unknown);
+    checks.verdict()
 }

@@ -2,6 +2,7 @@
 
 use std::cell::Cell;
 use std::test::Fail;
+use tests_support::checks::Checks;
 use tests_support::clock::Hand;
 use tests_support::log::Log;
 use tests_support::script::Mood::{Broken, Busy, Willing};
@@ -10,8 +11,20 @@ use tests_support::service::Scripted;
 use tests_support::story::{Act, Stage, Story, driven};
 use tower_base::drive::Event;
 use tower_base::layer::Layer;
+use tower_base::service::Clock;
 use tower_limit::limit::rate::{Rate, RateCore};
 use tower_limit::limit::{RateLimit, RateLimitLayer};
+
+fn timed<C: Clock>(
+    rt: &HostRuntime,
+    stage: &Stage<'_>,
+    rate: Rate,
+    clock: C,
+    events: Vec<Event<u8, Act>>,
+) -> Result<Story, Fail> {
+    let service = RateLimit::new(Scripted::new(&stage.script, 's'), rate, clock);
+    driven(rt, stage, service, events)
+}
 
 // A run made at the stage's moment.
 fn run(
@@ -20,13 +33,13 @@ fn run(
     rate: Rate,
     events: Vec<Event<u8, Act>>,
 ) -> Result<Story, Fail> {
-    let inner = Scripted::new(&stage.script, 's');
-    let service = RateLimit::new(inner, rate, Hand::new(stage.log, &stage.moment));
-    driven(rt, stage, service, events)
+    let clock = Hand::new(stage.log, &stage.moment);
+    timed(rt, stage, rate, clock, events)
 }
 
 #[test]
 fn full_window_is_waited_for_without_an_inner_poll(rt: HostRuntime) -> Result<(), Fail> {
+    let checks = Checks::new(rt.alloc());
     let log = Log::new(rt.alloc())?;
     let stage = Stage::new(&log);
     let events = vec![in rt.alloc();
@@ -40,17 +53,17 @@ fn full_window_is_waited_for_without_an_inner_poll(rt: HostRuntime) -> Result<()
         Event::Poll,
     ]?;
     let story = run(&rt, &stage, Rate::new(2, 10), events)?;
-    assert_eq!(rt;
-        story.entries.as_str(),
-        "ready;call 0;ready;call 1;at 9;pending;at 10;ready;"
+    checks.same(
+        &story.entries.as_str(),
+        &"ready;call 0;ready;call 1;at 9;pending;at 10;ready;",
     );
-    assert_eq!(rt;
-        story.told.as_str(),
-        "clock read 0;s ready;clock read 0;s called 1;s ready;clock read 0;s called 2;\
+    checks.same(
+        &story.told.as_str(),
+        &"clock read 0;s ready;clock read 0;s called 1;s ready;clock read 0;s called 2;\
          clock read 9;clock read 10;s ready;\
-         s dropped;clock dropped;s(1) dropped;s(2) dropped;"
+         s dropped;clock dropped;s(1) dropped;s(2) dropped;",
     );
-    Ok(())
+    checks.verdict()
 }
 
 #[test]
@@ -103,6 +116,7 @@ fn call_past_the_end_opens_a_whole_window(rt: HostRuntime) -> Result<(), Fail> {
 
 #[test]
 fn capacity_is_reached_and_comes_back(rt: HostRuntime) -> Result<(), Fail> {
+    let checks = Checks::new(rt.alloc());
     let log = Log::new(rt.alloc())?;
     let stage = Stage::new(&log);
     let events = vec![in rt.alloc();
@@ -116,17 +130,17 @@ fn capacity_is_reached_and_comes_back(rt: HostRuntime) -> Result<(), Fail> {
         Event::Future(1),
     ]?;
     let story = run(&rt, &stage, Rate::new(1, 100), events)?;
-    assert_eq!(rt;
-        story.entries.as_str(),
-        "ready;call 0;0 ok 1;pending;at 101;ready;call 1;1 ok 2;"
+    checks.same(
+        &story.entries.as_str(),
+        &"ready;call 0;0 ok 1;pending;at 101;ready;call 1;1 ok 2;",
     );
-    assert_eq!(rt;
-        story.told.as_str(),
-        "clock read 0;s ready;clock read 0;s called 1;s(1) ready;clock read 0;\
+    checks.same(
+        &story.told.as_str(),
+        &"clock read 0;s ready;clock read 0;s called 1;s(1) ready;clock read 0;\
          clock read 101;s ready;clock read 101;s called 2;s(2) ready;\
-         s dropped;clock dropped;s(1) dropped;s(2) dropped;"
+         s dropped;clock dropped;s(1) dropped;s(2) dropped;",
     );
-    Ok(())
+    checks.verdict()
 }
 
 #[test]
@@ -176,6 +190,7 @@ fn end_past_the_last_moment_never_comes(rt: HostRuntime) -> Result<(), Fail> {
 
 #[test]
 fn inner_service_that_waits_or_fails_keeps_the_window(rt: HostRuntime) -> Result<(), Fail> {
+    let checks = Checks::new(rt.alloc());
     let log = Log::new(rt.alloc())?;
     let stage = Stage::new(&log);
     stage
@@ -196,62 +211,68 @@ fn inner_service_that_waits_or_fails_keeps_the_window(rt: HostRuntime) -> Result
         Event::Poll,
     ]?;
     let story = run(&rt, &stage, Rate::new(1, 10), events)?;
-    assert_eq!(rt;
-        story.entries.as_str(),
-        "pending;error 7;ready;call 0;at 10;pending;at 25;error 8;ready;call 1;at 34;pending;"
+    checks.same(
+        &story.entries.as_str(),
+        &"pending;error 7;ready;call 0;at 10;pending;at 25;error 8;ready;call 1;at 34;pending;",
     );
-    assert_eq!(rt;
-        story.told.as_str(),
-        "clock read 0;s pending;s error 7;s ready;clock read 0;s called 1;\
+    checks.same(
+        &story.told.as_str(),
+        &"clock read 0;s pending;s error 7;s ready;clock read 0;s called 1;\
          clock read 10;s pending;s error 8;s ready;clock read 25;s called 2;clock read 34;\
-         s dropped;clock dropped;s(1) dropped;s(2) dropped;"
+         s dropped;clock dropped;s(1) dropped;s(2) dropped;",
     );
-    Ok(())
+    checks.verdict()
+}
+
+fn layer_reads_once<C: Clock>(rt: &HostRuntime, log: &Log, clock: C) -> Result<(), Fail> {
+    let checks = Checks::new(rt.alloc());
+    let script = Script::new(log);
+    let layer = RateLimitLayer::new(2, 10, clock).clone()?;
+    checks.told(log, "clock shared;clock dropped;");
+    let service = layer.layer(Scripted::new(&script, 's'))?;
+    checks.told(log, "clock shared;clock read 4;");
+    drop(service.into_inner());
+    checks.told(log, "clock dropped;s dropped;");
+    checks.verdict()
 }
 
 #[test]
 fn layer_reads_once_for_each_service(rt: HostRuntime) -> Result<(), Fail> {
-    let alloc = rt.alloc();
-    let log = Log::new(alloc)?;
-    let script = Script::new(&log);
-    let moment = Cell::new(4);
-    let layer = RateLimitLayer::new(2, 10, Hand::new(&log, &moment)).clone()?;
-    assert_eq!(rt; log.told(alloc)?.as_str(), "clock shared;clock dropped;");
-    let service = layer.layer(Scripted::new(&script, 's'))?;
-    assert_eq!(rt; log.told(alloc)?.as_str(), "clock shared;clock read 4;");
+    let (log, moment) = (Log::new(rt.alloc())?, Cell::new(4));
+    layer_reads_once(&rt, &log, Hand::new(&log, &moment))
+}
+
+fn inner_is_lent<C: Clock>(rt: &HostRuntime, log: &Log, clock: C) -> Result<(), Fail> {
+    let checks = Checks::new(rt.alloc());
+    let script = Script::new(log);
+    let mut service = RateLimit::new(Scripted::new(&script, 'a'), Rate::new(2, 10), clock);
+    *service.get_mut() = Scripted::new(&script, 'b');
+    checks.told(log, "clock read 0;a dropped;");
+    drop(service.get_ref().clone()?);
+    checks.told(log, "b cloned b1;b1 dropped;");
     drop(service.into_inner());
-    assert_eq!(rt; log.told(alloc)?.as_str(), "clock dropped;s dropped;");
-    Ok(())
+    checks.told(log, "clock dropped;b dropped;");
+    checks.verdict()
 }
 
 #[test]
 fn inner_service_is_lent(rt: HostRuntime) -> Result<(), Fail> {
-    let alloc = rt.alloc();
-    let log = Log::new(alloc)?;
-    let script = Script::new(&log);
-    let moment = Cell::new(0);
-    let clock = Hand::new(&log, &moment);
-    let mut service = RateLimit::new(Scripted::new(&script, 'a'), Rate::new(2, 10), clock);
-    *service.get_mut() = Scripted::new(&script, 'b');
-    assert_eq!(rt; log.told(alloc)?.as_str(), "clock read 0;a dropped;");
-    drop(service.get_ref().clone()?);
-    assert_eq!(rt; log.told(alloc)?.as_str(), "b cloned b1;b1 dropped;");
-    drop(service.into_inner());
-    assert_eq!(rt; log.told(alloc)?.as_str(), "clock dropped;b dropped;");
-    Ok(())
+    let (log, moment) = (Log::new(rt.alloc())?, Cell::new(0));
+    inner_is_lent(&rt, &log, Hand::new(&log, &moment))
 }
 
 #[test]
 fn core_by_hand(rt: HostRuntime) -> Result<(), Fail> {
+    let checks = Checks::new(rt.alloc());
     let mut core = RateCore::new(Rate::new(1, 10), 5);
-    assert!(rt; !core.limited());
+    checks.holds(!core.limited());
     assert!(rt; core.poll(3));
     core.call(7);
-    assert!(rt; core.limited());
-    assert!(rt; !core.poll(16));
-    assert!(rt; core.poll(17));
-    assert!(rt; !core.limited());
-    Ok(())
+    checks.holds(core.limited());
+    checks.holds(!core.poll(16));
+    checks.holds(core.poll(17));
+    checks.holds(!core.limited());
+    checks.verdict()
 }
 
 #[test]

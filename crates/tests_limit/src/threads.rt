@@ -11,6 +11,7 @@ use std::sync::atomic::{AtomicU64, Ordering};
 use std::sync::{Arc, Wait};
 use std::test::Fail;
 use std::{io, thread};
+use tests_support::checks::Checks;
 use tests_support::run::{called, stepped, task};
 use tower_base::latch::Latch;
 use tower_base::service::Service;
@@ -53,6 +54,7 @@ where
 
 #[test]
 fn two_threads_one_permit(rt: HostRuntime) -> Result<(), Fail> {
+    let checks = Checks::new(rt.alloc());
     let semaphore = Semaphore::new(rt, rt.alloc(), 1)?;
     let out = AtomicU64::new(0);
     let (first, second) = thread::join(
@@ -60,10 +62,10 @@ fn two_threads_one_permit(rt: HostRuntime) -> Result<(), Fail> {
         || rounds(&rt, &semaphore, &out),
         || rounds(&rt, &semaphore, &out),
     );
-    assert_eq!(rt; first?, 0);
-    assert_eq!(rt; second?, 0);
-    assert_eq!(rt; semaphore.available_permits(), 1);
-    Ok(())
+    checks.same(&first?, &0);
+    checks.same(&second?, &0);
+    checks.same(&semaphore.available_permits(), &1);
+    checks.verdict()
 }
 
 // Its call raises its flag and looks for the other's, for a while. The response is 1 if it was seen. A clone is the other.
@@ -126,6 +128,7 @@ fn work<S: Service<u32, Response = u32>>(rt: &HostRuntime, mut service: S) -> io
 
 #[test]
 fn two_workers_meet(rt: HostRuntime) -> Result<(), Fail> {
+    let checks = Checks::new(rt.alloc());
     let alloc = rt.alloc();
     let inner = Meets {
         mine: Arc::new(alloc, AtomicU64::new(0))?,
@@ -135,8 +138,8 @@ fn two_workers_meet(rt: HostRuntime) -> Result<(), Fail> {
     let first = ConcurrencyLimit::with_semaphore(inner, semaphore.share()?);
     let second = first.clone()?;
     let (first, second) = thread::join(&rt, || work(&rt, first), || work(&rt, second));
-    assert!(rt; first?);
-    assert!(rt; second?);
-    assert_eq!(rt; semaphore.available_permits(), 2);
-    Ok(())
+    checks.holds(first?);
+    checks.holds(second?);
+    checks.same(&semaphore.available_permits(), &2);
+    checks.verdict()
 }

@@ -4,6 +4,7 @@ use crate::parts::{Find, Finds, found};
 use futures::task::Poll;
 use std::cell::Cell;
 use std::test::Fail;
+use tests_support::checks::Checks;
 use tests_support::clock::Hand;
 use tests_support::log::Log;
 use tests_support::run::task;
@@ -19,14 +20,15 @@ use tower_limit::load::{Constant, Load};
 
 #[test]
 fn load_stays_and_calls_go_inside(rt: HostRuntime) -> Result<(), Fail> {
+    let checks = Checks::new(rt.alloc());
     let alloc = rt.alloc();
     let log = Log::new(alloc)?;
     let stage = Stage::new(&log);
     stage.script.moods(&[Busy, Broken(7), Willing]);
     stage.script.replies(&[Reply::Echo(1), Reply::Fail(0)]);
     let service = Constant::new(Scripted::new(&stage.script, 's'), 5u32);
-    assert_eq!(rt; service.load(), 5);
-    assert_eq!(rt; service.load(), 5);
+    checks.same(&service.load(), &5);
+    checks.same(&service.load(), &5);
     let events = vec![in alloc;
         Event::Poll,
         Event::Poll,
@@ -39,20 +41,21 @@ fn load_stays_and_calls_go_inside(rt: HostRuntime) -> Result<(), Fail> {
         Event::Future(1),
     ]?;
     let story = driven(&rt, &stage, service, events)?;
-    assert_eq!(rt;
-        story.entries.as_str(),
-        "pending;error 7;ready;call 0;0 pending;0 ok 3;ready;call 1;1 error 4;"
+    checks.same(
+        &story.entries.as_str(),
+        &"pending;error 7;ready;call 0;0 pending;0 ok 3;ready;call 1;1 error 4;",
     );
-    assert_eq!(rt;
-        story.told.as_str(),
-        "s pending;s error 7;s ready;s called 3;s(3) pending;s(3) ready;s ready;s called 4;s(4) ready;\
-         s dropped;s(3) dropped;s(4) dropped;"
+    checks.same(
+        &story.told.as_str(),
+        &"s pending;s error 7;s ready;s called 3;s(3) pending;s(3) ready;s ready;s called 4;s(4) ready;\
+         s dropped;s(3) dropped;s(4) dropped;",
     );
-    Ok(())
+    checks.verdict()
 }
 
 #[test]
 fn each_service_of_a_discovery_has_the_load(rt: HostRuntime) -> Result<(), Fail> {
+    let checks = Checks::new(rt.alloc());
     let alloc = rt.alloc();
     let log = Log::new(alloc)?;
     let script = Script::new(&log);
@@ -69,30 +72,29 @@ fn each_service_of_a_discovery_has_the_load(rt: HostRuntime) -> Result<(), Fail>
         Poll::Ready(Some(Ok(Change::Insert(4, service)))) => assert_eq!(rt; service.load(), 9),
         _ => return Err("a service".into()),
     }
-    assert!(rt; found(&solo, &mut discovery).is_pending());
-    assert!(rt; matches!(found(&solo, &mut discovery), Poll::Ready(Some(Err(7)))));
-    assert!(rt;
-        matches!(
-            found(&solo, &mut discovery),
-            Poll::Ready(Some(Ok(Change::Remove(4))))
-        )
-    );
+    checks.holds(found(&solo, &mut discovery).is_pending());
+    checks.holds(matches!(found(&solo, &mut discovery), Poll::Ready(Some(Err(7)))));
+    checks.holds(matches!(
+        found(&solo, &mut discovery),
+        Poll::Ready(Some(Ok(Change::Remove(4))))
+    ));
     match found(&solo, &mut discovery) {
         Poll::Ready(Some(Ok(Change::Insert(5, service)))) => assert_eq!(rt; service.load(), 9),
         _ => return Err("a service".into()),
     }
-    assert!(rt; matches!(found(&solo, &mut discovery), Poll::Ready(None)));
+    checks.holds(matches!(found(&solo, &mut discovery), Poll::Ready(None)));
     drop(discovery);
-    assert_eq!(rt;
-        log.told(alloc)?.as_str(),
+    checks.told(
+        &log,
         "found Insert(4, 'a');a dropped;found Busy;found Broken(7);found Remove(4);\
-         found Insert(5, 'b');b dropped;found the end;finds dropped;"
+         found Insert(5, 'b');b dropped;found the end;finds dropped;",
     );
-    Ok(())
+    checks.verdict()
 }
 
 #[test]
 fn limits_have_the_load_of_what_they_limit(rt: HostRuntime) -> Result<(), Fail> {
+    let checks = Checks::new(rt.alloc());
     let alloc = rt.alloc();
     let log = Log::new(alloc)?;
     let script = Script::new(&log);
@@ -100,13 +102,13 @@ fn limits_have_the_load_of_what_they_limit(rt: HostRuntime) -> Result<(), Fail> 
     let constant = |load: u32| Constant::new(Scripted::new(&script, 's'), load);
     let clock = Hand::new(&log, &moment);
     let rate = RateLimit::new(constant(3), Rate::new(1, 10), clock);
-    assert_eq!(rt; rate.load(), 3);
+    checks.same(&rate.load(), &3);
     let limit = ConcurrencyLimit::new(rt, alloc, constant(4), 1)?;
-    assert_eq!(rt; limit.load(), 4);
+    checks.same(&limit.load(), &4);
     log.told(alloc)?;
-    assert_eq!(rt; (rate.load(), limit.load()), (3, 4));
-    assert_eq!(rt; log.told(alloc)?.as_str(), "");
-    Ok(())
+    checks.same(&(rate.load(), limit.load()), &(3, 4));
+    checks.told(&log, "");
+    checks.verdict()
 }
 
 // A list of services with loads of their own, as a balancer is given.

@@ -3,6 +3,7 @@
 use crate::parts::found;
 use futures::task::Poll;
 use std::test::Fail;
+use tests_support::checks::Checks;
 use tests_support::log::Log;
 use tests_support::plain::Plain;
 use tests_support::run::task;
@@ -10,50 +11,50 @@ use tower_limit::discover::{Change, ServiceList};
 
 #[test]
 fn list_inserts_its_services_by_place_and_ends(rt: HostRuntime) -> Result<(), Fail> {
+    let checks = Checks::new(rt.alloc());
     let mut list = ServiceList::new(vec![in rt.alloc(); 'a', 'b', 'c']?);
     let solo = task(&rt)?;
     for (place, name) in [(0, 'a'), (1, 'b'), (2, 'c')] {
         match found(&solo, &mut list) {
             Poll::Ready(Some(Ok(Change::Insert(key, service)))) => {
-                assert_eq!(rt; (key, service), (place, name));
+                checks.same(&(key, service), &(place, name));
             }
             _ => return Err("a service".into()),
         }
     }
     for _ in 0..2u8 {
-        assert!(rt; matches!(found(&solo, &mut list), Poll::Ready(None)));
+        checks.holds(matches!(found(&solo, &mut list), Poll::Ready(None)));
     }
-    Ok(())
+    checks.verdict()
 }
 
 #[test]
 fn services_that_are_left_are_dropped_with_their_list(rt: HostRuntime) -> Result<(), Fail> {
+    let checks = Checks::new(rt.alloc());
     let alloc = rt.alloc();
     let log = Log::new(alloc)?;
     let services = vec![in alloc; Plain::new(&log, 'a'), Plain::new(&log, 'b')]?;
     let mut list = ServiceList::new(services);
     let solo = task(&rt)?;
     drop(found(&solo, &mut list));
-    assert_eq!(rt; log.told(alloc)?.as_str(), "a dropped;");
+    checks.told(&log, "a dropped;");
     drop(list);
-    assert_eq!(rt; log.told(alloc)?.as_str(), "b dropped;");
-    Ok(())
+    checks.told(&log, "b dropped;");
+    checks.verdict()
 }
 
 #[test]
 fn clone_of_a_change_is_of_its_parts(rt: HostRuntime) -> Result<(), Fail> {
+    let checks = Checks::new(rt.alloc());
     let alloc = rt.alloc();
     let log = Log::new(alloc)?;
     let insert = Change::Insert(Plain::new(&log, 'k'), Plain::new(&log, 's'));
     drop(insert.clone()?);
-    assert_eq!(rt;
-        log.told(alloc)?.as_str(),
-        "k cloned k1;s cloned s2;k1 dropped;s2 dropped;"
-    );
+    checks.told(&log, "k cloned k1;s cloned s2;k1 dropped;s2 dropped;");
     let remove: Change<Plain<'_>, Plain<'_>> = Change::Remove(Plain::refusing(&log, 'r'));
-    assert!(rt; remove.clone().is_err());
-    assert_eq!(rt; log.told(alloc)?.as_str(), "r refused;");
-    Ok(())
+    checks.holds(remove.clone().is_err());
+    checks.told(&log, "r refused;");
+    checks.verdict()
 }
 
 #[test]

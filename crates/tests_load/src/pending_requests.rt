@@ -7,6 +7,7 @@ use std::alloc::AllocGlobal;
 use std::cell::Cell;
 use std::sync::Wait;
 use std::test::Fail;
+use tests_support::checks::Checks;
 use tests_support::future::After;
 use tests_support::latch::Noting;
 use tests_support::log::Log;
@@ -55,6 +56,7 @@ impl<L: Latch<CountCore>, V: Drop> TrackCompletion<Handle<L>, V> for IntoHandle 
 
 #[test]
 fn an_answer_ends_a_request_and_an_error_does_not(rt: HostRuntime) -> Result<(), Fail> {
+    let checks = Checks::new(rt.alloc());
     let alloc = rt.alloc();
     let (log, shares) = (Log::new(alloc)?, Cell::new(255));
     let script = Script::new(&log);
@@ -63,55 +65,57 @@ fn an_answer_ends_a_request_and_an_error_does_not(rt: HostRuntime) -> Result<(),
     let solo = task(&rt)?;
     let mut first = called(&solo, &mut service, 1).ok_or("not ready")?;
     let mut second = called(&solo, &mut service, 2).ok_or("not ready")?;
-    assert_eq!(rt; told_load(alloc, &service)?.as_str(), "Count(2)");
-    assert_eq!(rt;
-        log.told(alloc)?.as_str(),
+    checks.same(&told_load(alloc, &service)?.as_str(), &"Count(2)");
+    checks.told(
+        &log,
         "s ready;latch shared;latch stepped Take;s called 1;\
-         s ready;latch shared;latch stepped Take;s called 2;latch stepped Load;"
+         s ready;latch shared;latch stepped Take;s called 2;latch stepped Load;",
     );
-    assert!(rt; matches!(stepped(&solo, &mut first), Poll::Ready(Ok(1))));
-    assert_eq!(rt; told_load(alloc, &service)?.as_str(), "Count(1)");
-    assert!(rt; matches!(stepped(&solo, &mut second), Poll::Ready(Err(2))));
-    assert_eq!(rt; told_load(alloc, &service)?.as_str(), "Count(1)");
-    assert_eq!(rt;
-        log.told(alloc)?.as_str(),
-        "s(1) ready;latch stepped Give;latch dropped;latch stepped Load;s(2) ready;latch stepped Load;"
+    checks.holds(matches!(stepped(&solo, &mut first), Poll::Ready(Ok(1))));
+    checks.same(&told_load(alloc, &service)?.as_str(), &"Count(1)");
+    checks.holds(matches!(stepped(&solo, &mut second), Poll::Ready(Err(2))));
+    checks.same(&told_load(alloc, &service)?.as_str(), &"Count(1)");
+    checks.told(
+        &log,
+        "s(1) ready;latch stepped Give;latch dropped;latch stepped Load;s(2) ready;latch stepped Load;",
     );
     // The inner future is dropped before the handle.
     drop(second);
-    assert_eq!(rt; told_load(alloc, &service)?.as_str(), "Count(0)");
+    checks.same(&told_load(alloc, &service)?.as_str(), &"Count(0)");
     drop(first);
     drop(service);
-    assert_eq!(rt;
-        log.told(alloc)?.as_str(),
+    checks.told(
+        &log,
         "s(2) dropped;latch stepped Give;latch dropped;latch stepped Load;s(1) dropped;\
-         s dropped;latch dropped;"
+         s dropped;latch dropped;",
     );
-    Ok(())
+    checks.verdict()
 }
 
 #[test]
 fn requests_end_with_their_responses(rt: HostRuntime) -> Result<(), Fail> {
+    let checks = Checks::new(rt.alloc());
     let alloc = rt.alloc();
     let log = Log::new(alloc)?;
     let script = Script::new(&log);
     let inner = Scripted::new(&script, 's');
     let mut service = PendingRequests::new(rt, alloc, inner, CompleteOnResponse::default())?;
     let solo = task(&rt)?;
-    assert_eq!(rt; service.load(), Count::default());
+    checks.same(&service.load(), &Count::default());
     let mut first = called(&solo, &mut service, 1).ok_or("not ready")?;
-    assert_eq!(rt; told_load(alloc, &service)?.as_str(), "Count(1)");
+    checks.same(&told_load(alloc, &service)?.as_str(), &"Count(1)");
     let mut second = called(&solo, &mut service, 2).ok_or("not ready")?;
-    assert_eq!(rt; told_load(alloc, &service)?.as_str(), "Count(2)");
-    assert!(rt; matches!(stepped(&solo, &mut first), Poll::Ready(Ok(1))));
-    assert_eq!(rt; told_load(alloc, &service)?.as_str(), "Count(1)");
-    assert!(rt; matches!(stepped(&solo, &mut second), Poll::Ready(Ok(2))));
-    assert_eq!(rt; service.load(), Count::default());
-    Ok(())
+    checks.same(&told_load(alloc, &service)?.as_str(), &"Count(2)");
+    checks.holds(matches!(stepped(&solo, &mut first), Poll::Ready(Ok(1))));
+    checks.same(&told_load(alloc, &service)?.as_str(), &"Count(1)");
+    checks.holds(matches!(stepped(&solo, &mut second), Poll::Ready(Ok(2))));
+    checks.same(&service.load(), &Count::default());
+    checks.verdict()
 }
 
 #[test]
 fn requests_end_with_their_handles(rt: HostRuntime) -> Result<(), Fail> {
+    let checks = Checks::new(rt.alloc());
     let alloc = rt.alloc();
     let log = Log::new(alloc)?;
     let script = Script::new(&log);
@@ -122,41 +126,43 @@ fn requests_end_with_their_handles(rt: HostRuntime) -> Result<(), Fail> {
     let Poll::Ready(Ok(one)) = stepped(&solo, &mut first) else {
         return Err("no handle".into());
     };
-    assert_eq!(rt; told_load(alloc, &service)?.as_str(), "Count(1)");
+    checks.same(&told_load(alloc, &service)?.as_str(), &"Count(1)");
     let mut second = called(&solo, &mut service, 2).ok_or("not ready")?;
-    assert_eq!(rt; told_load(alloc, &service)?.as_str(), "Count(2)");
+    checks.same(&told_load(alloc, &service)?.as_str(), &"Count(2)");
     let Poll::Ready(Ok(two)) = stepped(&solo, &mut second) else {
         return Err("no handle".into());
     };
-    assert_eq!(rt; told_load(alloc, &service)?.as_str(), "Count(2)");
+    checks.same(&told_load(alloc, &service)?.as_str(), &"Count(2)");
     drop(two);
-    assert_eq!(rt; told_load(alloc, &service)?.as_str(), "Count(1)");
+    checks.same(&told_load(alloc, &service)?.as_str(), &"Count(1)");
     drop(one);
-    assert_eq!(rt; told_load(alloc, &service)?.as_str(), "Count(0)");
-    Ok(())
+    checks.same(&told_load(alloc, &service)?.as_str(), &"Count(0)");
+    checks.verdict()
 }
 
 #[test]
 fn request_whose_share_is_refused_is_not_counted(rt: HostRuntime) -> Result<(), Fail> {
+    let checks = Checks::new(rt.alloc());
     let alloc = rt.alloc();
     let (log, shares) = (Log::new(alloc)?, Cell::new(0));
     let script = Script::new(&log);
     let mut service = noted(rt, &script, &shares)?;
     let solo = task(&rt)?;
     let mut response = called(&solo, &mut service, 1).ok_or("not ready")?;
-    assert_eq!(rt; told_load(alloc, &service)?.as_str(), "Count(0)");
-    assert!(rt; matches!(stepped(&solo, &mut response), Poll::Ready(Ok(1))));
-    assert_eq!(rt; told_load(alloc, &service)?.as_str(), "Count(0)");
-    assert_eq!(rt;
-        log.told(alloc)?.as_str(),
-        "s ready;latch refused;s called 1;latch stepped Load;s(1) ready;latch stepped Load;"
+    checks.same(&told_load(alloc, &service)?.as_str(), &"Count(0)");
+    checks.holds(matches!(stepped(&solo, &mut response), Poll::Ready(Ok(1))));
+    checks.same(&told_load(alloc, &service)?.as_str(), &"Count(0)");
+    checks.told(
+        &log,
+        "s ready;latch refused;s called 1;latch stepped Load;s(1) ready;latch stepped Load;",
     );
-    Ok(())
+    checks.verdict()
 }
 
 // A future that is dropped while it is pending ends its request.
 #[test]
 fn whole_runs_go_inside(rt: HostRuntime) -> Result<(), Fail> {
+    let checks = Checks::new(rt.alloc());
     let alloc = rt.alloc();
     let (log, shares) = (Log::new(alloc)?, Cell::new(255));
     let stage = Stage::new(&log);
@@ -177,22 +183,23 @@ fn whole_runs_go_inside(rt: HostRuntime) -> Result<(), Fail> {
         Event::Drop(1),
     ]?;
     let story = driven(&rt, &stage, service, events)?;
-    assert_eq!(rt;
-        story.entries.as_str(),
-        "pending;error 7;ready;call 0;0 pending;drop 0;ready;call 1;1 pending;1 error 2;drop 1;"
+    checks.same(
+        &story.entries.as_str(),
+        &"pending;error 7;ready;call 0;0 pending;drop 0;ready;call 1;1 pending;1 error 2;drop 1;",
     );
-    assert_eq!(rt;
-        story.told.as_str(),
-        "s pending;s error 7;s ready;latch shared;latch stepped Take;s called 1;s(1) pending;\
+    checks.same(
+        &story.told.as_str(),
+        &"s pending;s error 7;s ready;latch shared;latch stepped Take;s called 1;s(1) pending;\
          s(1) dropped;latch stepped Give;latch dropped;\
          s ready;latch shared;latch stepped Take;s called 2;s(2) pending;s(2) ready;\
-         s(2) dropped;latch stepped Give;latch dropped;s dropped;latch dropped;"
+         s(2) dropped;latch stepped Give;latch dropped;s dropped;latch dropped;",
     );
-    Ok(())
+    checks.verdict()
 }
 
 #[test]
 fn completion_is_given_any_handle(rt: HostRuntime) -> Result<(), Fail> {
+    let checks = Checks::new(rt.alloc());
     let alloc = rt.alloc();
     let log = Log::new(alloc)?;
     let answer: Result<u8, u8> = Ok(3);
@@ -200,15 +207,17 @@ fn completion_is_given_any_handle(rt: HostRuntime) -> Result<(), Fail> {
     let handle = Plain::new(&log, 'h');
     let mut future = TrackCompletionFuture::new(CompleteOnResponse, handle, response);
     let solo = task(&rt)?;
+    // A future that isn't known to be pending may not be polled again.
     assert!(rt; stepped(&solo, &mut future).is_pending());
-    assert_eq!(rt; log.told(alloc)?.as_str(), "f pending;");
-    assert!(rt; matches!(stepped(&solo, &mut future), Poll::Ready(Ok(3))));
-    assert_eq!(rt; log.told(alloc)?.as_str(), "f ready;h dropped;");
-    Ok(())
+    checks.told(&log, "f pending;");
+    checks.holds(matches!(stepped(&solo, &mut future), Poll::Ready(Ok(3))));
+    checks.told(&log, "f ready;h dropped;");
+    checks.verdict()
 }
 
 #[test]
 fn counts_are_ordered_as_their_numbers(rt: HostRuntime) -> Result<(), Fail> {
+    let checks = Checks::new(rt.alloc());
     let alloc = rt.alloc();
     let log = Log::new(alloc)?;
     let script = Script::new(&log);
@@ -218,14 +227,15 @@ fn counts_are_ordered_as_their_numbers(rt: HostRuntime) -> Result<(), Fail> {
     let none = service.load();
     let _first = called(&solo, &mut service, 1).ok_or("not ready")?;
     let one = service.load();
-    assert!(rt; none < one && none <= one && none <= none && one > none);
-    assert!(rt; none == none && none != one && none == Count::default());
-    assert!(rt; none.max(one) == one && none.min(one) == none);
-    Ok(())
+    checks.holds(none < one && none <= one && none <= none && one > none);
+    checks.holds(none == none && none != one && none == Count::default());
+    checks.holds(none.max(one) == one && none.min(one) == none);
+    checks.verdict()
 }
 
 #[test]
 fn each_service_of_a_discovery_has_a_count_of_its_own(rt: HostRuntime) -> Result<(), Fail> {
+    let checks = Checks::new(rt.alloc());
     let alloc = rt.alloc();
     let log = Log::new(alloc)?;
     let script = Script::new(&log);
@@ -239,7 +249,7 @@ fn each_service_of_a_discovery_has_a_count_of_its_own(rt: HostRuntime) -> Result
     let finds = Finds::new(&script, &list);
     let mut discovery = PendingRequestsDiscover::new(rt, alloc, finds, CompleteOnResponse);
     let solo = task(&rt)?;
-    assert!(rt; found(&solo, &mut discovery).is_pending());
+    checks.holds(found(&solo, &mut discovery).is_pending());
     let Poll::Ready(Some(Ok(Change::Insert(4, mut a)))) = found(&solo, &mut discovery) else {
         return Err("a service".into());
     };
@@ -247,27 +257,23 @@ fn each_service_of_a_discovery_has_a_count_of_its_own(rt: HostRuntime) -> Result
         return Err("a service".into());
     };
     let _pending = called(&solo, &mut a, 1).ok_or("not ready")?;
-    assert_eq!(rt; told_load(alloc, &a)?.as_str(), "Count(1)");
-    assert_eq!(rt; told_load(alloc, &b)?.as_str(), "Count(0)");
-    assert!(rt;
-        matches!(
-            found(&solo, &mut discovery),
-            Poll::Ready(Some(Err(Error::Inner(7))))
-        )
-    );
-    assert!(rt;
-        matches!(
-            found(&solo, &mut discovery),
-            Poll::Ready(Some(Ok(Change::Remove(4))))
-        )
-    );
-    assert!(rt; matches!(found(&solo, &mut discovery), Poll::Ready(None)));
-    assert_eq!(rt;
-        log.told(alloc)?.as_str(),
+    checks.same(&told_load(alloc, &a)?.as_str(), &"Count(1)");
+    checks.same(&told_load(alloc, &b)?.as_str(), &"Count(0)");
+    checks.holds(matches!(
+        found(&solo, &mut discovery),
+        Poll::Ready(Some(Err(Error::Inner(7))))
+    ));
+    checks.holds(matches!(
+        found(&solo, &mut discovery),
+        Poll::Ready(Some(Ok(Change::Remove(4))))
+    ));
+    checks.holds(matches!(found(&solo, &mut discovery), Poll::Ready(None)));
+    checks.told(
+        &log,
         "found Busy;found Insert(4, 'a');found Insert(5, 'b');a ready;a called 1;\
-         found Broken(7);found Remove(4);found the end;"
+         found Broken(7);found Remove(4);found the end;",
     );
-    Ok(())
+    checks.verdict()
 }
 
 #[test]

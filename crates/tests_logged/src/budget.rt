@@ -1,3 +1,4 @@
+//! A retry budget behind a logged latch, from threads.
 ghost use Rattle.std.specs.Prelude.{◌≡◌, Some};
 ghost use Rattle.tower_retry.specs.BudgetCore.{Opens};
 

@@ -1,3 +1,4 @@
+//! The count of pending requests behind a logged latch, from threads.
 ghost use Rattle.std.specs.Prelude.{◌≡◌, Some};
 ghost use Rattle.tower_limit.specs.CountCore.{Opens};
 

@@ -1,3 +1,5 @@
+//! The receipts of passes, and how they are compared with a history.
+
 use std::alloc::{AllocError, Global};
 use std::test::Fail;
 use tower_base::latch::{Core, Log, Pass};

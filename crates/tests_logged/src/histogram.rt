@@ -1,3 +1,4 @@
+//! A rotating histogram behind a logged latch, from threads.
 ghost use Rattle.std.specs.Prelude.{◌≡◌, Some};
 ghost use Rattle.tower_limit.specs.HistoCore.{Opens};
 

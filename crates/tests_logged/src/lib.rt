@@ -20,4 +20,6 @@ mod plain_mail;
 #[cfg(test)]
 mod random;
 #[cfg(test)]
+mod random_mail;
+#[cfg(test)]
 mod storm;

@@ -1,3 +1,4 @@
+//! A line of permits behind a logged latch: its history, and what is missing of it.
 ghost use Rattle.std.specs.Prelude.{◌≡◌, Some};
 ghost use Rattle.tower_limit.specs.LineCore.{Opens};
 

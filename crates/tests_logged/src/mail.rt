@@ -1,3 +1,4 @@
+//! The mail of a buffer behind a logged latch, from threads.
 ghost use Rattle.std.specs.Prelude.{◌≡◌, Some};
 ghost use Rattle.tower_pool.specs.Mailbox.{Opens};
 

@@ -1,3 +1,4 @@
+//! A line of permits as its definition says it: a plain list of tickets.
 ghost use Rattle.std.specs.Prelude.{◌<◌, IfSome, vec_len};
 
 use std::alloc::Global;

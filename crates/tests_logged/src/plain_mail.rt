@@ -1,3 +1,5 @@
+//! Mail as its definition says it: a plain list of messages beside a plain line.
+
 use crate::plain_line::PlainLine;
 use std::alloc::Global;
 use std::test::Fail;

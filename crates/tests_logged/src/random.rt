@@ -1,3 +1,5 @@
+//! A line of permits beside a plain one, on random steps.
+
 use crate::plain_line::PlainLine;
 use std::alloc::Global;
 use std::test::Fail;

@@ -1,3 +1,4 @@
+//! Threads that ask for permits of one logged line at once.
 ghost use Rattle.std.specs.Prelude.{◌≡◌, Some};
 ghost use Rattle.tower_limit.specs.LineCore.{Opens};
 

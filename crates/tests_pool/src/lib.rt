@@ -6,4 +6,8 @@ mod cache_story;
 #[cfg(test)]
 mod mail_core;
 #[cfg(test)]
+mod plain_cache;
+#[cfg(test)]
+mod random_cache;
+#[cfg(test)]
 mod ready_cache;

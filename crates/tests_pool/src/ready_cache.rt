@@ -6,6 +6,7 @@ use crate::cache_story::Act::{
 };
 use crate::cache_story::{Act, story};
 use std::test::Fail;
+use tests_support::checks::Checks;
 use tests_support::script::Mood::{Broken, Busy, Willing};
 
 #[test]
@@ -195,20 +196,21 @@ fn evicted_key_is_pushed_anew(rt: HostRuntime) -> Result<(), Fail> {
 
 #[test]
 fn cancelled_ones_of_a_long_queue_are_not_asked(rt: HostRuntime) -> Result<(), Fail> {
+    let checks = Checks::new(rt.alloc());
     let acts = vec![in rt.alloc(); Push(0, 'a'); 130]?;
     let told = story(&rt, acts.as_slice())?;
-    assert_eq!(rt; told.as_str().split("a dropped;").count(), 131);
+    checks.same(&told.as_str().split("a dropped;").count(), &131);
     let mut acts = acts;
     acts.push(Poll).map_err(|_| "no room")?;
     acts.push(Look).map_err(|_| "no room")?;
     let told = story(&rt, acts.as_slice())?;
-    assert_eq!(rt; told.as_str().split("a ready;").count(), 2);
-    assert_eq!(rt; told.as_str().split("a dropped;").count(), 131);
-    assert!(rt;
+    checks.same(&told.as_str().split("a ready;").count(), &2);
+    checks.same(&told.as_str().split("a dropped;").count(), &131);
+    checks.holds(
         told.as_str()
-            .ends_with("a ready;poll ok;key 0;1 + 0 = 1;a dropped;")
+            .ends_with("a ready;poll ok;key 0;1 + 0 = 1;a dropped;"),
     );
-    Ok(())
+    checks.verdict()
 }
 
 #[test]
@@ -317,5 +319,25 @@ fn ready_services_are_replaced(rt: HostRuntime) -> Result<(), Fail> {
         "a ready;b ready;poll ok;b dropped;a dropped;none to replace;a dropped;none to replace;a dropped;\
          2 there;none there;c ready;check true;c dropped;c dropped;"
     );
+    Ok(())
+}
+
+// Those that a later push cancelled are dropped unasked.
+#[test]
+fn last_of_130_of_one_key_is_asked(rt: HostRuntime) -> Result<(), Fail> {
+    let mut acts = [Push(1, 'b'); 134];
+    acts[129] = Push(1, 'a');
+    acts[130] = Look;
+    acts[131] = Find(1);
+    acts[132] = Poll;
+    acts[133] = Look;
+    let told = story(&rt, &acts)?;
+    let mut want = String::new(rt.alloc());
+    want.push_str("0 + 130 = 130;not ready;awaited;")?;
+    for _ in 0..129 {
+        want.push_str("b dropped;")?;
+    }
+    want.push_str("a ready;poll ok;key 1;1 + 0 = 1;a dropped;")?;
+    assert_eq!(rt; told.as_str(), want.as_str());
     Ok(())
 }

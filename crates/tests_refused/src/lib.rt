@@ -14,3 +14,5 @@ mod logged;
 mod pool;
 #[cfg(test)]
 mod shared;
+#[cfg(test)]
+mod slabs;

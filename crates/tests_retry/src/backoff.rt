@@ -1,20 +1,30 @@
 //! `tower::retry::backoff`: waits, words and readings.
-ghost use Rattle.std.specs.Prelude.{IfOk};
 
 use crate::parts::Rising;
 use futures::task::Poll;
 use futures::test::MockTask;
-use std::alloc::AllocError;
 use std::cell::Cell;
 use std::process::Abort;
 use std::test::Fail;
+use tests_support::checks::Checks;
 use tests_support::clock::Hand;
 use tests_support::log::Log;
-use tower_base::service::Fraction;
+use tower_base::service::{Clock, Fraction};
 use tower_base::util::rng::{HasherRng, Rng};
 use tower_retry::retry::backoff::{Backoff, ExponentialBackoffMaker, InvalidBackoff, MakeBackoff};
 
 const MS: u64 = 1_000_000;
+
+// A maker of which nothing is known.
+fn any<R: Rng, C: Clock>(
+    min: u64,
+    max: u64,
+    jitter: Fraction,
+    rng: R,
+    clock: C,
+) -> Result<ExponentialBackoffMaker<R, C>, InvalidBackoff> {
+    ExponentialBackoffMaker::new(min, max, jitter, rng, clock)
+}
 
 // A maker over a clock at 0, with the given words.
 fn maker<'a>(
@@ -25,7 +35,7 @@ fn maker<'a>(
     moment: &'a Cell<u64>,
     log: &'a Log,
 ) -> Result<ExponentialBackoffMaker<Rising<'a>, Hand<'a>>, InvalidBackoff> {
-    ExponentialBackoffMaker::new(
+    any(
         min,
         max,
         jitter,
@@ -60,42 +70,52 @@ fn lasts<B: Backoff>(
     }
 }
 
-// A generic body.
-fn made<M: MakeBackoff>(maker: &mut M) -> Result<M::Backoff, AllocError>
-    requires { M.sound maker.old }
-    ensures { IfOk result M.Backoff.sound }
-{
-    maker.make_backoff()
+// So long are the waits of one backoff, one after another.
+fn each_lasts<R: Rng + Clone, C: Clock>(
+    rt: &impl Abort,
+    task: &MockTask,
+    moment: &Cell<u64>,
+    mut maker: ExponentialBackoffMaker<R, C>,
+    waits: &[u64],
+) -> Result<(), Fail> {
+    let mut backoff = maker.make_backoff()?;
+    for wait in waits {
+        lasts(rt, task, moment, &mut backoff, *wait);
+    }
+    Ok(())
 }
 
 #[test]
 fn waits_double_up_to_the_greatest(rt: HostRuntime) -> Result<(), Fail> {
     let (moment, log) = (Cell::new(0), Log::new(rt.alloc())?);
-    let task = MockTask::new(&rt)?;
-    let none = Fraction::new(0, 1);
-    let mut maker = maker(100 * MS, 1000 * MS, none, 0, &moment, &log)?;
-    let mut backoff = made(&mut maker)?;
-    for wait in [100, 200, 400, 800, 1000, 1000] {
-        lasts(&rt, &task, &moment, &mut backoff, wait * MS);
+    let maker = maker(100 * MS, 1000 * MS, Fraction::new(0, 1), 0, &moment, &log)?;
+    let waits = [100 * MS, 200 * MS, 400 * MS, 800 * MS, 1000 * MS, 1000 * MS];
+    each_lasts(&rt, &MockTask::new(&rt)?, &moment, maker, &waits)
+}
+
+fn thirty_one_waits_go_before<R: Rng + Clone, C: Clock>(
+    rt: &impl Abort,
+    task: &MockTask,
+    moment: &Cell<u64>,
+    mut maker: ExponentialBackoffMaker<R, C>,
+) -> Result<(), Fail> {
+    let mut backoff = maker.make_backoff()?;
+    for _ in 1..32_u8 {
+        drop(backoff.next_backoff());
     }
+    for wait in [2147483648, 4294967295, 4294967295] {
+        lasts(rt, task, moment, &mut backoff, wait);
+    }
+    let mut other = backoff.clone()?;
+    lasts(rt, task, moment, &mut other, 4294967295);
     Ok(())
 }
 
 #[test]
 fn waits_double_thirty_two_times(rt: HostRuntime) -> Result<(), Fail> {
     let (moment, log) = (Cell::new(0), Log::new(rt.alloc())?);
-    let task = MockTask::new(&rt)?;
-    let none = Fraction::new(0, 1);
-    let mut backoff = maker(1, u64::MAX, none, 0, &moment, &log)?.make_backoff()?;
-    for _ in 1..32_u8 {
-        drop(backoff.next_backoff());
-    }
-    for wait in [2147483648, 4294967295, 4294967295] {
-        lasts(&rt, &task, &moment, &mut backoff, wait);
-    }
-    let mut other = backoff.clone()?;
-    lasts(&rt, &task, &moment, &mut other, 4294967295);
-    Ok(())
+    let maker = maker(1, u64::MAX, Fraction::new(0, 1), 0, &moment, &log)?;
+    thirty_one_waits_go_before(&rt, &MockTask::new(&rt)?, &moment, maker)
 }
 
 #[test]
@@ -111,48 +131,61 @@ fn a_wait_has_jitter_of_one_word(rt: HostRuntime) -> Result<(), Fail> {
     Ok(())
 }
 
+// With jitter and without.
+fn a_word_goes_before<R: Rng + Clone, C: Clock>(
+    rt: &HostRuntime,
+    log: &Log,
+    mut jittery: ExponentialBackoffMaker<R, C>,
+    mut plain: ExponentialBackoffMaker<R, C>,
+) -> Result<(), Fail> {
+    let checks = Checks::new(rt.alloc());
+    let mut backoff = jittery.make_backoff()?;
+    checks.told(log, "clock shared;");
+    let wait = backoff.next_backoff();
+    checks.told(log, "word drawn;clock shared;clock read 0;");
+    drop(wait);
+    let mut backoff = plain.make_backoff()?;
+    log.told(rt.alloc())?;
+    let wait = backoff.next_backoff();
+    checks.told(log, "clock shared;clock read 0;");
+    drop(wait);
+    checks.told(log, "clock dropped;");
+    checks.verdict()
+}
+
 #[test]
 fn the_clock_is_read_after_the_word(rt: HostRuntime) -> Result<(), Fail> {
-    let alloc = rt.alloc();
-    let (moment, log) = (Cell::new(0), Log::new(alloc)?);
-    let half = Fraction::new(1, 2);
-    let mut maker_of_words = maker(1, 2, half, 0, &moment, &log)?;
-    let mut backoff = maker_of_words.make_backoff()?;
-    assert_eq!(rt; log.told(alloc)?.as_str(), "clock shared;");
-    let wait = backoff.next_backoff();
-    assert_eq!(rt;
-        log.told(alloc)?.as_str(),
-        "word drawn;clock shared;clock read 0;"
-    );
-    drop(wait);
-    let none = Fraction::new(0, 1);
-    let mut without = maker(1, 2, none, 0, &moment, &log)?;
-    let mut backoff = without.make_backoff()?;
-    log.told(alloc)?;
-    let wait = backoff.next_backoff();
-    assert_eq!(rt; log.told(alloc)?.as_str(), "clock shared;clock read 0;");
-    drop(wait);
-    assert_eq!(rt; log.told(alloc)?.as_str(), "clock dropped;");
+    let (moment, log) = (Cell::new(0), Log::new(rt.alloc())?);
+    let jittery = maker(1, 2, Fraction::new(1, 2), 0, &moment, &log)?;
+    let plain = maker(1, 2, Fraction::new(0, 1), 0, &moment, &log)?;
+    a_word_goes_before(&rt, &log, jittery, plain)
+}
+
+fn each_begins_anew<R: Rng + Clone, C: Clock>(
+    rt: &impl Abort,
+    task: &MockTask,
+    moment: &Cell<u64>,
+    mut words: ExponentialBackoffMaker<R, C>,
+) -> Result<(), Fail> {
+    for _ in 0..2_u8 {
+        let mut backoff = words.clone()?.make_backoff()?;
+        lasts(rt, task, moment, &mut backoff, 125);
+        let mut backoff = words.make_backoff()?;
+        lasts(rt, task, moment, &mut backoff, 125);
+    }
     Ok(())
 }
 
 #[test]
 fn each_backoff_begins_with_the_same_word(rt: HostRuntime) -> Result<(), Fail> {
     let (moment, log) = (Cell::new(0), Log::new(rt.alloc())?);
-    let task = MockTask::new(&rt)?;
-    let whole = Fraction::new(1, 1);
-    let mut words = maker(100, 1000, whole, 1 << 62, &moment, &log)?;
-    for _ in 0..2_u8 {
-        let mut backoff = words.clone()?.make_backoff()?;
-        lasts(&rt, &task, &moment, &mut backoff, 125);
-        let mut backoff = words.make_backoff()?;
-        lasts(&rt, &task, &moment, &mut backoff, 125);
-    }
-    Ok(())
+    let words = maker(100, 1000, Fraction::new(1, 1), 1 << 62, &moment, &log)?;
+    each_begins_anew(&rt, &MockTask::new(&rt)?, &moment, words)
 }
 
 #[test]
 fn makers_are_refused_in_this_order(rt: HostRuntime) -> Result<(), Fail> {
+    let checks = Checks::new(rt.alloc());
     let (moment, log) = (Cell::new(0), Log::new(rt.alloc())?);
     for (min, max, jitter, text) in [
         (2 * MS, MS, 101, "maximum must not be less than minimum"),
@@ -165,46 +198,40 @@ fn makers_are_refused_in_this_order(rt: HostRuntime) -> Result<(), Fail> {
         };
         let want = format!(in rt.alloc(); "invalid backoff: {text}")?;
         let text = format!(in rt.alloc(); "{refusal}")?;
-        assert_eq!(rt; text.as_str(), want.as_str());
+        checks.same(&text.as_str(), &want.as_str());
     }
     let most = maker(MS, 2 * MS, Fraction::new(100, 1), 0, &moment, &log);
-    assert!(rt; most.is_ok());
-    Ok(())
+    checks.holds(most.is_ok());
+    checks.verdict()
 }
 
 // Each wait is longer by its word's part of 99 in 100.
 #[test]
 fn by_default_from_fifty_milliseconds(rt: HostRuntime) -> Result<(), Fail> {
     let (moment, log) = (Cell::new(0), Log::new(rt.alloc())?);
-    let task = MockTask::new(&rt)?;
     let mut words = HasherRng::new();
-    let mut maker = ExponentialBackoffMaker::with_clock(Hand::new(&log, &moment));
-    let mut backoff = made(&mut maker)?;
+    let mut waits = Vec::new(rt.alloc());
     for base in [50 * MS, 100 * MS, 200 * MS, 400 * MS] {
         let part = words.next_u64() >> 11;
         let share = base as u128 * part as u128 / (1 << 53);
         let jitter = (share * 99 / 100) as u64;
-        lasts(
-            &rt,
-            &task,
-            &moment,
-            &mut backoff,
-            base.saturating_add(jitter),
-        );
+        waits.push(base.saturating_add(jitter))?;
     }
-    Ok(())
+    let maker = ExponentialBackoffMaker::with_clock(Hand::new(&log, &moment));
+    each_lasts(&rt, &MockTask::new(&rt)?, &moment, maker, waits.as_slice())
 }
 
 #[test]
 fn a_refused_clone_makes_no_backoff(rt: HostRuntime) -> Result<(), Fail> {
+    let checks = Checks::new(rt.alloc());
     let alloc = rt.alloc();
     let (moment, log) = (Cell::new(0), Log::new(alloc)?);
     let mut rng = Rising::new(&log, 0);
     rng.refuses = true;
     let clock = Hand::new(&log, &moment);
     let mut maker = ExponentialBackoffMaker::new(1, 2, Fraction::new(1, 1), rng, clock)?;
-    assert!(rt; maker.make_backoff().is_err());
-    assert!(rt; maker.clone().is_err());
-    assert_eq!(rt; log.told(alloc)?.as_str(), "");
-    Ok(())
+    checks.holds(maker.make_backoff().is_err());
+    checks.holds(maker.clone().is_err());
+    checks.told(&log, "");
+    checks.verdict()
 }

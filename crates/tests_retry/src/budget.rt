@@ -5,11 +5,12 @@ use std::cell::Cell;
 use std::process::Abort;
 use std::sync::Wait;
 use std::test::Fail;
+use tests_support::checks::Checks;
 use tests_support::clock::Hand;
 use tests_support::latch::Noting;
 use tests_support::log::Log;
-use tower_base::latch::{Core, Guarded};
-use tower_base::service::Fraction;
+use tower_base::latch::{Core, Guarded, Latch};
+use tower_base::service::{Clock, Fraction};
 use tower_retry::retry::budget::{Budget, BudgetCore, BudgetReply, BudgetStep, TpsBudget};
 
 const MS: u64 = 1_000_000;
@@ -102,6 +103,7 @@ fn a_deposit_counts_for_ten_windows(rt: HostRuntime) -> Result<(), Fail> {
 // A deposit in each of eleven generations counts, and then goes with its own.
 #[test]
 fn eleven_generations_count(rt: HostRuntime) -> Result<(), Fail> {
+    let checks = Checks::new(rt.alloc());
     let alloc = rt.alloc();
     let mut core = BudgetCore::new(alloc, 10 * SECOND, 0, Fraction::new(1, 11), 0)?;
     for second in 0..11u64 {
@@ -114,10 +116,10 @@ fn eleven_generations_count(rt: HostRuntime) -> Result<(), Fail> {
         late.step(BudgetStep::Deposit(second * SECOND));
     }
     let in_time = core.step(BudgetStep::Withdraw(10 * SECOND));
-    assert_eq!(rt; in_time, BudgetReply::Allowed(true));
+    checks.same(&in_time, &BudgetReply::Allowed(true));
     let too_late = late.step(BudgetStep::Withdraw(11 * SECOND));
-    assert_eq!(rt; too_late, BudgetReply::Allowed(false));
-    Ok(())
+    checks.same(&too_late, &BudgetReply::Allowed(false));
+    checks.verdict()
 }
 
 #[test]
@@ -233,13 +235,32 @@ fn thirty_seven_a_second(rt: HostRuntime) -> Result<(), Fail> {
     Ok(())
 }
 
+// Ten a second and one in five.
+fn usual<R: Wait + AllocGlobal + Copy, C: Clock>(
+    rt: R,
+    clock: C,
+) -> Result<TpsBudget<Guarded<BudgetCore, R>, C>, AllocError> {
+    TpsBudget::with_clock(rt, rt.alloc(), clock)
+}
+
+// Before these plays at 5 a hundred withdrawals are allowed.
+fn a_hundred_go_before<B: Budget>(
+    rt: &impl Abort,
+    checks: &Checks,
+    moment: &Cell<u64>,
+    mut budget: B,
+    plays: &[Play],
+) {
+    checks.same(&allowed(moment, &mut budget, 5), &100);
+    act(rt, moment, &mut budget, plays);
+}
+
 #[test]
 fn by_default_a_hundred_retries_in_ten_seconds(rt: HostRuntime) -> Result<(), Fail> {
-    let alloc = rt.alloc();
-    let (moment, log) = (Cell::new(5), Log::new(alloc)?);
-    let mut budget = TpsBudget::with_clock(rt, alloc, Hand::new(&log, &moment))?;
-    assert_eq!(rt; log.told(alloc)?.as_str(), "clock read 5;");
-    assert_eq!(rt; allowed(&moment, &mut budget, 5), 100);
+    let checks = Checks::new(rt.alloc());
+    let (moment, log) = (Cell::new(5), Log::new(rt.alloc())?);
+    let budget = usual(rt, Hand::new(&log, &moment))?;
+    checks.told(&log, "clock read 5;");
     let saved = [
         Put(5),
         Put(5),
@@ -249,16 +270,16 @@ fn by_default_a_hundred_retries_in_ten_seconds(rt: HostRuntime) -> Result<(), Fa
         Put(5),
         Take(5, true),
     ];
-    act(&rt, &moment, &mut budget, &saved);
+    a_hundred_go_before(&rt, &checks, &moment, budget, &saved);
     moment.set(5);
-    let mut budget = TpsBudget::with_clock(rt, alloc, Hand::new(&log, &moment))?;
-    assert_eq!(rt; allowed(&moment, &mut budget, 5), 100);
-    act(&rt, &moment, &mut budget, &[Take(10 * SECOND + 6, true)]);
+    let budget = usual(rt, Hand::new(&log, &moment))?;
+    let past_it = [Take(10 * SECOND + 6, true)];
+    a_hundred_go_before(&rt, &checks, &moment, budget, &past_it);
     moment.set(5);
-    let mut budget = TpsBudget::with_clock(rt, alloc, Hand::new(&log, &moment))?;
-    assert_eq!(rt; allowed(&moment, &mut budget, 5), 100);
-    act(&rt, &moment, &mut budget, &[Take(10 * SECOND + 5, false)]);
-    Ok(())
+    let budget = usual(rt, Hand::new(&log, &moment))?;
+    let at_the_end = [Take(10 * SECOND + 5, false)];
+    a_hundred_go_before(&rt, &checks, &moment, budget, &at_the_end);
+    checks.verdict()
 }
 
 #[test]
@@ -297,6 +318,32 @@ fn a_core_steps(rt: HostRuntime) -> Result<(), Fail> {
     Ok(())
 }
 
+fn each_is_a_reading_and_a_step<L: Latch<BudgetCore>, C: Clock>(
+    rt: &HostRuntime,
+    log: &Log,
+    moment: &Cell<u64>,
+    latch: L,
+    clock: C,
+) -> Result<(), Fail> {
+    let checks = Checks::new(rt.alloc());
+    let mut budget = TpsBudget::with_latch(latch, clock);
+    checks.told(log, "");
+    checks.same(&allowed(moment, &mut budget, 3), &100);
+    log.told(rt.alloc())?;
+    let mut other = budget.clone()?;
+    checks.told(log, "latch shared;clock shared;");
+    moment.set(4);
+    checks.holds(!other.withdraw());
+    other.deposit();
+    checks.told(
+        log,
+        "clock read 4;latch stepped Withdraw(4);clock read 4;latch stepped Deposit(4);",
+    );
+    checks.holds(budget.clone().is_err());
+    checks.told(log, "latch refused;");
+    checks.verdict()
+}
+
 // Each reads the clock, and then makes one step at the latch.
 #[test]
 fn one_latch_step_each(rt: HostRuntime) -> Result<(), Fail> {
@@ -304,22 +351,7 @@ fn one_latch_step_each(rt: HostRuntime) -> Result<(), Fail> {
     let (moment, log, shares) = (Cell::new(3), Log::new(alloc)?, Cell::new(1));
     let core = BudgetCore::new(alloc, 10 * SECOND, 10, Fraction::new(1, 5), 3)?;
     let latch = Noting::new(&log, &shares, Guarded::new(rt, alloc, core)?);
-    let mut budget = TpsBudget::with_latch(latch, Hand::new(&log, &moment));
-    assert_eq!(rt; log.told(alloc)?.as_str(), "");
-    assert_eq!(rt; allowed(&moment, &mut budget, 3), 100);
-    log.told(alloc)?;
-    let mut other = budget.clone()?;
-    assert_eq!(rt; log.told(alloc)?.as_str(), "latch shared;clock shared;");
-    moment.set(4);
-    assert!(rt; !other.withdraw());
-    other.deposit();
-    assert_eq!(rt;
-        log.told(alloc)?.as_str(),
-        "clock read 4;latch stepped Withdraw(4);clock read 4;latch stepped Deposit(4);"
-    );
-    assert!(rt; budget.clone().is_err());
-    assert_eq!(rt; log.told(alloc)?.as_str(), "latch refused;");
-    Ok(())
+    each_is_a_reading_and_a_step(&rt, &log, &moment, latch, Hand::new(&log, &moment))
 }
 
 // The budget's definition for windows of a second and 1/2: a plain list of all amounts that count, each

@@ -5,6 +5,7 @@ use crate::policy::{Rule, Word, Words};
 use futures::future::{Ready, ready};
 use futures::test::MockTask;
 use std::test::Fail;
+use tests_support::checks::Checks;
 use tests_support::log::Log;
 use tests_support::run::{called, task};
 use tests_support::script::Mood::{Broken, Busy, Willing};
@@ -12,9 +13,23 @@ use tests_support::script::{Reply, Script};
 use tests_support::service::Scripted;
 use tests_support::story::{Act, Stage, Story, driven};
 use tower_base::drive::Event;
+use tower_base::latch::Latch;
 use tower_base::layer::Layer;
+use tower_base::service::Service;
 use tower_limit::limit::ConcurrencyLimit;
+use tower_limit::limit::concurrency::LineCore;
 use tower_retry::retry::{Error, Policy, Retry, RetryLayer};
+
+// A run by this policy.
+fn run_by(
+    rt: &HostRuntime,
+    stage: &Stage<'_>,
+    rule: Rule<'_>,
+    events: Vec<Event<u8, Act>>,
+) -> Result<Story, Fail> {
+    let retry = Retry::new(rule, Scripted::new(&stage.script, 's'));
+    driven(rt, stage, retry, events)
+}
 
 // A run with these words of the policy.
 fn run(
@@ -23,13 +38,7 @@ fn run(
     words: &Words,
     events: Vec<Event<u8, Act>>,
 ) -> Result<Story, Fail> {
-    let rule = Rule::new(&stage.script, words, 'r');
-    driven(
-        rt,
-        stage,
-        Retry::new(rule, Scripted::new(&stage.script, 's')),
-        events,
-    )
+    run_by(rt, stage, Rule::new(&stage.script, words, 'r'), events)
 }
 
 // One call of 7, and so many polls of its future.
@@ -43,46 +52,49 @@ fn one_call(rt: &HostRuntime, polls: u8) -> Result<Vec<Event<u8, Act>>, Fail> {
 
 #[test]
 fn errors_are_retried(rt: HostRuntime) -> Result<(), Fail> {
+    let checks = Checks::new(rt.alloc());
     let log = Log::new(rt.alloc())?;
     let stage = Stage::new(&log);
     stage.script.replies(&[Reply::Fail(0), Reply::Echo(0)]);
     let words = Words::new(&[Word::Again(0), Word::Done]);
     let story = run(&rt, &stage, &words, one_call(&rt, 1)?)?;
-    assert_eq!(rt; story.entries.as_str(), "ready;call 0;0 ok 7;");
-    assert_eq!(rt;
-        story.told.as_str(),
-        "s ready;r copied 7;s called 7;r cloned r1;s cloned s2;\
+    checks.same(&story.entries.as_str(), &"ready;call 0;0 ok 7;");
+    checks.same(
+        &story.told.as_str(),
+        &"s ready;r copied 7;s called 7;r cloned r1;s cloned s2;\
          s(7) ready;r1 asked Err(7);s(7) dropped;w ready;w dropped;s2 ready;r1 copied 7;s2 called 7;\
-         s2(7) ready;r1 asked Ok(7);r dropped;s dropped;r1 dropped;s2 dropped;s2(7) dropped;"
+         s2(7) ready;r1 asked Ok(7);r dropped;s dropped;r1 dropped;s2 dropped;s2(7) dropped;",
     );
-    Ok(())
+    checks.verdict()
 }
 
 // The finished response is dropped before the wait.
 #[test]
 fn each_part_may_be_pending_for_a_while(rt: HostRuntime) -> Result<(), Fail> {
+    let checks = Checks::new(rt.alloc());
     let log = Log::new(rt.alloc())?;
     let stage = Stage::new(&log);
     stage.script.moods(&[Willing, Busy, Willing]);
     stage.script.replies(&[Reply::Fail(1), Reply::Echo(1)]);
     let words = Words::new(&[Word::Again(1), Word::Done]);
     let story = run(&rt, &stage, &words, one_call(&rt, 5)?)?;
-    assert_eq!(rt;
-        story.entries.as_str(),
-        "ready;call 0;0 pending;0 pending;0 pending;0 pending;0 ok 7;"
+    checks.same(
+        &story.entries.as_str(),
+        &"ready;call 0;0 pending;0 pending;0 pending;0 pending;0 ok 7;",
     );
-    assert_eq!(rt;
-        story.told.as_str(),
-        "s ready;r copied 7;s called 7;r cloned r1;s cloned s2;s(7) pending;\
+    checks.same(
+        &story.told.as_str(),
+        &"s ready;r copied 7;s called 7;r cloned r1;s cloned s2;s(7) pending;\
          s(7) ready;r1 asked Err(7);s(7) dropped;w pending;w ready;w dropped;s2 pending;\
          s2 ready;r1 copied 7;s2 called 7;s2(7) pending;s2(7) ready;r1 asked Ok(7);\
-         r dropped;s dropped;r1 dropped;s2 dropped;s2(7) dropped;"
+         r dropped;s dropped;r1 dropped;s2 dropped;s2(7) dropped;",
     );
-    Ok(())
+    checks.verdict()
 }
 
 #[test]
 fn two_retries_and_no_third(rt: HostRuntime) -> Result<(), Fail> {
+    let checks = Checks::new(rt.alloc());
     let log = Log::new(rt.alloc())?;
     let stage = Stage::new(&log);
     stage.script.replies(&[
@@ -93,14 +105,15 @@ fn two_retries_and_no_third(rt: HostRuntime) -> Result<(), Fail> {
     ]);
     let words = Words::new(&[Word::Again(0), Word::Again(0), Word::Done]);
     let story = run(&rt, &stage, &words, one_call(&rt, 1)?)?;
-    assert_eq!(rt; story.entries.as_str(), "ready;call 0;0 error 3;");
-    assert_eq!(rt; story.told.as_str().split("called 7;").count(), 4);
-    assert_eq!(rt; story.told.as_str().split("asked Err(").count(), 4);
-    Ok(())
+    checks.same(&story.entries.as_str(), &"ready;call 0;0 error 3;");
+    checks.same(&story.told.as_str().split("called 7;").count(), &4);
+    checks.same(&story.told.as_str().split("asked Err(").count(), &4);
+    checks.verdict()
 }
 
 #[test]
 fn without_a_copy_there_is_one_attempt(rt: HostRuntime) -> Result<(), Fail> {
+    let checks = Checks::new(rt.alloc());
     let log = Log::new(rt.alloc())?;
     let stage = Stage::new(&log);
     stage.script.replies(&[Reply::Fail(0), Reply::Echo(0)]);
@@ -114,35 +127,36 @@ fn without_a_copy_there_is_one_attempt(rt: HostRuntime) -> Result<(), Fail> {
         Event::Call(8),
         Event::Future(1),
     ]?;
-    let retry = Retry::new(rule, Scripted::new(&stage.script, 's'));
-    let story = driven(&rt, &stage, retry, events)?;
-    assert_eq!(rt;
-        story.entries.as_str(),
-        "ready;call 0;0 error 7;ready;call 1;1 ok 8;"
+    let story = run_by(&rt, &stage, rule, events)?;
+    checks.same(
+        &story.entries.as_str(),
+        &"ready;call 0;0 error 7;ready;call 1;1 ok 8;",
     );
-    assert_eq!(rt; story.told.as_str().split("left ").count(), 3);
-    assert_eq!(rt; story.told.as_str().split("asked").count(), 1);
-    Ok(())
+    checks.same(&story.told.as_str().split("left ").count(), &3);
+    checks.same(&story.told.as_str().split("asked").count(), &1);
+    checks.verdict()
 }
 
 #[test]
 fn a_policy_may_change_request_and_result(rt: HostRuntime) -> Result<(), Fail> {
+    let checks = Checks::new(rt.alloc());
     let log = Log::new(rt.alloc())?;
     let stage = Stage::new(&log);
     let words = Words::new(&[Word::Change(9, 0), Word::Answer(Err(4))]);
     let story = run(&rt, &stage, &words, one_call(&rt, 1)?)?;
-    assert_eq!(rt; story.entries.as_str(), "ready;call 0;0 error 4;");
-    assert_eq!(rt;
-        story.told.as_str(),
-        "s ready;r copied 7;s called 7;r cloned r1;s cloned s2;\
+    checks.same(&story.entries.as_str(), &"ready;call 0;0 error 4;");
+    checks.same(
+        &story.told.as_str(),
+        &"s ready;r copied 7;s called 7;r cloned r1;s cloned s2;\
          s(7) ready;r1 asked Ok(7);s(7) dropped;w ready;w dropped;s2 ready;r1 copied 9;s2 called 9;\
-         s2(9) ready;r1 asked Ok(9);r dropped;s dropped;r1 dropped;s2 dropped;s2(9) dropped;"
+         s2(9) ready;r1 asked Ok(9);r dropped;s dropped;r1 dropped;s2 dropped;s2(9) dropped;",
     );
-    Ok(())
+    checks.verdict()
 }
 
 #[test]
 fn a_readiness_error_is_the_answer(rt: HostRuntime) -> Result<(), Fail> {
+    let checks = Checks::new(rt.alloc());
     let log = Log::new(rt.alloc())?;
     let stage = Stage::new(&log);
     stage.script.moods(&[Willing, Broken(5), Broken(6)]);
@@ -150,9 +164,9 @@ fn a_readiness_error_is_the_answer(rt: HostRuntime) -> Result<(), Fail> {
     let words = Words::new(&[Word::Again(0)]);
     let events = vec![in rt.alloc(); Event::Poll, Event::Call(7), Event::Future(0), Event::Poll]?;
     let story = run(&rt, &stage, &words, events)?;
-    assert_eq!(rt; story.entries.as_str(), "ready;call 0;0 error 5;error 6;");
-    assert_eq!(rt; story.told.as_str().split("asked").count(), 2);
-    Ok(())
+    checks.same(&story.entries.as_str(), &"ready;call 0;0 error 5;error 6;");
+    checks.same(&story.told.as_str().split("asked").count(), &2);
+    checks.verdict()
 }
 
 // Retries each error at once, so many times.
@@ -181,22 +195,40 @@ impl<E: Drop> Policy<u8, u8, E> for Stubborn {
     }
 }
 
+// One poll of a call whose every attempt fails.
+fn a_poll_ends<S: Service<u8>>(rt: &HostRuntime, log: &Log, mut service: S) -> Result<(), Fail>
+    requires { S.sound service }
+{
+    let checks = Checks::new(rt.alloc());
+    let mut future = called(&task(rt)?, &mut service, 7).ok_or("not ready")?;
+    log.told(rt.alloc())?;
+    let task = MockTask::new(rt)?;
+    checks.holds(task.poll(&mut future).is_pending());
+    checks.holds(task.is_woken());
+    checks.same(
+        &log.told(rt.alloc())?.as_str().split("called 7;").count(),
+        &22,
+    );
+    checks.verdict()
+}
+
 #[test]
 fn a_poll_is_64_passes(rt: HostRuntime) -> Result<(), Fail> {
     let log = Log::new(rt.alloc())?;
     let script = Script::new(&log);
     script.replies(&[Reply::Fail(0)]);
-    let mut retry = Retry::new(Stubborn { left: 255 }, Scripted::new(&script, 's'));
-    let mut future = called(&task(&rt)?, &mut retry, 7).ok_or("not ready")?;
-    log.told(rt.alloc())?;
-    let task = MockTask::new(&rt)?;
-    assert!(rt; task.poll(&mut future).is_pending());
-    assert!(rt; task.is_woken());
-    assert_eq!(rt;
-        log.told(rt.alloc())?.as_str().split("called 7;").count(),
-        22
-    );
-    Ok(())
+    let retry = Retry::new(Stubborn { left: 255 }, Scripted::new(&script, 's'));
+    a_poll_ends(&rt, &log, retry)
+}
+
+// A call of a limit, with a second attempt.
+fn of_limit<L: Latch<LineCore>>(
+    rt: &HostRuntime,
+    stage: &Stage<'_>,
+    inner: ConcurrencyLimit<Scripted<'_>, L>,
+) -> Result<Story, Fail> {
+    let retry = Retry::new(Stubborn { left: 1 }, inner);
+    driven(rt, stage, retry, one_call(rt, 1)?)
 }
 
 // With one permit a second attempt waits for ever if the first one's response is kept.
@@ -206,14 +238,14 @@ fn the_permit_is_back_before_the_wait(rt: HostRuntime) -> Result<(), Fail> {
     let stage = Stage::new(&log);
     stage.script.replies(&[Reply::Fail(0), Reply::Echo(0)]);
     let inner = ConcurrencyLimit::new(rt, rt.alloc(), Scripted::new(&stage.script, 's'), 1)?;
-    let retry = Retry::new(Stubborn { left: 1 }, inner);
-    let story = driven(&rt, &stage, retry, one_call(&rt, 1)?)?;
+    let story = of_limit(&rt, &stage, inner)?;
     assert_eq!(rt; story.entries.as_str(), "ready;call 0;0 ok 7;");
     Ok(())
 }
 
 #[test]
 fn a_refused_clone_drops_the_response(rt: HostRuntime) -> Result<(), Fail> {
+    let checks = Checks::new(rt.alloc());
     let log = Log::new(rt.alloc())?;
     let stage = Stage::new(&log);
     let words = Words::new(&[]);
@@ -229,40 +261,56 @@ fn a_refused_clone_drops_the_response(rt: HostRuntime) -> Result<(), Fail> {
     ] {
         stage.script.clones(clones);
         let story = run(&rt, &stage, &words, one_call(&rt, 1)?)?;
-        assert_eq!(rt;
-            story.entries.as_str(),
-            "ready;call 0;0 error out of memory;"
+        checks.same(
+            &story.entries.as_str(),
+            &"ready;call 0;0 error out of memory;",
         );
-        assert_eq!(rt; story.told.as_str(), told);
+        checks.same(&story.told.as_str(), &told);
     }
-    Ok(())
+    checks.verdict()
+}
+
+// The services are named s, t and s.
+fn parts_are_lent<P: Clone + Drop, S: Clone + Drop>(
+    rt: &HostRuntime,
+    script: &Script<'_>,
+    layer: RetryLayer<P>,
+    first: S,
+    second: S,
+    third: S,
+) -> Result<(), Fail> {
+    let checks = Checks::new(rt.alloc());
+    let log = script.log;
+    let mut retry = layer.layer(first)?;
+    drop(retry.clone()?);
+    drop(layer.clone()?);
+    checks.told(
+        log,
+        "r cloned r1;r1 cloned r2;s cloned s3;r2 dropped;s3 dropped;r cloned r4;r4 dropped;",
+    );
+    *retry.get_mut() = second;
+    drop(retry.get_ref().clone()?);
+    drop(retry.into_inner());
+    checks.told(
+        log,
+        "s dropped;t cloned t5;t5 dropped;r1 dropped;t dropped;",
+    );
+    script.clones(0);
+    checks.holds(layer.layer(third).is_err() && layer.clone().is_err());
+    checks.told(log, "r refused;s dropped;r refused;");
+    checks.verdict()
 }
 
 #[test]
 fn layers_and_parts(rt: HostRuntime) -> Result<(), Fail> {
-    let alloc = rt.alloc();
-    let log = Log::new(alloc)?;
+    let log = Log::new(rt.alloc())?;
     let script = Script::new(&log);
     let words = Words::new(&[]);
     let layer = RetryLayer::new(Rule::new(&script, &words, 'r'));
-    let mut retry = layer.layer(Scripted::new(&script, 's'))?;
-    drop(retry.clone()?);
-    drop(layer.clone()?);
-    assert_eq!(rt;
-        log.told(alloc)?.as_str(),
-        "r cloned r1;r1 cloned r2;s cloned s3;r2 dropped;s3 dropped;r cloned r4;r4 dropped;"
-    );
-    *retry.get_mut() = Scripted::new(&script, 't');
-    drop(retry.get_ref().clone()?);
-    drop(retry.into_inner());
-    assert_eq!(rt;
-        log.told(alloc)?.as_str(),
-        "s dropped;t cloned t5;t5 dropped;r1 dropped;t dropped;"
-    );
-    script.clones(0);
-    assert!(rt; layer.layer(Scripted::new(&script, 's')).is_err() && layer.clone().is_err());
-    assert_eq!(rt; log.told(alloc)?.as_str(), "r refused;s dropped;r refused;");
-    Ok(())
+    let first = Scripted::new(&script, 's');
+    let second = Scripted::new(&script, 't');
+    let third = Scripted::new(&script, 's');
+    parts_are_lent(&rt, &script, layer, first, second, third)
 }
 
 #[test]

@@ -2,6 +2,7 @@
 
 use futures::future::{Ready, ready};
 use std::test::Fail;
+use tests_support::checks::Checks;
 use tests_support::log::Log;
 use tests_support::run::{fire, task};
 use tests_support::script::{Reply, Script};
@@ -99,11 +100,12 @@ impl Record for Twice {
 
 #[test]
 fn policies_of_hedging_that_say_nothing_are_asked(rt: HostRuntime) -> Result<(), Fail> {
+    let checks = Checks::new(rt.alloc());
     let mut twice = Twice { last: 0 };
     twice.record(9);
-    assert_eq!(rt; delay::Policy::delay(&mut twice, &6), 9);
-    assert_eq!(rt; select::Policy::clone_request(&mut twice, &6), Some(6));
-    assert_eq!(rt; hedge::Policy::clone_request(&twice, &6), Some(6));
-    assert!(rt; hedge::Policy::<u8>::can_retry(&twice, &6));
-    Ok(())
+    checks.same(&delay::Policy::delay(&mut twice, &6), &9);
+    checks.same(&select::Policy::clone_request(&mut twice, &6), &Some(6));
+    checks.same(&hedge::Policy::clone_request(&twice, &6), &Some(6));
+    checks.holds(hedge::Policy::<u8>::can_retry(&twice, &6));
+    checks.verdict()
 }

@@ -6,6 +6,7 @@ use std::alloc::AllocGlobal;
 use std::random::RandomSource;
 use std::sync::Wait;
 use std::test::Fail;
+use tests_support::checks::Checks;
 use tests_support::script::Mood;
 use tests_support::script::Mood::{Broken, Busy, Willing};
 
@@ -34,6 +35,7 @@ fn ends<R: Wait + RandomSource + AllocGlobal + Copy>(
 // Whichever goes first, each step is made once, and the service is dropped once and each share is.
 #[test]
 fn drops_at_each_point(rt: HostRuntime) -> Result<(), Fail> {
+    let checks = Checks::new(rt.alloc());
     let first = [DropHandle, DropTask, DropDone];
     let second = [DropDone, DropTask, DropHandle];
     let moods = [Busy, Busy, Willing, Willing, Willing, Busy];
@@ -41,14 +43,14 @@ fn drops_at_each_point(rt: HostRuntime) -> Result<(), Fail> {
     let away = "abort;share dropped;task gone;s dropped;share dropped;";
     let lost = "task gone;s dropped;share dropped;abort;share dropped;";
     for events in [0usize, 3, 4, 5] {
-        assert!(rt; ends(rt, &moods, events, first, here)?);
-        assert!(rt; ends(rt, &moods, events, second, here)?);
+        checks.holds(ends(rt, &moods, events, first, here)?);
+        checks.holds(ends(rt, &moods, events, second, here)?);
     }
     for events in [1usize, 2, 6] {
-        assert!(rt; ends(rt, &moods, events, first, away)?);
-        assert!(rt; ends(rt, &moods, events, second, lost)?);
+        checks.holds(ends(rt, &moods, events, first, away)?);
+        checks.holds(ends(rt, &moods, events, second, lost)?);
     }
-    Ok(())
+    checks.verdict()
 }
 
 // A service whose readiness failed in the task is gone with the task.

@@ -1,6 +1,7 @@
 //! `tower::spawn_ready::SlotCore` by hand: services and errors are numbers.
 
 use std::test::Fail;
+use tests_support::checks::Checks;
 use tower::spawn_ready::{SlotCore, SlotReply, SlotStep};
 use tower_base::latch::Core;
 
@@ -23,62 +24,58 @@ fn answers(steps: &[(Step, Reply)]) -> bool {
 
 #[test]
 fn slot_follows_its_table(rt: HostRuntime) -> Result<(), Fail> {
+    let checks = Checks::new(rt.alloc());
     // A service comes and goes, twice.
-    assert!(rt;
-        answers(&[
-            (Step::Look, Reply::Unknown),
-            (Step::Put(1), Reply::Unknown),
-            (Step::PutError(1), Reply::Unknown),
-            (Step::TaskGone, Reply::Done),
-            (Step::Aborted, Reply::Truth(false)),
-            (Step::Start, Reply::Done),
-            (Step::Start, Reply::Unknown),
-            (Step::Look, Reply::Waiting),
-            (Step::Aborted, Reply::Truth(false)),
-            (Step::Put(1), Reply::Done),
-            (Step::TaskGone, Reply::Done),
-            (Step::Put(2), Reply::Unknown),
-            (Step::PutError(2), Reply::Unknown),
-            (Step::Start, Reply::Unknown),
-            (Step::Aborted, Reply::Truth(false)),
-            (Step::Look, Reply::Service(1)),
-            (Step::Look, Reply::Unknown),
-            (Step::Start, Reply::Done),
-            (Step::Put(3), Reply::Done),
-            (Step::Look, Reply::Service(3)),
-        ],)
-    );
+    checks.holds(answers(&[
+        (Step::Look, Reply::Unknown),
+        (Step::Put(1), Reply::Unknown),
+        (Step::PutError(1), Reply::Unknown),
+        (Step::TaskGone, Reply::Done),
+        (Step::Aborted, Reply::Truth(false)),
+        (Step::Start, Reply::Done),
+        (Step::Start, Reply::Unknown),
+        (Step::Look, Reply::Waiting),
+        (Step::Aborted, Reply::Truth(false)),
+        (Step::Put(1), Reply::Done),
+        (Step::TaskGone, Reply::Done),
+        (Step::Put(2), Reply::Unknown),
+        (Step::PutError(2), Reply::Unknown),
+        (Step::Start, Reply::Unknown),
+        (Step::Aborted, Reply::Truth(false)),
+        (Step::Look, Reply::Service(1)),
+        (Step::Look, Reply::Unknown),
+        (Step::Start, Reply::Done),
+        (Step::Put(3), Reply::Done),
+        (Step::Look, Reply::Service(3)),
+    ]));
     // An error is told once.
-    assert!(rt;
-        answers(&[
-            (Step::Start, Reply::Done),
-            (Step::PutError(7), Reply::Done),
-            (Step::Put(1), Reply::Unknown),
-            (Step::TaskGone, Reply::Done),
-            (Step::Start, Reply::Unknown),
-            (Step::Look, Reply::Error(7)),
-            (Step::Look, Reply::Lost),
-            (Step::Look, Reply::Lost),
-            (Step::Start, Reply::Unknown),
-        ],)
-    );
+    checks.holds(answers(&[
+        (Step::Start, Reply::Done),
+        (Step::PutError(7), Reply::Done),
+        (Step::Put(1), Reply::Unknown),
+        (Step::TaskGone, Reply::Done),
+        (Step::Start, Reply::Unknown),
+        (Step::Look, Reply::Error(7)),
+        (Step::Look, Reply::Lost),
+        (Step::Look, Reply::Lost),
+        (Step::Start, Reply::Unknown),
+    ]));
     // A task goes.
-    assert!(rt;
-        answers(&[
-            (Step::Start, Reply::Done),
-            (Step::TaskGone, Reply::Done),
-            (Step::Put(1), Reply::Unknown),
-            (Step::Look, Reply::Lost),
-            (Step::TaskGone, Reply::Done),
-            (Step::Abort, Reply::Done),
-            (Step::Look, Reply::Unknown),
-        ],)
-    );
-    Ok(())
+    checks.holds(answers(&[
+        (Step::Start, Reply::Done),
+        (Step::TaskGone, Reply::Done),
+        (Step::Put(1), Reply::Unknown),
+        (Step::Look, Reply::Lost),
+        (Step::TaskGone, Reply::Done),
+        (Step::Abort, Reply::Done),
+        (Step::Look, Reply::Unknown),
+    ]));
+    checks.verdict()
 }
 
 #[test]
 fn aborted_slot_stays_so(rt: HostRuntime) -> Result<(), Fail> {
+    let checks = Checks::new(rt.alloc());
     for before in [
         &[][..],
         &[Step::Start],
@@ -88,7 +85,7 @@ fn aborted_slot_stays_so(rt: HostRuntime) -> Result<(), Fail> {
     ] {
         let mut slot = Slot::new();
         for step in before {
-            assert!(rt; slot.step(*step) == Reply::Done);
+            checks.holds(slot.step(*step) == Reply::Done);
         }
         for (step, reply) in [
             (Step::Abort, Reply::Done),
@@ -102,16 +99,17 @@ fn aborted_slot_stays_so(rt: HostRuntime) -> Result<(), Fail> {
             (Step::Aborted, Reply::Truth(true)),
             (Step::Put(5), Reply::Back(5)),
         ] {
-            assert!(rt; slot.step(step) == reply);
+            checks.holds(slot.step(step) == reply);
         }
     }
-    Ok(())
+    checks.verdict()
 }
 
 #[test]
 fn waiting_and_not_aborted_ask_to_come_again(rt: HostRuntime) -> Result<(), Fail> {
-    assert!(rt; Slot::waits(&Reply::Waiting));
-    assert!(rt; Slot::waits(&Reply::Truth(false)));
+    let checks = Checks::new(rt.alloc());
+    checks.holds(Slot::waits(&Reply::Waiting));
+    checks.holds(Slot::waits(&Reply::Truth(false)));
     for reply in [
         Reply::Done,
         Reply::Back(1),
@@ -121,7 +119,7 @@ fn waiting_and_not_aborted_ask_to_come_again(rt: HostRuntime) -> Result<(), Fail
         Reply::Lost,
         Reply::Unknown,
     ] {
-        assert!(rt; !Slot::waits(&reply));
+        checks.holds(!Slot::waits(&reply));
     }
-    Ok(())
+    checks.verdict()
 }

@@ -8,6 +8,7 @@ use std::cell::Cell;
 use std::random::RandomSource;
 use std::sync::Wait;
 use std::test::Fail;
+use tests_support::checks::Checks;
 use tests_support::log::Log;
 use tests_support::run::{fire, polled, task};
 use tests_support::script::Mood::{Broken, Busy, Willing};
@@ -81,10 +82,11 @@ fn two_polls<H: Service<u8>>(solo: &Solo, mut handle: H) -> u8
 // The service is pending whenever it comes back: each second pass hands it over again.
 #[test]
 fn poll_makes_64_passes(rt: HostRuntime) -> Result<(), Fail> {
+    let checks = Checks::new(rt.alloc());
     let (polls, spawned) = (Cell::new(0u32), Cell::new(0u8));
-    assert_eq!(rt; pendings(rt, Fickle { polls: &polls }, &spawned)?, 2);
-    assert_eq!(rt; (polls.get(), spawned.get()), (128, 64));
-    Ok(())
+    checks.same(&pendings(rt, Fickle { polls: &polls }, &spawned)?, &2);
+    checks.same(&(polls.get(), spawned.get()), &(128, 64));
+    checks.verdict()
 }
 
 // One answer, by an executor that polls each task at once.
@@ -110,6 +112,7 @@ where
 // A service that is ready at once or in its task, and one whose readiness fails at once or in its task.
 #[test]
 fn readiness_is_driven(rt: HostRuntime) -> Result<(), Fail> {
+    let checks = Checks::new(rt.alloc());
     let log = Log::new(rt.alloc())?;
     let script = Script::new(&log);
     for (moods, wanted, tasks) in [
@@ -121,10 +124,10 @@ fn readiness_is_driven(rt: HostRuntime) -> Result<(), Fail> {
         script.moods(&moods);
         let spawned = Cell::new(0u8);
         let told = answer(rt, Scripted::new(&script, 's'), &spawned)?;
-        assert!(rt; told == Some(wanted));
-        assert_eq!(rt; spawned.get(), tasks);
+        checks.holds(told == Some(wanted));
+        checks.same(&spawned.get(), &tasks);
     }
-    Ok(())
+    checks.verdict()
 }
 
 #[test]
@@ -160,6 +163,7 @@ where
 
 #[test]
 fn calls_are_driven(rt: HostRuntime) -> Result<(), Fail> {
+    let checks = Checks::new(rt.alloc());
     let alloc = rt.alloc();
     let log = Log::new(alloc)?;
     let stage = Stage::new(&log);
@@ -177,16 +181,16 @@ fn calls_are_driven(rt: HostRuntime) -> Result<(), Fail> {
         Event::Poll,
     ]?;
     let story = run(rt, &stage, Scripted::new(&stage.script, 's'), events)?;
-    assert_eq!(rt;
-        story.entries.as_str(),
-        "ready;call 0;0 ok 5;error 7;skipped;ready;call 1;1 ok 6;pending;pending;"
+    checks.same(
+        &story.entries.as_str(),
+        &"ready;call 0;0 ok 5;error 7;skipped;ready;call 1;1 ok 6;pending;pending;",
     );
-    assert_eq!(rt;
-        story.told.as_str(),
-        "s ready;s called 5;s(5) ready;s error 7;s ready;s called 6;s(6) ready;s pending;spawned;\
-         s(5) dropped;s(6) dropped;"
+    checks.same(
+        &story.told.as_str(),
+        &"s ready;s called 5;s(5) ready;s error 7;s ready;s called 6;s(6) ready;s pending;spawned;\
+         s(5) dropped;s(6) dropped;",
     );
-    Ok(())
+    checks.verdict()
 }
 
 // Ready always, or never. Nothing wakes its task anew.
@@ -234,13 +238,14 @@ impl<T> Executor<T> for Never {
 
 #[test]
 fn layer_gives_each_service_an_executor(rt: HostRuntime) -> Result<(), Fail> {
+    let checks = Checks::new(rt.alloc());
     let layer: SpawnReadyLayer<_, _, u8> = SpawnReadyLayer::new(rt, rt.alloc(), Never);
     let solo = task(&rt)?;
     let mut first = layer.layer(Plain { is_ready: true })?;
     let answer = polled::<u8, _>(&solo, &mut first);
-    assert!(rt; matches!(answer, Poll::Ready(Ok(()))));
+    checks.holds(matches!(answer, Poll::Ready(Ok(()))));
     let mut second = layer.clone()?.layer(Plain { is_ready: false })?;
     let answer = polled::<u8, _>(&solo, &mut second);
-    assert!(rt; matches!(answer, Poll::Ready(Err(Error::NotSpawned))));
-    Ok(())
+    checks.holds(matches!(answer, Poll::Ready(Err(Error::NotSpawned))));
+    checks.verdict()
 }

@@ -1,6 +1,7 @@
 //! The parts that all tests share. Each notes what happens to it in one list.
 #![tactic(auto)]
 
+pub mod checks;
 pub mod clock;
 pub mod future;
 pub mod latch;

@@ -18,8 +18,8 @@ pub fn task<R: RandomSource + AllocGlobal>(rt: &R) -> io::Result<Solo> {
     Solo::new(rt, Doorbell::spinning())
 }
 
-/// One poll of readiness.
-pub fn polled<Request, S: Service<Request>>(
+// One poll of readiness, with what the service means by its answer.
+fn readiness<Request, S: Service<Request>>(
     solo: &Solo,
     service: &mut S,
 ) -> Poll<Result<(), S::Error>>
@@ -33,6 +33,26 @@ pub fn polled<Request, S: Service<Request>>(
     answer
 }
 
+/// One poll of readiness. What the service means by its answer isn't told: at a service of several types it would cost the prover
+/// much.
+pub fn polled<Request, S: Service<Request>>(
+    solo: &Solo,
+    service: &mut S,
+) -> Poll<Result<(), S::Error>>
+    requires { S.sound service.old }
+    ensures sound { S.sound service.new }
+{
+    readiness(solo, service)
+}
+
+/// Whether one poll of readiness answers `Ok`.
+pub fn is_ready<Request, S: Service<Request>>(solo: &Solo, service: &mut S) -> bool
+    requires { S.sound service.old }
+    ensures sound { S.sound service.new }
+{
+    matches!(readiness(solo, service), Poll::Ready(Ok(())))
+}
+
 /// A poll of readiness, and a call where it answers `Ok`.
 pub fn called<Request: Drop, S: Service<Request>>(
     solo: &Solo,
@@ -43,7 +63,7 @@ pub fn called<Request: Drop, S: Service<Request>>(
     ensures can_poll { IfSome result S.Future.can_poll }
     ensures sound { S.sound service.new }
 {
-    match polled(solo, service) {
+    match readiness(solo, service) {
         Poll::Ready(Ok(())) => Some(service.call(request)),
         _ => None,
     }
@@ -68,7 +88,6 @@ pub fn ask<Request: Drop, S: Service<Request>>(
 /// One poll of a future.
 pub fn stepped<F: Steps>(solo: &Solo, future: &mut F) -> Poll<F::Output>
     requires { F.can_poll future.old }
-    ensures step { F.stepped future.old result future.new }
     ensures again { OnPending result (F.can_poll future.new) }
 {
     let mut cx = solo.begin();
@@ -100,7 +119,7 @@ pub fn fire<Request: Drop, S: Service<Request>>(
     requires { S.sound service }
 {
     for _ in 0..POLLS {
-        match polled(solo, &mut service) {
+        match readiness(solo, &mut service) {
             Poll::Ready(Ok(())) => {
                 let future = service.call(request);
                 return awaited(solo, future);

@@ -3,6 +3,7 @@
 use futures::future::{Ready, ready};
 use std::alloc::AllocError;
 use std::test::Fail;
+use tests_support::checks::Checks;
 use tests_support::future::After;
 use tests_support::log::Log;
 use tests_support::plain::Plain;
@@ -17,6 +18,7 @@ use tower::util::MapErrLayer;
 
 #[test]
 fn layer_that_is_added_first_is_asked_first(rt: HostRuntime) -> Result<(), Fail> {
+    let checks = Checks::new(rt.alloc());
     let log = Log::new(rt.alloc())?;
     let script = Script::new(&log);
     let solo = task(&rt)?;
@@ -30,30 +32,32 @@ fn layer_that_is_added_first_is_asked_first(rt: HostRuntime) -> Result<(), Fail>
             x.wrapping_mul(2)
         })
         .service(Scripted::new(&script, 's'))?;
-    assert_eq!(rt; fire(&solo, stack, 6), Some(Ok(14)));
-    assert_eq!(rt;
-        log.told(rt.alloc())?.as_str(),
-        "s ready;outer asked 6;inner asked 7;s called 14;s(14) ready;s(14) dropped;s dropped;"
+    checks.same(&fire(&solo, stack, 6), &Some(Ok(14)));
+    checks.told(
+        &log,
+        "s ready;outer asked 6;inner asked 7;s called 14;s(14) ready;s(14) dropped;s dropped;",
     );
-    Ok(())
+    checks.verdict()
 }
 
 #[test]
 fn builder_without_layers_gives_the_service(rt: HostRuntime) -> Result<(), Fail> {
+    let checks = Checks::new(rt.alloc());
     let log = Log::new(rt.alloc())?;
     let script = Script::new(&log);
     let solo = task(&rt)?;
     let service = ServiceBuilder::default().service(Scripted::new(&script, 's'))?;
-    assert_eq!(rt; fire(&solo, service, 6), Some(Ok(6)));
-    assert_eq!(rt;
-        log.told(rt.alloc())?.as_str(),
-        "s ready;s called 6;s(6) ready;s(6) dropped;s dropped;"
+    checks.same(&fire(&solo, service, 6), &Some(Ok(6)));
+    checks.told(
+        &log,
+        "s ready;s called 6;s(6) ready;s(6) dropped;s dropped;",
     );
-    Ok(())
+    checks.verdict()
 }
 
 #[test]
 fn closures_over_answers_go_from_the_inner_to_the_outer(rt: HostRuntime) -> Result<(), Fail> {
+    let checks = Checks::new(rt.alloc());
     let log = Log::new(rt.alloc())?;
     let script = Script::new(&log);
     let solo = task(&rt)?;
@@ -68,15 +72,15 @@ fn closures_over_answers_go_from_the_inner_to_the_outer(rt: HostRuntime) -> Resu
     let builder = ServiceBuilder::new().map_response(halved).map_err(raised);
     script.replies(&[Reply::Echo(0), Reply::Fail(0)]);
     let service = builder.service(Scripted::new(&script, 's'))?;
-    assert_eq!(rt; fire(&solo, service, 6), Some(Ok(3)));
+    checks.same(&fire(&solo, service, 6), &Some(Ok(3)));
     let service = builder.service(Scripted::new(&script, 't'))?;
-    assert_eq!(rt; fire(&solo, service, 6), Some(Err(106)));
-    assert_eq!(rt;
-        log.told(rt.alloc())?.as_str(),
+    checks.same(&fire(&solo, service, 6), &Some(Err(106)));
+    checks.told(
+        &log,
         "s ready;s called 6;s(6) ready;response 6;s(6) dropped;s dropped;\
-         t ready;t called 6;t(6) ready;error 6;t(6) dropped;t dropped;"
+         t ready;t called 6;t(6) ready;error 6;t(6) dropped;t dropped;",
     );
-    Ok(())
+    checks.verdict()
 }
 
 #[test]
@@ -94,6 +98,7 @@ fn closure_over_results_is_kept_until_the_builder_goes(rt: HostRuntime) -> Resul
 
 #[test]
 fn second_future_follows_a_response(rt: HostRuntime) -> Result<(), Fail> {
+    let checks = Checks::new(rt.alloc());
     let log = Log::new(rt.alloc())?;
     let script = Script::new(&log);
     let solo = task(&rt)?;
@@ -104,16 +109,17 @@ fn second_future_follows_a_response(rt: HostRuntime) -> Result<(), Fail> {
     let service = ServiceBuilder::new()
         .and_then(again)
         .service(Scripted::new(&script, 's'))?;
-    assert_eq!(rt; fire(&solo, service, 6), Some(Ok(7)));
-    assert_eq!(rt;
-        log.told(rt.alloc())?.as_str(),
-        "s ready;s called 6;s(6) ready;asked 6;s(6) dropped;n pending;n ready;n dropped;s dropped;"
+    checks.same(&fire(&solo, service, 6), &Some(Ok(7)));
+    checks.told(
+        &log,
+        "s ready;s called 6;s(6) ready;asked 6;s(6) dropped;n pending;n ready;n dropped;s dropped;",
     );
-    Ok(())
+    checks.verdict()
 }
 
 #[test]
 fn closure_over_futures_is_given_each_once(rt: HostRuntime) -> Result<(), Fail> {
+    let checks = Checks::new(rt.alloc());
     let log = Log::new(rt.alloc())?;
     let solo = task(&rt)?;
     let service = ServiceBuilder::new()
@@ -125,13 +131,14 @@ fn closure_over_futures_is_given_each_once(rt: HostRuntime) -> Result<(), Fail> 
             log.note(format_args!("called {x}"));
             ready(Ok::<u8, u8>(x))
         })?;
-    assert_eq!(rt; fire(&solo, service, 6), Some(Ok::<u8, u8>(6)));
-    assert_eq!(rt; log.told(rt.alloc())?.as_str(), "called 6;given;");
-    Ok(())
+    checks.same(&fire(&solo, service, 6), &Some(Ok::<u8, u8>(6)));
+    checks.told(&log, "called 6;given;");
+    checks.verdict()
 }
 
 #[test]
 fn predicates_keep_requests_outside(rt: HostRuntime) -> Result<(), Fail> {
+    let checks = Checks::new(rt.alloc());
     let log = Log::new(rt.alloc())?;
     let script = Script::new(&log);
     let solo = task(&rt)?;
@@ -141,38 +148,40 @@ fn predicates_keep_requests_outside(rt: HostRuntime) -> Result<(), Fail> {
     };
     let builder = ServiceBuilder::new().filter(PredicateFn::new(small));
     let service = builder.service(Scripted::new(&script, 's'))?;
-    assert_eq!(rt; fire(&solo, service, 6), Some(Ok(6)));
+    checks.same(&fire(&solo, service, 6), &Some(Ok(6)));
     let service = builder.service(Scripted::new(&script, 't'))?;
-    assert!(rt; matches!(fire(&solo, service, 200), Some(Err(Error::Rejected(200)))));
-    assert_eq!(rt;
-        log.told(rt.alloc())?.as_str(),
+    checks.holds(matches!(fire(&solo, service, 200), Some(Err(Error::Rejected(200)))));
+    checks.told(
+        &log,
         "s ready;checked 6;s called 6;s(6) ready;s(6) dropped;s dropped;\
-         t ready;checked 200;t dropped;"
+         t ready;checked 200;t dropped;",
     );
-    Ok(())
+    checks.verdict()
 }
 
 #[test]
 fn predicate_that_answers_later_is_waited_for(rt: HostRuntime) -> Result<(), Fail> {
+    let checks = Checks::new(rt.alloc());
     let log = Log::new(rt.alloc())?;
     let script = Script::new(&log);
     let solo = task(&rt)?;
     let small = |x: u8| After::new(&log, 'c', 1, if x < 100 { Ok(x) } else { Err(x) });
     let builder = ServiceBuilder::new().filter_async(AsyncPredicateFn::new(small));
     let service = builder.service(Scripted::new(&script, 's'))?;
-    assert_eq!(rt; fire(&solo, service, 6), Some(Ok(6)));
-    assert_eq!(rt;
-        log.told(rt.alloc())?.as_str(),
+    checks.same(&fire(&solo, service, 6), &Some(Ok(6)));
+    checks.told(
+        &log,
         "s ready;s cloned s1;c pending;c ready;s called 6;c dropped;s dropped;s(6) ready;s(6) dropped;\
-         s1 dropped;"
+         s1 dropped;",
     );
     let service = builder.service(Scripted::new(&script, 't'))?;
-    assert!(rt; matches!(fire(&solo, service, 200), Some(Err(Error::Rejected(200)))));
-    Ok(())
+    checks.holds(matches!(fire(&solo, service, 200), Some(Err(Error::Rejected(200)))));
+    checks.verdict()
 }
 
 #[test]
 fn layer_that_may_be_left_out(rt: HostRuntime) -> Result<(), Fail> {
+    let checks = Checks::new(rt.alloc());
     let log = Log::new(rt.alloc())?;
     let script = Script::new(&log);
     let solo = task(&rt)?;
@@ -181,16 +190,17 @@ fn layer_that_may_be_left_out(rt: HostRuntime) -> Result<(), Fail> {
     let with = ServiceBuilder::new()
         .option_layer(Some(MapErrLayer::new(raised)))
         .service(Scripted::new(&script, 's'))?;
-    assert_eq!(rt; fire(&solo, with, 6), Some(Err(106)));
+    checks.same(&fire(&solo, with, 6), &Some(Err(106)));
     let without = ServiceBuilder::new()
         .option_layer(None::<MapErrLayer<fn(u8) -> u8>>)
         .service(Scripted::new(&script, 't'))?;
-    assert_eq!(rt; fire(&solo, without, 6), Some(Err(6)));
-    Ok(())
+    checks.same(&fire(&solo, without, 6), &Some(Err(6)));
+    checks.verdict()
 }
 
 #[test]
 fn layers_by_closures_and_as_they_are(rt: HostRuntime) -> Result<(), Fail> {
+    let checks = Checks::new(rt.alloc());
     let log = Log::new(rt.alloc())?;
     let ten = |x: u32| -> Result<u32, AllocError> {
         log.note(format_args!("ten {x}"));
@@ -204,29 +214,28 @@ fn layers_by_closures_and_as_they_are(rt: HostRuntime) -> Result<(), Fail> {
         .layer_fn(one)
         .layer(Identity::new())
         .layer_fn(ten);
-    assert_eq!(rt; builder.service(4u32)?, 41);
-    assert_eq!(rt; builder.into_inner().layer(5u32)?, 51);
-    assert_eq!(rt;
-        log.told(rt.alloc())?.as_str(),
-        "ten 4;one 40;ten 5;one 50;"
-    );
-    Ok(())
+    checks.same(&builder.service(4u32)?, &41);
+    checks.same(&builder.into_inner().layer(5u32)?, &51);
+    checks.told(&log, "ten 4;one 40;ten 5;one 50;");
+    checks.verdict()
 }
 
 #[test]
 fn layers_go_once_the_closure_has_them(rt: HostRuntime) -> Result<(), Fail> {
+    let checks = Checks::new(rt.alloc());
     let log = Log::new(rt.alloc())?;
     let service = ServiceBuilder::new()
         .filter(Plain::new(&log, 'p'))
         .service_fn(Plain::new(&log, 'f'))?;
-    assert_eq!(rt; log.told(rt.alloc())?.as_str(), "p cloned p1;p dropped;");
+    checks.told(&log, "p cloned p1;p dropped;");
     drop(service);
-    assert_eq!(rt; log.told(rt.alloc())?.as_str(), "f dropped;p1 dropped;");
-    Ok(())
+    checks.told(&log, "f dropped;p1 dropped;");
+    checks.verdict()
 }
 
 #[test]
 fn builder_is_a_layer_and_has_clones(rt: HostRuntime) -> Result<(), Fail> {
+    let checks = Checks::new(rt.alloc());
     let log = Log::new(rt.alloc())?;
     let script = Script::new(&log);
     let solo = task(&rt)?;
@@ -237,8 +246,8 @@ fn builder_is_a_layer_and_has_clones(rt: HostRuntime) -> Result<(), Fail> {
         .check_service::<Scripted<'_>, u8, u8, u8>();
     let inside = ServiceBuilder::new().layer(builder.clone()?);
     let service = Layer::layer(&inside, Scripted::new(&script, 's'))?;
-    assert_eq!(rt; fire(&solo, service, 6), Some(Ok(7)));
+    checks.same(&fire(&solo, service, 6), &Some(Ok(7)));
     let plain = ServiceBuilder::new().layer(Plain::refusing(&log, 'r'));
-    assert!(rt; plain.clone().is_err());
-    Ok(())
+    checks.holds(plain.clone().is_err());
+    checks.verdict()
 }

@@ -4,6 +4,7 @@ ghost use Rattle.std.specs.Prelude.{◌≡◌};
 
 use std::alloc::AllocError;
 use std::test::Fail;
+use tests_support::checks::Checks;
 use tower::limit::concurrency;
 use tower::util::{call_all, error};
 use tower::{
@@ -75,9 +76,10 @@ fn nested<E: Clone + Copy + PartialEq>(inner: E) -> Result<bool, AllocError>
 
 #[test]
 fn clones_of_errors_equal_them(rt: HostRuntime) -> Result<(), Fail> {
-    assert!(rt; limits(7u8)?);
-    assert!(rt; services(7u8)?);
-    assert!(rt; pairs(7u8, 9u16)?);
-    assert!(rt; nested(7u8)?);
-    Ok(())
+    let checks = Checks::new(rt.alloc());
+    checks.holds(limits(7u8)?);
+    checks.holds(services(7u8)?);
+    checks.holds(pairs(7u8, 9u16)?);
+    checks.holds(nested(7u8)?);
+    checks.verdict()
 }

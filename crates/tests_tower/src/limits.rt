@@ -3,6 +3,7 @@
 use futures::future::{Ready, ready};
 use std::alloc::AllocError;
 use std::test::Fail;
+use tests_support::checks::Checks;
 use tests_support::clock::Hand;
 use tests_support::log::Log;
 use tests_support::script::{Mood, Reply};
@@ -15,6 +16,7 @@ use tower::timeout::TimeoutLayer;
 
 #[test]
 fn timeout_ends_a_response(rt: HostRuntime) -> Result<(), Fail> {
+    let checks = Checks::new(rt.alloc());
     let log = Log::new(rt.alloc())?;
     let stage = Stage::new(&log);
     stage.script.replies(&[Reply::Never]);
@@ -30,16 +32,16 @@ fn timeout_ends_a_response(rt: HostRuntime) -> Result<(), Fail> {
         Event::Future(0),
     ]?;
     let story = driven(&rt, &stage, service, events)?;
-    assert_eq!(rt;
-        story.entries.as_str(),
-        "ready;call 0;at 9;0 pending;at 10;0 error request timed out;"
+    checks.same(
+        &story.entries.as_str(),
+        &"ready;call 0;at 9;0 pending;at 10;0 error request timed out;",
     );
-    assert_eq!(rt;
-        story.told.as_str(),
-        "clock shared;clock dropped;s ready;s called 6;clock read 0;clock shared;s(6) pending;clock read 9;\
-         s(6) pending;clock read 10;s dropped;clock dropped;s(6) dropped;clock dropped;"
+    checks.same(
+        &story.told.as_str(),
+        &"clock shared;clock dropped;s ready;s called 6;clock read 0;clock shared;s(6) pending;clock read 9;\
+         s(6) pending;clock read 10;s dropped;clock dropped;s(6) dropped;clock dropped;",
     );
-    Ok(())
+    checks.verdict()
 }
 
 #[test]
@@ -68,6 +70,7 @@ fn one_call_at_a_time(rt: HostRuntime) -> Result<(), Fail> {
 
 #[test]
 fn one_call_in_each_window(rt: HostRuntime) -> Result<(), Fail> {
+    let checks = Checks::new(rt.alloc());
     let log = Log::new(rt.alloc())?;
     let stage = Stage::new(&log);
     let service = ServiceBuilder::new()
@@ -82,20 +85,21 @@ fn one_call_in_each_window(rt: HostRuntime) -> Result<(), Fail> {
         Event::Poll,
     ]?;
     let story = driven(&rt, &stage, service, events)?;
-    assert_eq!(rt;
-        story.entries.as_str(),
-        "ready;call 0;at 9;pending;at 10;ready;"
+    checks.same(
+        &story.entries.as_str(),
+        &"ready;call 0;at 9;pending;at 10;ready;",
     );
-    assert_eq!(rt;
-        story.told.as_str(),
-        "clock shared;clock read 0;clock dropped;s ready;clock read 0;s called 6;clock read 9;clock read 10;\
-         s ready;s dropped;clock dropped;s(6) dropped;"
+    checks.same(
+        &story.told.as_str(),
+        &"clock shared;clock read 0;clock dropped;s ready;clock read 0;s called 6;clock read 9;clock read 10;\
+         s ready;s dropped;clock dropped;s(6) dropped;",
     );
-    Ok(())
+    checks.verdict()
 }
 
 #[test]
 fn call_is_refused_where_nothing_is_ready(rt: HostRuntime) -> Result<(), Fail> {
+    let checks = Checks::new(rt.alloc());
     let log = Log::new(rt.alloc())?;
     let stage = Stage::new(&log);
     stage.script.moods(&[Mood::Busy]);
@@ -104,12 +108,12 @@ fn call_is_refused_where_nothing_is_ready(rt: HostRuntime) -> Result<(), Fail> {
         .service(Scripted::new(&stage.script, 's'))?;
     let events = vec![in rt.alloc(); Event::Poll, Event::Call(6), Event::Future(0)]?;
     let story = driven(&rt, &stage, service, events)?;
-    assert_eq!(rt;
-        story.entries.as_str(),
-        "ready;call 0;0 error service overloaded;"
+    checks.same(
+        &story.entries.as_str(),
+        &"ready;call 0;0 error service overloaded;",
     );
-    assert_eq!(rt; story.told.as_str(), "s pending;s dropped;");
-    Ok(())
+    checks.same(&story.told.as_str(), &"s pending;s dropped;");
+    checks.verdict()
 }
 
 // Once more where the first answer is an error.

@@ -4,6 +4,7 @@ use futures::future::{Ready, ready};
 use futures::task::{Poll, Solo};
 use std::alloc::AllocError;
 use std::test::Fail;
+use tests_support::checks::Checks;
 use tests_support::future::After;
 use tests_support::log::Log;
 use tests_support::plain::Plain;
@@ -25,20 +26,22 @@ fn given<S: Service<u8>>(service: S) -> FutureService<Ready<Result<S, S::Error>>
 
 #[test]
 fn service_that_ready_gives_is_sound(rt: HostRuntime) -> Result<(), Fail> {
+    let checks = Checks::new(rt.alloc());
     let log = Log::new(rt.alloc())?;
     let script = Script::new(&log);
     let solo = task(&rt)?;
     let service = given(Scripted::new(&script, 'a'));
-    assert_eq!(rt; fire(&solo, service, 6), Some(Ok(6)));
-    assert_eq!(rt;
-        log.told(rt.alloc())?.as_str(),
-        "a ready;a called 6;a(6) ready;a(6) dropped;a dropped;"
+    checks.same(&fire(&solo, service, 6), &Some(Ok(6)));
+    checks.told(
+        &log,
+        "a ready;a called 6;a(6) ready;a(6) dropped;a dropped;",
     );
-    Ok(())
+    checks.verdict()
 }
 
 #[test]
 fn awaited_service_serves_once_it_is_there(rt: HostRuntime) -> Result<(), Fail> {
+    let checks = Checks::new(rt.alloc());
     let log = Log::new(rt.alloc())?;
     let script = Script::new(&log);
     let solo = task(&rt)?;
@@ -50,15 +53,15 @@ fn awaited_service_serves_once_it_is_there(rt: HostRuntime) -> Result<(), Fail> 
         2,
         Ok::<Scripted<'_>, u8>(Scripted::new(&script, 'a')),
     );
-    assert_eq!(rt;
-        fire(&solo, future_service(coming), 6),
-        Some(Err(Error::Inner(6)))
+    checks.same(
+        &fire(&solo, future_service(coming), 6),
+        &Some(Err(Error::Inner(6))),
     );
-    assert_eq!(rt;
-        log.told(rt.alloc())?.as_str(),
-        "f pending;f pending;f ready;a pending;f dropped;a ready;a called 6;a(6) pending;a(6) ready;a(6) dropped;a dropped;"
+    checks.told(
+        &log,
+        "f pending;f pending;f ready;a pending;f dropped;a ready;a called 6;a(6) pending;a(6) ready;a(6) dropped;a dropped;",
     );
-    Ok(())
+    checks.verdict()
 }
 
 // The answers of two polls of readiness.
@@ -71,19 +74,20 @@ fn asked_twice<S: Service<u8>>(solo: &Solo, mut service: S) -> [Poll<Result<(), 
 
 #[test]
 fn failed_future_is_answered_once(rt: HostRuntime) -> Result<(), Fail> {
+    let checks = Checks::new(rt.alloc());
     let log = Log::new(rt.alloc())?;
     let solo = task(&rt)?;
     let failing = After::new(&log, 'f', 0, Err::<Scripted<'_>, u8>(7));
     let answers = asked_twice(&solo, FutureService::<_, Scripted<'_>>::new(failing));
-    assert_eq!(rt;
-        answers,
-        [
+    checks.same(
+        &answers,
+        &[
             Poll::Ready(Err(Error::Inner(7))),
-            Poll::Ready(Err(Error::Gone))
-        ]
+            Poll::Ready(Err(Error::Gone)),
+        ],
     );
-    assert_eq!(rt; log.told(rt.alloc())?.as_str(), "f ready;f dropped;");
-    Ok(())
+    checks.told(&log, "f ready;f dropped;");
+    checks.verdict()
 }
 
 #[test]
@@ -108,20 +112,18 @@ fn error_of_readiness_leaves_the_service(rt: HostRuntime) -> Result<(), Fail> {
 
 #[test]
 fn clone_is_of_what_is_coming(rt: HostRuntime) -> Result<(), Fail> {
+    let checks = Checks::new(rt.alloc());
     let log = Log::new(rt.alloc())?;
     let service: FutureService<Plain<'_>, Plain<'_>> = FutureService::new(Plain::new(&log, 'p'));
     drop(service.clone()?);
     drop(service);
-    assert_eq!(rt;
-        log.told(rt.alloc())?.as_str(),
-        "p cloned p1;p1 dropped;p dropped;"
-    );
+    checks.told(&log, "p cloned p1;p1 dropped;p dropped;");
     let refused: FutureService<Plain<'_>, Plain<'_>> = FutureService::new(Plain::refusing(
         &log, 'r',
     ));
-    assert!(rt; refused.clone().is_err());
-    assert_eq!(rt; log.told(rt.alloc())?.as_str(), "r refused;");
-    Ok(())
+    checks.holds(refused.clone().is_err());
+    checks.told(&log, "r refused;");
+    checks.verdict()
 }
 
 // Whether the first poll finds it ready, and its second clone is refused.
@@ -140,6 +142,7 @@ fn cloned_once_ready<S: Service<u8> + Clone>(
 
 #[test]
 fn clone_is_of_the_service_once_it_is_there(rt: HostRuntime) -> Result<(), Fail> {
+    let checks = Checks::new(rt.alloc());
     let log = Log::new(rt.alloc())?;
     let script = Script::new(&log);
     let solo = task(&rt)?;
@@ -150,12 +153,12 @@ fn clone_is_of_the_service_once_it_is_there(rt: HostRuntime) -> Result<(), Fail>
         Ok::<Scripted<'_>, u8>(Scripted::new(&script, 'a')),
     );
     let service = FutureService::<_, Scripted<'_>>::new(coming);
-    assert!(rt; cloned_once_ready(&solo, &script, service)?);
-    assert_eq!(rt;
-        log.told(rt.alloc())?.as_str(),
-        "f ready;a ready;f dropped;a cloned a1;a1 dropped;a refused;a dropped;"
+    checks.holds(cloned_once_ready(&solo, &script, service)?);
+    checks.told(
+        &log,
+        "f ready;a ready;f dropped;a cloned a1;a1 dropped;a refused;a dropped;",
     );
-    Ok(())
+    checks.verdict()
 }
 
 #[test]

@@ -2,6 +2,7 @@
 
 use futures::task::{Context, Poll};
 use std::test::Fail;
+use tests_support::checks::Checks;
 use tests_support::log::Log;
 use tests_support::run::task;
 use tests_support::script::Script;
@@ -24,16 +25,17 @@ fn connected<C: MakeConnection<u8>>(
 
 #[test]
 fn response_is_the_connection(rt: HostRuntime) -> Result<(), Fail> {
+    let checks = Checks::new(rt.alloc());
     let log = Log::new(rt.alloc())?;
     let script = Script::new(&log);
     let solo = task(&rt)?;
     let mut cx = solo.begin();
     let answer = connected(Scripted::new(&script, 'a'), &mut cx);
     cx.cancel();
-    assert_eq!(rt; answer, Some(Poll::Ready(Ok(1))));
-    assert_eq!(rt;
-        log.told(rt.alloc())?.as_str(),
-        "a ready;a called 1;a(1) ready;a(1) dropped;a dropped;"
+    checks.same(&answer, &Some(Poll::Ready(Ok(1))));
+    checks.told(
+        &log,
+        "a ready;a called 1;a(1) ready;a(1) dropped;a dropped;",
     );
-    Ok(())
+    checks.verdict()
 }

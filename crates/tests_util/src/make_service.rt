@@ -3,6 +3,7 @@ ghost use Rattle.std.specs.Prelude.{IfSome};
 
 use futures::task::{Context, Poll};
 use std::test::Fail;
+use tests_support::checks::Checks;
 use tests_support::log::Log;
 use tests_support::run::{fire, stepped, task};
 use tests_support::script::{Mood, Reply, Script};
@@ -26,6 +27,7 @@ fn made<M: MakeService<Target, u8>, Target: Drop>(
 
 #[test]
 fn each_service_of_services_is_a_maker(rt: HostRuntime) -> Result<(), Fail> {
+    let checks = Checks::new(rt.alloc());
     let log = Log::new(rt.alloc())?;
     let (making, script) = (Script::new(&log), Script::new(&log));
     let solo = task(&rt)?;
@@ -36,20 +38,21 @@ fn each_service_of_services_is_a_maker(rt: HostRuntime) -> Result<(), Fail> {
     let Some(Poll::Ready(Ok(service))) = answer else {
         return Err("no service".into());
     };
-    assert_eq!(rt;
-        log.told(rt.alloc())?.as_str(),
-        "m ready;m called 5;p dropped;m(5) ready;m(5) dropped;m dropped;"
+    checks.told(
+        &log,
+        "m ready;m called 5;p dropped;m(5) ready;m(5) dropped;m dropped;",
     );
-    assert_eq!(rt; fire(&solo, service, 6), Some(Ok(6)));
-    assert_eq!(rt;
-        log.told(rt.alloc())?.as_str(),
-        "a1 ready;a1 called 6;a1(6) ready;a1(6) dropped;a1 dropped;"
+    checks.same(&fire(&solo, service, 6), &Some(Ok(6)));
+    checks.told(
+        &log,
+        "a1 ready;a1 called 6;a1(6) ready;a1(6) dropped;a1 dropped;",
     );
-    Ok(())
+    checks.verdict()
 }
 
 #[test]
 fn maker_that_is_pending_or_fails_makes_nothing(rt: HostRuntime) -> Result<(), Fail> {
+    let checks = Checks::new(rt.alloc());
     let log = Log::new(rt.alloc())?;
     let (making, script) = (Script::new(&log), Script::new(&log));
     let solo = task(&rt)?;
@@ -59,21 +62,18 @@ fn maker_that_is_pending_or_fails_makes_nothing(rt: HostRuntime) -> Result<(), F
     let mut cx = solo.begin();
     let answer = made(maker, Place::new(&script, 'p', 5), &mut cx);
     cx.cancel();
-    assert!(rt; answer.is_none());
-    assert_eq!(rt;
-        log.told(rt.alloc())?.as_str(),
-        "m pending;p dropped;m dropped;"
-    );
+    checks.holds(answer.is_none());
+    checks.told(&log, "m pending;p dropped;m dropped;");
     let maker = Maker::new(&making, 'm', &script, 'a');
     let mut cx = solo.begin();
     let answer = made(maker, Place::new(&script, 'p', 5), &mut cx);
     cx.cancel();
-    assert!(rt; matches!(answer, Some(Poll::Ready(Err(5)))));
-    assert_eq!(rt;
-        log.told(rt.alloc())?.as_str(),
-        "m ready;m called 5;p dropped;m(5) ready;m(5) dropped;m dropped;"
+    checks.holds(matches!(answer, Some(Poll::Ready(Err(5)))));
+    checks.told(
+        &log,
+        "m ready;m called 5;p dropped;m(5) ready;m(5) dropped;m dropped;",
     );
-    Ok(())
+    checks.verdict()
 }
 
 // Polls a maker by reference, and makes a service of it where it is ready: the loan comes back.
@@ -101,6 +101,7 @@ where
 
 #[test]
 fn maker_makes_once_it_was_found_ready_by_a_loan(rt: HostRuntime) -> Result<(), Fail> {
+    let checks = Checks::new(rt.alloc());
     let alloc = rt.alloc();
     let log = Log::new(alloc)?;
     let (making, script) = (Script::new(&log), Script::new(&log));
@@ -111,43 +112,45 @@ fn maker_makes_once_it_was_found_ready_by_a_loan(rt: HostRuntime) -> Result<(), 
     let early = made_once_ready(&mut maker, Place::new(&script, 'p', 5), &mut cx);
     let made = made_once_ready(&mut maker, Place::new(&script, 'q', 6), &mut cx);
     cx.cancel();
-    assert!(rt; early.is_none());
+    checks.holds(early.is_none());
     let mut future = made.ok_or("not ready")?;
-    assert!(rt; matches!(stepped(&solo, &mut future), Poll::Ready(Ok(_))));
-    assert_eq!(rt;
-        log.told(alloc)?.as_str(),
-        "m pending;p dropped;m ready;m called 6;q dropped;m(6) ready;a1 dropped;"
+    checks.holds(matches!(stepped(&solo, &mut future), Poll::Ready(Ok(_))));
+    checks.told(
+        &log,
+        "m pending;p dropped;m ready;m called 6;q dropped;m(6) ready;a1 dropped;",
     );
-    Ok(())
+    checks.verdict()
 }
 
 #[test]
 fn maker_is_a_service_by_value_and_by_reference(rt: HostRuntime) -> Result<(), Fail> {
+    let checks = Checks::new(rt.alloc());
     let log = Log::new(rt.alloc())?;
     let script = Script::new(&log);
     let solo = task(&rt)?;
     let mut shared = Shared::new(Scripted::new(&script, 'a'));
     let lent = MakeService::<u8, u8>::as_service(&mut shared);
-    assert!(rt; matches!(fire(&solo, lent, 1u8), Some(Ok(_))));
+    checks.holds(matches!(fire(&solo, lent, 1u8), Some(Ok(_))));
     let service = MakeService::<u8, u8>::into_service(shared);
     let copy = service.clone()?;
-    assert!(rt; matches!(fire(&solo, service, 1u8), Some(Ok(_))));
+    checks.holds(matches!(fire(&solo, service, 1u8), Some(Ok(_))));
     drop(copy);
-    assert_eq!(rt;
-        log.told(rt.alloc())?.as_str(),
-        "a cloned a1;a1 dropped;a cloned a2;a cloned a3;a dropped;a3 dropped;a2 dropped;"
+    checks.told(
+        &log,
+        "a cloned a1;a1 dropped;a cloned a2;a cloned a3;a dropped;a3 dropped;a2 dropped;",
     );
-    Ok(())
+    checks.verdict()
 }
 
 #[test]
 fn refused_clone_of_a_maker_is_handed_on(rt: HostRuntime) -> Result<(), Fail> {
+    let checks = Checks::new(rt.alloc());
     let log = Log::new(rt.alloc())?;
     let script = Script::new(&log);
     script.clones(0);
     let service = MakeService::<u8, u8>::into_service(Shared::new(Scripted::new(&script, 'a')));
-    assert!(rt; service.clone().is_err());
+    checks.holds(service.clone().is_err());
     drop(service);
-    assert_eq!(rt; log.told(rt.alloc())?.as_str(), "a refused;a dropped;");
-    Ok(())
+    checks.told(&log, "a refused;a dropped;");
+    checks.verdict()
 }

@@ -3,6 +3,7 @@
 
 use futures::future::{Ready, ready};
 use std::test::Fail;
+use tests_support::checks::Checks;
 use tests_support::log::Log;
 use tests_support::plain::Plain;
 use tests_support::run::{fire, task};
@@ -17,6 +18,7 @@ use tower_util::util::{FutureService, MapFuture, MapFutureLayer, service_fn};
 
 #[test]
 fn future_is_given_to_the_closure_once(rt: HostRuntime) -> Result<(), Fail> {
+    let checks = Checks::new(rt.alloc());
     let log = Log::new(rt.alloc())?;
     let solo = task(&rt)?;
     let inner = service_fn(|x: u8| {
@@ -28,13 +30,14 @@ fn future_is_given_to_the_closure_once(rt: HostRuntime) -> Result<(), Fail> {
         future
     };
     let service = MapFuture::new(inner, same);
-    assert_eq!(rt; fire(&solo, service, 6), Some(Ok::<u8, u8>(6)));
-    assert_eq!(rt; log.told(rt.alloc())?.as_str(), "a called 6;f asked;");
-    Ok(())
+    checks.same(&fire(&solo, service, 6), &Some(Ok::<u8, u8>(6)));
+    checks.told(&log, "a called 6;f asked;");
+    checks.verdict()
 }
 
 #[test]
 fn error_of_readiness_is_only_converted(rt: HostRuntime) -> Result<(), Fail> {
+    let checks = Checks::new(rt.alloc());
     type Error = future_service::Error<shared::Error>;
     let log = Log::new(rt.alloc())?;
     let solo = task(&rt)?;
@@ -44,12 +47,12 @@ fn error_of_readiness_is_only_converted(rt: HostRuntime) -> Result<(), Fail> {
         ready(Ok::<u8, Error>(9))
     };
     let service = MapFuture::new(FutureService::<_, Shared<u8>>::new(lost), other);
-    assert_eq!(rt;
-        fire(&solo, service, 6u8),
-        Some(Err(future_service::Error::Inner(shared::Error::Memory)))
+    checks.same(
+        &fire(&solo, service, 6u8),
+        &Some(Err(future_service::Error::Inner(shared::Error::Memory))),
     );
-    assert_eq!(rt; log.told(rt.alloc())?.as_str(), "");
-    Ok(())
+    checks.told(&log, "");
+    checks.verdict()
 }
 
 #[test]
@@ -81,23 +84,24 @@ fn layer_clones_its_closure_once(rt: HostRuntime) -> Result<(), Fail> {
 
 #[test]
 fn refused_clones_are_handed_on(rt: HostRuntime) -> Result<(), Fail> {
+    let checks = Checks::new(rt.alloc());
     let log = Log::new(rt.alloc())?;
     let refusing = || Plain::refusing(&log, 'r');
-    assert!(rt; MapFuture::new(refusing(), 0u8).clone().is_err());
-    assert!(rt;
+    checks.holds(MapFuture::new(refusing(), 0u8).clone().is_err());
+    checks.holds(
         MapFuture::new(Plain::new(&log, 'p'), refusing())
             .clone()
-            .is_err()
+            .is_err(),
     );
-    assert!(rt; MapFutureLayer::new(refusing()).clone().is_err());
-    assert!(rt;
+    checks.holds(MapFutureLayer::new(refusing()).clone().is_err());
+    checks.holds(
         MapFutureLayer::new(refusing())
             .layer(Plain::new(&log, 'q'))
-            .is_err()
+            .is_err(),
     );
-    assert_eq!(rt;
-        log.told(rt.alloc())?.as_str(),
-        "r refused;r dropped;p cloned p1;r refused;p1 dropped;p dropped;r dropped;r refused;r dropped;r refused;q dropped;r dropped;"
+    checks.told(
+        &log,
+        "r refused;r dropped;p cloned p1;r refused;p1 dropped;p dropped;r dropped;r refused;r dropped;r refused;q dropped;r dropped;",
     );
-    Ok(())
+    checks.verdict()
 }

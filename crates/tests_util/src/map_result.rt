@@ -3,6 +3,7 @@
 use futures::task::Solo;
 use std::alloc::AllocError;
 use std::test::Fail;
+use tests_support::checks::Checks;
 use tests_support::log::Log;
 use tests_support::plain::Plain;
 use tests_support::run::{fire, task};
@@ -44,6 +45,7 @@ fn turned(answer: Result<u8, u8>) -> Result<u8, u16> {
 
 #[test]
 fn each_result_is_changed_once(rt: HostRuntime) -> Result<(), Fail> {
+    let checks = Checks::new(rt.alloc());
     let log = Log::new(rt.alloc())?;
     let script = Script::new(&log);
     let solo = task(&rt)?;
@@ -53,27 +55,28 @@ fn each_result_is_changed_once(rt: HostRuntime) -> Result<(), Fail> {
         log.note(format_args!("f asked {answer:?}"));
         turned(answer)
     };
-    assert_eq!(rt;
-        answer_of(&solo, Scripted::new(&script, 'a'), f),
-        Some(Err(600))
+    checks.same(
+        &answer_of(&solo, Scripted::new(&script, 'a'), f),
+        &Some(Err(600)),
     );
-    assert_eq!(rt;
-        log.told(rt.alloc())?.as_str(),
-        "a pending;a ready;a called 6;a(6) pending;a(6) ready;f asked Ok(6);a(6) dropped;a dropped;"
+    checks.told(
+        &log,
+        "a pending;a ready;a called 6;a(6) pending;a(6) ready;f asked Ok(6);a(6) dropped;a dropped;",
     );
-    assert_eq!(rt;
-        answer_of(&solo, Scripted::new(&script, 'a'), f),
-        Some(Ok(3))
+    checks.same(
+        &answer_of(&solo, Scripted::new(&script, 'a'), f),
+        &Some(Ok(3)),
     );
-    assert_eq!(rt;
-        log.told(rt.alloc())?.as_str(),
-        "a ready;a called 6;a(6) ready;f asked Err(6);a(6) dropped;a dropped;"
+    checks.told(
+        &log,
+        "a ready;a called 6;a(6) ready;f asked Err(6);a(6) dropped;a dropped;",
     );
-    Ok(())
+    checks.verdict()
 }
 
 #[test]
 fn error_of_readiness_is_only_converted(rt: HostRuntime) -> Result<(), Fail> {
+    let checks = Checks::new(rt.alloc());
     let log = Log::new(rt.alloc())?;
     let script = Script::new(&log);
     let solo = task(&rt)?;
@@ -82,46 +85,48 @@ fn error_of_readiness_is_only_converted(rt: HostRuntime) -> Result<(), Fail> {
         log.note(format_args!("f asked {answer:?}"));
         turned(answer)
     };
-    assert_eq!(rt;
-        answer_of(&solo, Scripted::new(&script, 'a'), f),
-        Some(Err(90))
+    checks.same(
+        &answer_of(&solo, Scripted::new(&script, 'a'), f),
+        &Some(Err(90)),
     );
-    assert_eq!(rt; log.told(rt.alloc())?.as_str(), "a error 90;a dropped;");
-    Ok(())
+    checks.told(&log, "a error 90;a dropped;");
+    checks.verdict()
 }
 
 #[test]
 fn clone_of_a_clone_serves_alike(rt: HostRuntime) -> Result<(), Fail> {
+    let checks = Checks::new(rt.alloc());
     let log = Log::new(rt.alloc())?;
     let script = Script::new(&log);
     let solo = task(&rt)?;
     script.replies(&[Reply::Fail(0)]);
     let f = |answer: Result<u8, u8>| turned(answer);
-    assert_eq!(rt;
-        answer_of_clones(&solo, Scripted::new(&script, 'a'), f)?,
-        Some(Ok(3))
+    checks.same(
+        &answer_of_clones(&solo, Scripted::new(&script, 'a'), f)?,
+        &Some(Ok(3)),
     );
-    assert_eq!(rt;
-        log.told(rt.alloc())?.as_str(),
-        "a cloned a1;a1 ready;a1 called 6;a1(6) ready;a1(6) dropped;a1 dropped;a dropped;"
+    checks.told(
+        &log,
+        "a cloned a1;a1 ready;a1 called 6;a1(6) ready;a1(6) dropped;a1 dropped;a dropped;",
     );
-    Ok(())
+    checks.verdict()
 }
 
 #[test]
 fn refused_clones_are_handed_on(rt: HostRuntime) -> Result<(), Fail> {
+    let checks = Checks::new(rt.alloc());
     let log = Log::new(rt.alloc())?;
     let refusing = || Plain::refusing(&log, 'r');
-    assert!(rt; MapResult::new(refusing(), 0u8).clone().is_err());
-    assert!(rt;
+    checks.holds(MapResult::new(refusing(), 0u8).clone().is_err());
+    checks.holds(
         MapResult::new(Plain::new(&log, 'p'), refusing())
             .clone()
-            .is_err()
+            .is_err(),
     );
-    assert!(rt; MapResultLayer::new(refusing()).clone().is_err());
-    assert_eq!(rt;
-        log.told(rt.alloc())?.as_str(),
-        "r refused;r dropped;p cloned p1;r refused;p1 dropped;p dropped;r dropped;r refused;r dropped;"
+    checks.holds(MapResultLayer::new(refusing()).clone().is_err());
+    checks.told(
+        &log,
+        "r refused;r dropped;p cloned p1;r refused;p1 dropped;p dropped;r dropped;r refused;r dropped;",
     );
-    Ok(())
+    checks.verdict()
 }

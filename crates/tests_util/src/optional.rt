@@ -1,6 +1,7 @@
 //! `Optional`.
 
 use std::test::Fail;
+use tests_support::checks::Checks;
 use tests_support::log::Log;
 use tests_support::run::{fire, task};
 use tests_support::script::{Mood, Reply, Script};
@@ -10,24 +11,25 @@ use tower_util::util::error::optional::Error;
 
 #[test]
 fn service_that_is_there_serves(rt: HostRuntime) -> Result<(), Fail> {
+    let checks = Checks::new(rt.alloc());
     let log = Log::new(rt.alloc())?;
     let script = Script::new(&log);
     let solo = task(&rt)?;
     script.moods(&[Mood::Busy, Mood::Willing, Mood::Willing, Mood::Broken(90)]);
     script.replies(&[Reply::Echo(1), Reply::Fail(0)]);
     let service = || Optional::new(Some(Scripted::new(&script, 'a')));
-    assert_eq!(rt; fire(&solo, service(), 6), Some(Ok(6)));
-    assert_eq!(rt;
-        log.told(rt.alloc())?.as_str(),
-        "a pending;a ready;a called 6;a(6) pending;a(6) ready;a(6) dropped;a dropped;"
+    checks.same(&fire(&solo, service(), 6), &Some(Ok(6)));
+    checks.told(
+        &log,
+        "a pending;a ready;a called 6;a(6) pending;a(6) ready;a(6) dropped;a dropped;",
     );
-    assert_eq!(rt; fire(&solo, service(), 6), Some(Err(Error::Inner(6))));
-    assert_eq!(rt; fire(&solo, service(), 6), Some(Err(Error::Inner(90))));
-    assert_eq!(rt;
-        log.told(rt.alloc())?.as_str(),
-        "a ready;a called 6;a(6) ready;a(6) dropped;a dropped;a error 90;a dropped;"
+    checks.same(&fire(&solo, service(), 6), &Some(Err(Error::Inner(6))));
+    checks.same(&fire(&solo, service(), 6), &Some(Err(Error::Inner(90))));
+    checks.told(
+        &log,
+        "a ready;a called 6;a(6) ready;a(6) dropped;a dropped;a error 90;a dropped;",
     );
-    Ok(())
+    checks.verdict()
 }
 
 #[test]

@@ -1,6 +1,7 @@
 //! `Shared`: a maker that gives clones.
 
 use std::test::Fail;
+use tests_support::checks::Checks;
 use tests_support::log::Log;
 use tests_support::plain::Plain;
 use tests_support::run::{fire, task};
@@ -11,6 +12,7 @@ use tower_util::make::shared::Error;
 
 #[test]
 fn each_target_gives_a_clone(rt: HostRuntime) -> Result<(), Fail> {
+    let checks = Checks::new(rt.alloc());
     let log = Log::new(rt.alloc())?;
     let script = Script::new(&log);
     let solo = task(&rt)?;
@@ -19,41 +21,37 @@ fn each_target_gives_a_clone(rt: HostRuntime) -> Result<(), Fail> {
     let Some(Ok(service)) = fire(&solo, shared, 'x') else {
         return Err("no service".into());
     };
-    assert_eq!(rt;
-        log.told(rt.alloc())?.as_str(),
-        "a cloned a1;a cloned a2;a dropped;"
-    );
-    assert_eq!(rt; fire(&solo, service, 6), Some(Ok(6)));
+    checks.told(&log, "a cloned a1;a cloned a2;a dropped;");
+    checks.same(&fire(&solo, service, 6), &Some(Ok(6)));
     drop(copy);
-    assert_eq!(rt;
-        log.told(rt.alloc())?.as_str(),
-        "a2 ready;a2 called 6;a2(6) ready;a2(6) dropped;a2 dropped;a1 dropped;"
+    checks.told(
+        &log,
+        "a2 ready;a2 called 6;a2(6) ready;a2(6) dropped;a2 dropped;a1 dropped;",
     );
-    Ok(())
+    checks.verdict()
 }
 
 #[test]
 fn refused_clone_is_the_answer(rt: HostRuntime) -> Result<(), Fail> {
+    let checks = Checks::new(rt.alloc());
     let log = Log::new(rt.alloc())?;
     let solo = task(&rt)?;
     let shared = Shared::new(Plain::refusing(&log, 'r'));
-    assert!(rt; shared.clone().is_err());
-    assert!(rt; matches!(fire(&solo, shared, 1u8), Some(Err(Error::Memory))));
-    assert_eq!(rt;
-        log.told(rt.alloc())?.as_str(),
-        "r refused;r refused;r dropped;"
-    );
-    Ok(())
+    checks.holds(shared.clone().is_err());
+    checks.holds(matches!(fire(&solo, shared, 1u8), Some(Err(Error::Memory))));
+    checks.told(&log, "r refused;r refused;r dropped;");
+    checks.verdict()
 }
 
 #[test]
 fn copy_gives_clones_too(rt: HostRuntime) -> Result<(), Fail> {
+    let checks = Checks::new(rt.alloc());
     let solo = task(&rt)?;
     let byte = Shared::new(7u8);
     let copy = byte;
-    assert!(rt; matches!(fire(&solo, byte, 1u8), Some(Ok(7))));
-    assert!(rt; matches!(fire(&solo, copy, 1u8), Some(Ok(7))));
-    Ok(())
+    checks.holds(matches!(fire(&solo, byte, 1u8), Some(Ok(7))));
+    checks.holds(matches!(fire(&solo, copy, 1u8), Some(Ok(7))));
+    checks.verdict()
 }
 
 #[test]

@@ -9,6 +9,7 @@ use std::sync::atomic::{AtomicU64, Ordering};
 use std::test::Fail;
 use std::time::{Clock, Duration};
 use std::{io, thread};
+use tests_support::checks::Checks;
 use tests_support::log::Log;
 use tests_support::script::{Mood, Reply, Script};
 use tests_support::service::Scripted;
@@ -19,38 +20,35 @@ use tower_util::util::{block_on_call, block_on_each, block_on_ready, service_fn}
 
 #[test]
 fn service_is_polled_until_it_is_ready(rt: HostRuntime) -> Result<(), Fail> {
+    let checks = Checks::new(rt.alloc());
     let log = Log::new(rt.alloc())?;
     let script = Script::new(&log);
     script.moods(&[Mood::Busy, Mood::Busy, Mood::Willing]);
     let mut service = Scripted::new(&script, 'a');
     let answer = block_on_ready::<_, _, u8>(&mut service, &rt)?;
-    assert_eq!(rt; answer, Ok(()));
-    assert_eq!(rt;
-        log.told(rt.alloc())?.as_str(),
-        "a pending;a pending;a ready;"
-    );
-    Ok(())
+    checks.same(&answer, &Ok(()));
+    checks.told(&log, "a pending;a pending;a ready;");
+    checks.verdict()
 }
 
 #[test]
 fn ready_service_is_not_asked_again(rt: HostRuntime) -> Result<(), Fail> {
+    let checks = Checks::new(rt.alloc());
     let log = Log::new(rt.alloc())?;
     let script = Script::new(&log);
     script.moods(&[Mood::Willing, Mood::Broken(90)]);
     let mut service = Scripted::new(&script, 'a');
-    assert_eq!(rt; block_on_ready::<_, _, u8>(&mut service, &rt)?, Ok(()));
-    assert_eq!(rt; log.told(rt.alloc())?.as_str(), "a ready;");
+    checks.same(&block_on_ready::<_, _, u8>(&mut service, &rt)?, &Ok(()));
+    checks.told(&log, "a ready;");
     script.moods(&[Mood::Willing, Mood::Broken(90)]);
-    assert_eq!(rt; block_on_call(&mut service, &rt, 6)?, Ok(6));
-    assert_eq!(rt;
-        log.told(rt.alloc())?.as_str(),
-        "a ready;a called 6;a(6) ready;a(6) dropped;"
-    );
-    Ok(())
+    checks.same(&block_on_call(&mut service, &rt, 6)?, &Ok(6));
+    checks.told(&log, "a ready;a called 6;a(6) ready;a(6) dropped;");
+    checks.verdict()
 }
 
 #[test]
 fn error_leaves_the_service(rt: HostRuntime) -> Result<(), Fail> {
+    let checks = Checks::new(rt.alloc());
     let log = Log::new(rt.alloc())?;
     let script = Script::new(&log);
     script.moods(&[
@@ -60,20 +58,18 @@ fn error_leaves_the_service(rt: HostRuntime) -> Result<(), Fail> {
         Mood::Willing,
     ]);
     let mut service = Scripted::new(&script, 'a');
-    assert_eq!(rt; block_on_ready::<_, _, u8>(&mut service, &rt)?, Err(90));
-    assert_eq!(rt; log.told(rt.alloc())?.as_str(), "a pending;a error 90;");
-    assert_eq!(rt; block_on_call(&mut service, &rt, 6)?, Err(91));
-    assert_eq!(rt; log.told(rt.alloc())?.as_str(), "a error 91;");
-    assert_eq!(rt; block_on_call(&mut service, &rt, 7)?, Ok(7));
-    assert_eq!(rt;
-        log.told(rt.alloc())?.as_str(),
-        "a ready;a called 7;a(7) ready;a(7) dropped;"
-    );
-    Ok(())
+    checks.same(&block_on_ready::<_, _, u8>(&mut service, &rt)?, &Err(90));
+    checks.told(&log, "a pending;a error 90;");
+    checks.same(&block_on_call(&mut service, &rt, 6)?, &Err(91));
+    checks.told(&log, "a error 91;");
+    checks.same(&block_on_call(&mut service, &rt, 7)?, &Ok(7));
+    checks.told(&log, "a ready;a called 7;a(7) ready;a(7) dropped;");
+    checks.verdict()
 }
 
 #[test]
 fn ten_calls_each_of_a_ready_service(rt: HostRuntime) -> Result<(), Fail> {
+    let checks = Checks::new(rt.alloc());
     let alloc = rt.alloc();
     let log = Log::new(alloc)?;
     let script = Script::new(&log);
@@ -81,13 +77,13 @@ fn ten_calls_each_of_a_ready_service(rt: HostRuntime) -> Result<(), Fail> {
     let mut service = Scripted::new(&script, 'a');
     for request in 0..10 {
         script.moods(&[Mood::Busy, Mood::Willing]);
-        assert_eq!(rt; block_on_call(&mut service, &rt, request)?, Ok(request));
+        checks.same(&block_on_call(&mut service, &rt, request)?, &Ok(request));
         let told = format!(in alloc;
             "a pending;a ready;a called {request};a({request}) pending;a({request}) ready;a({request}) dropped;"
         )?;
-        assert_eq!(rt; log.told(alloc)?.as_str(), told.as_str());
+        checks.told(&log, told.as_str());
     }
-    Ok(())
+    checks.verdict()
 }
 
 #[test]
@@ -134,19 +130,20 @@ fn lets_go<T: Drop>(rt: &impl Clock, began: &AtomicU64, held: T) {
 
 #[test]
 fn waker_of_another_thread_ends_the_wait(rt: HostRuntime) -> Result<(), Fail> {
+    let checks = Checks::new(rt.alloc());
     let semaphore = Semaphore::new(rt, rt.alloc(), 1)?;
     let began = AtomicU64::new(0);
     let echo = service_fn(|n: u8| -> Ready<Result<u8, Infallible>> { ok(n) });
     let mut first = ConcurrencyLimit::with_semaphore(echo, semaphore.share()?);
     let second = first.clone()?;
-    assert!(rt; block_on_ready::<_, _, u8>(&mut first, &rt)?.is_ok());
-    assert_eq!(rt; semaphore.available_permits(), 0);
+    checks.holds(block_on_ready::<_, _, u8>(&mut first, &rt)?.is_ok());
+    checks.same(&semaphore.available_permits(), &0);
     let (answered, ()) = thread::join(
         &rt,
         || waits(&rt, &began, second),
         || lets_go(&rt, &began, first),
     );
-    assert!(rt; answered?);
-    assert_eq!(rt; semaphore.available_permits(), 1);
-    Ok(())
+    checks.holds(answered?);
+    checks.same(&semaphore.available_permits(), &1);
+    checks.verdict()
 }

@@ -5,13 +5,14 @@ use futures::task::{Poll, Solo};
 use std::alloc::Global;
 use std::fmt::Write;
 use std::test::Fail;
+use tests_support::checks::Checks;
 use tests_support::log::Log;
 use tests_support::run::task;
 use tests_support::script::Mood::{self, Broken, Busy, Willing};
 use tests_support::script::{Reply, Script};
 use tests_support::service::Scripted;
 use tests_support::stream::{Outbox, Requests};
-use tower_base::service::Flow;
+use tower_base::service::{Flow, Service};
 use tower_ware::util::call_all::{Error, law};
 use tower_ware::util::{CallAll, CallAllUnordered};
 
@@ -70,6 +71,16 @@ impl<'a> Desk<'a> {
     }
 }
 
+// A word or a few for the answer of a poll.
+fn tell(text: &mut String, answer: &Poll<Option<Result<u8, Error<u8>>>>) {
+    let _ = match answer {
+        Poll::Ready(None) => write!(text, "ended;"),
+        Poll::Ready(Some(Ok(number))) => write!(text, "{number};"),
+        Poll::Ready(Some(Err(error))) => write!(text, "error {error};"),
+        Poll::Pending => write!(text, "pending;"),
+    };
+}
+
 // One poll of a stream of calls, which is dropped at its end.
 fn polled<F>(solo: &Solo, flow: &mut Option<F>, text: &mut String)
 where
@@ -78,32 +89,20 @@ where
     ensures { IfSome flow.new F.can_poll }
 {
     let Some(mut live) = flow.take() else {
-        let _ = write!(text, "gone;");
+        let _ = text.push_str("gone;");
         return;
     };
     let mut cx = solo.begin();
     let answer = live.flow(&mut cx);
     cx.cancel();
-    let _ = match answer {
-        Poll::Ready(None) => {
-            let _ = write!(text, "ended;");
-            return;
-        }
-        Poll::Ready(Some(Ok(number))) => write!(text, "{number};"),
-        Poll::Ready(Some(Err(error))) => write!(text, "error {error};"),
-        Poll::Pending => write!(text, "pending;"),
-    };
-    *flow = Some(live);
+    tell(text, &answer);
+    if !matches!(answer, Poll::Ready(None)) {
+        *flow = Some(live);
+    }
 }
 
 // A poll after each act.
-fn run<F>(
-    alloc: Global,
-    solo: &Solo,
-    desk: &Desk<'_>,
-    flow: F,
-    acts: &[Act],
-) -> Result<String, Fail>
+fn run<F>(alloc: Global, solo: &Solo, desk: &Desk<'_>, flow: F, acts: &[Act]) -> String
 where
     F: Flow<Item = Result<u8, Error<u8>>>,
     requires { F.can_poll flow }
@@ -114,17 +113,44 @@ where
         desk.act(*act);
         polled(solo, &mut flow, &mut text);
     }
-    Ok(text)
+    text
+}
+
+// The streams of calls of any service, which a test makes of its desk's.
+fn ordered_of<S>(
+    rt: &HostRuntime,
+    desk: &Desk<'_>,
+    service: S,
+    acts: &[Act],
+) -> Result<String, Fail>
+where
+    S: Service<u8, Response = u8, Error = u8>,
+    requires { S.sound service }
+{
+    let calls = CallAll::new(rt.alloc(), service, desk.requests());
+    Ok(run(rt.alloc(), &task(rt)?, desk, calls, acts))
+}
+
+fn unordered_of<S>(
+    rt: &HostRuntime,
+    desk: &Desk<'_>,
+    service: S,
+    acts: &[Act],
+) -> Result<String, Fail>
+where
+    S: Service<u8, Response = u8, Error = u8>,
+    requires { S.sound service }
+{
+    let calls = CallAllUnordered::new(rt.alloc(), service, desk.requests());
+    Ok(run(rt.alloc(), &task(rt)?, desk, calls, acts))
 }
 
 fn ordered(rt: &HostRuntime, desk: &Desk<'_>, acts: &[Act]) -> Result<String, Fail> {
-    let calls = CallAll::new(rt.alloc(), desk.service(), desk.requests());
-    run(rt.alloc(), &task(rt)?, desk, calls, acts)
+    ordered_of(rt, desk, desk.service(), acts)
 }
 
 fn unordered(rt: &HostRuntime, desk: &Desk<'_>, acts: &[Act]) -> Result<String, Fail> {
-    let calls = CallAllUnordered::new(rt.alloc(), desk.service(), desk.requests());
-    run(rt.alloc(), &task(rt)?, desk, calls, acts)
+    unordered_of(rt, desk, desk.service(), acts)
 }
 
 const GATED: [Reply; 3] = [
@@ -152,42 +178,45 @@ const THREE_CALLS: &str = "requests gave 0;s ready;s called 0;\
 
 #[test]
 fn ordered_answers_wait_for_the_earlier_ones(rt: HostRuntime) -> Result<(), Fail> {
+    let checks = Checks::new(rt.alloc());
     let log = Log::new(rt.alloc())?;
     let desk = Desk::new(&log, Outbox::new(3, true));
     desk.script.replies(&GATED);
     let text = ordered(&rt, &desk, &THIRD_FIRST_SECOND)?;
-    assert_eq!(rt; text.as_str(), "pending;pending;error 1;2;3;ended;gone;");
+    checks.same(&text.as_str(), &"pending;pending;error 1;2;3;ended;gone;");
     let told = log.told(rt.alloc())?;
-    assert_eq!(rt;
-        told.as_str().strip_prefix(THREE_CALLS),
-        Some(
+    checks.same(
+        &told.as_str().strip_prefix(THREE_CALLS),
+        &Some(
             "s(0) pending;s(1) pending;s(2) ready;s(2) dropped;s(0) ready;s(0) dropped;\
-             s(1) ready;s(1) dropped;s dropped;requests dropped;"
-        )
+             s(1) ready;s(1) dropped;s dropped;requests dropped;",
+        ),
     );
-    Ok(())
+    checks.verdict()
 }
 
 #[test]
 fn unordered_answers_come_as_they_are_there(rt: HostRuntime) -> Result<(), Fail> {
+    let checks = Checks::new(rt.alloc());
     let log = Log::new(rt.alloc())?;
     let desk = Desk::new(&log, Outbox::new(3, true));
     desk.script.replies(&GATED);
     let text = unordered(&rt, &desk, &THIRD_FIRST_SECOND)?;
-    assert_eq!(rt; text.as_str(), "pending;3;error 1;2;ended;gone;gone;");
+    checks.same(&text.as_str(), &"pending;3;error 1;2;ended;gone;gone;");
     let told = log.told(rt.alloc())?;
-    assert_eq!(rt;
-        told.as_str().strip_prefix(THREE_CALLS),
-        Some(
+    checks.same(
+        &told.as_str().strip_prefix(THREE_CALLS),
+        &Some(
             "s(0) pending;s(1) pending;s(2) ready;s(2) dropped;s(0) ready;s(0) dropped;\
-             s(1) ready;s(1) dropped;s dropped;requests dropped;"
-        )
+             s(1) ready;s(1) dropped;s dropped;requests dropped;",
+        ),
     );
-    Ok(())
+    checks.verdict()
 }
 
 #[test]
 fn readiness_error_comes_first_and_ends_the_requests(rt: HostRuntime) -> Result<(), Fail> {
+    let checks = Checks::new(rt.alloc());
     let log = Log::new(rt.alloc())?;
     let acts = [
         Act::Nothing,
@@ -201,19 +230,20 @@ fn readiness_error_comes_first_and_ends_the_requests(rt: HostRuntime) -> Result<
         .replies(&[Reply::Gated(Ok(4)), Reply::Gated(Ok(5))]);
     desk.script.moods(&[Willing, Willing, Broken(7), Willing]);
     let text = ordered(&rt, &desk, &acts)?;
-    assert_eq!(rt; text.as_str(), "error 7;pending;4;5;ended;");
+    checks.same(&text.as_str(), &"error 7;pending;4;5;ended;");
     let desk = Desk::new(&log, Outbox::new(4, true));
     desk.script
         .replies(&[Reply::Gated(Ok(4)), Reply::Gated(Ok(5))]);
     desk.script.moods(&[Willing, Willing, Broken(7), Willing]);
     let text = unordered(&rt, &desk, &acts)?;
-    assert_eq!(rt; text.as_str(), "error 7;pending;4;5;ended;");
-    Ok(())
+    checks.same(&text.as_str(), &"error 7;pending;4;5;ended;");
+    checks.verdict()
 }
 
 // The second answer is kept while the first is awaited, and the third request's readiness fails.
 #[test]
 fn a_kept_answer_comes_after_the_readiness_error(rt: HostRuntime) -> Result<(), Fail> {
+    let checks = Checks::new(rt.alloc());
     let log = Log::new(rt.alloc())?;
     let desk = Desk::new(&log, Outbox::new(2, false));
     desk.script
@@ -228,16 +258,20 @@ fn a_kept_answer_comes_after_the_readiness_error(rt: HostRuntime) -> Result<(), 
         Act::Nothing,
     ];
     let text = ordered(&rt, &desk, &acts)?;
-    assert_eq!(rt; text.as_str(), "pending;pending;error 7;pending;4;5;ended;");
-    assert_eq!(rt;
-        log.told(rt.alloc())?.as_str().split("s(1) ready;").count(),
-        2
+    checks.same(
+        &text.as_str(),
+        &"pending;pending;error 7;pending;4;5;ended;",
     );
-    Ok(())
+    checks.same(
+        &log.told(rt.alloc())?.as_str().split("s(1) ready;").count(),
+        &2,
+    );
+    checks.verdict()
 }
 
 #[test]
 fn readiness_error_comes_before_answers_that_are_there_too(rt: HostRuntime) -> Result<(), Fail> {
+    let checks = Checks::new(rt.alloc());
     let log = Log::new(rt.alloc())?;
     let acts = [
         Act::Nothing,
@@ -249,16 +283,16 @@ fn readiness_error_comes_before_answers_that_are_there_too(rt: HostRuntime) -> R
     desk.script
         .replies(&[Reply::Gated(Ok(4)), Reply::Gated(Ok(5))]);
     desk.script.moods(&[Willing, Willing, Broken(7)]);
-    assert_eq!(rt; ordered(&rt, &desk, &acts)?.as_str(), "error 7;4;5;ended;");
+    checks.same(&ordered(&rt, &desk, &acts)?.as_str(), &"error 7;4;5;ended;");
     let desk = Desk::new(&log, Outbox::new(4, true));
     desk.script
         .replies(&[Reply::Gated(Ok(4)), Reply::Gated(Ok(5))]);
     desk.script.moods(&[Willing, Willing, Broken(7)]);
-    assert_eq!(rt;
-        unordered(&rt, &desk, &acts)?.as_str(),
-        "error 7;4;5;ended;"
+    checks.same(
+        &unordered(&rt, &desk, &acts)?.as_str(),
+        &"error 7;4;5;ended;",
     );
-    Ok(())
+    checks.verdict()
 }
 
 #[test]
@@ -310,16 +344,23 @@ fn two_polls<F: Flow<Item = Result<u8, Error<u8>>>>(
 
 #[test]
 fn one_poll_makes_so_many_calls(rt: HostRuntime) -> Result<(), Fail> {
+    let checks = Checks::new(rt.alloc());
     let log = Log::new(rt.alloc())?;
     let desk = Desk::new(&log, Outbox::new(65, false));
     desk.script.replies(&[Reply::Never]);
     let calls = CallAll::new(rt.alloc(), desk.service(), desk.requests());
     let (text, first, second) = two_polls(&rt, &log, calls)?;
-    assert_eq!(rt; (text.as_str(), first, second), ("pending;pending;", 65, 2));
+    checks.same(
+        &(text.as_str(), first, second),
+        &("pending;pending;", 65, 2),
+    );
     let calls = CallAllUnordered::new(rt.alloc(), desk.service(), desk.requests());
     let (text, first, second) = two_polls(&rt, &log, calls)?;
-    assert_eq!(rt; (text.as_str(), first, second), ("pending;pending;", 65, 2));
-    Ok(())
+    checks.same(
+        &(text.as_str(), first, second),
+        &("pending;pending;", 65, 2),
+    );
+    checks.verdict()
 }
 
 // A request that waits for the service, and what came of it once the stream was unordered.
@@ -342,44 +383,50 @@ fn handed_over(rt: &HostRuntime, desk: &Desk<'_>) -> Result<String, Fail> {
 
 #[test]
 fn unordered_hands_a_kept_request_over(rt: HostRuntime) -> Result<(), Fail> {
+    let checks = Checks::new(rt.alloc());
     let log = Log::new(rt.alloc())?;
     let desk = Desk::new(&log, Outbox::new(1, true));
-    assert_eq!(rt; handed_over(&rt, &desk)?.as_str(), "pending;0;");
-    assert_eq!(rt;
-        log.told(rt.alloc())?.as_str(),
+    checks.same(&handed_over(&rt, &desk)?.as_str(), &"pending;0;");
+    checks.told(
+        &log,
         "requests gave 0;s pending;s ready;s called 0;s(0) ready;s(0) dropped;\
-         s dropped;requests dropped;"
+         s dropped;requests dropped;",
     );
-    Ok(())
+    checks.verdict()
 }
 
 #[test]
 fn service_comes_out_again(rt: HostRuntime) -> Result<(), Fail> {
+    let checks = Checks::new(rt.alloc());
     let alloc = rt.alloc();
     let log = Log::new(alloc)?;
     let desk = Desk::new(&log, Outbox::new(1, true));
     let mut calls = CallAll::new(alloc, desk.service(), desk.requests());
-    assert!(rt; calls.has_service() && calls.can_unorder());
+    checks.holds(calls.has_service() && calls.can_unorder());
     drop(calls.take_service());
-    assert!(rt; !calls.has_service());
-    assert_eq!(rt; log.told(alloc)?.as_str(), "s dropped;");
-    assert!(rt; !calls.unordered().has_service());
-    assert_eq!(rt; log.told(alloc)?.as_str(), "requests dropped;");
+    checks.holds(!calls.has_service());
+    checks.told(&log, "s dropped;");
+    checks.holds(!calls.unordered().has_service());
+    checks.told(&log, "requests dropped;");
     let others = CallAllUnordered::new(alloc, desk.service(), desk.requests());
     drop(others.into_inner());
-    assert_eq!(rt; log.told(alloc)?.as_str(), "requests dropped;s dropped;");
+    checks.told(&log, "requests dropped;s dropped;");
     let calls = CallAll::new(alloc, desk.service(), desk.requests());
     drop(calls.into_inner());
-    assert_eq!(rt; log.told(alloc)?.as_str(), "requests dropped;s dropped;");
+    checks.told(&log, "requests dropped;s dropped;");
     law::<Scripted<'_>, Requests<'_>>();
-    Ok(())
+    checks.verdict()
 }
 
 // What is left of a stream as its service comes out, with a call in flight.
-fn taken_ordered(rt: &HostRuntime, desk: &Desk<'_>) -> Result<(), Fail> {
+fn taken_ordered<S>(rt: &HostRuntime, desk: &Desk<'_>, service: S) -> Result<(), Fail>
+where
+    S: Service<u8, Response = u8, Error = u8>,
+    requires { S.sound service }
+{
     let (alloc, solo) = (rt.alloc(), task(rt)?);
     let mut text = String::new(alloc);
-    let mut calls = Some(CallAll::new(alloc, desk.service(), desk.requests()));
+    let mut calls = Some(CallAll::new(alloc, service, desk.requests()));
     polled(&solo, &mut calls, &mut text);
     match calls {
         Some(calls) if calls.has_service() => drop(calls.into_inner()),
@@ -388,10 +435,14 @@ fn taken_ordered(rt: &HostRuntime, desk: &Desk<'_>) -> Result<(), Fail> {
     Ok(())
 }
 
-fn taken_unordered(rt: &HostRuntime, desk: &Desk<'_>) -> Result<(), Fail> {
+fn taken_unordered<S>(rt: &HostRuntime, desk: &Desk<'_>, service: S) -> Result<(), Fail>
+where
+    S: Service<u8, Response = u8, Error = u8>,
+    requires { S.sound service }
+{
     let (alloc, solo) = (rt.alloc(), task(rt)?);
     let mut text = String::new(alloc);
-    let mut calls = Some(CallAllUnordered::new(alloc, desk.service(), desk.requests()));
+    let mut calls = Some(CallAllUnordered::new(alloc, service, desk.requests()));
     polled(&solo, &mut calls, &mut text);
     match calls {
         Some(calls) if calls.has_service() => drop(calls.into_inner()),
@@ -402,20 +453,22 @@ fn taken_unordered(rt: &HostRuntime, desk: &Desk<'_>) -> Result<(), Fail> {
 
 #[test]
 fn call_in_flight_is_dropped_as_the_service_comes_out(rt: HostRuntime) -> Result<(), Fail> {
+    let checks = Checks::new(rt.alloc());
     let log = Log::new(rt.alloc())?;
     let desk = Desk::new(&log, Outbox::new(1, false));
     desk.script.replies(&[Reply::Never]);
     let told = "requests gave 0;s ready;s called 0;s(0) pending;requests pending;\
         requests dropped;s(0) dropped;s dropped;";
-    taken_ordered(&rt, &desk)?;
-    assert_eq!(rt; log.told(rt.alloc())?.as_str(), told);
-    taken_unordered(&rt, &desk)?;
-    assert_eq!(rt; log.told(rt.alloc())?.as_str(), told);
-    Ok(())
+    taken_ordered(&rt, &desk, desk.service())?;
+    checks.told(&log, told);
+    taken_unordered(&rt, &desk, desk.service())?;
+    checks.told(&log, told);
+    checks.verdict()
 }
 
 #[test]
 fn service_is_there_after_the_end(rt: HostRuntime) -> Result<(), Fail> {
+    let checks = Checks::new(rt.alloc());
     let alloc = rt.alloc();
     let log = Log::new(alloc)?;
     let desk = Desk::new(&log, Outbox::new(0, true));
@@ -424,13 +477,13 @@ fn service_is_there_after_the_end(rt: HostRuntime) -> Result<(), Fail> {
     let mut cx = solo.begin();
     let answer = calls.flow(&mut cx);
     cx.cancel();
-    assert_eq!(rt; answer, Poll::Ready(None));
+    checks.same(&answer, &Poll::Ready(None));
     if !calls.has_service() {
         return Err("no service".into());
     }
     drop(calls.take_service());
-    assert_eq!(rt; log.told(alloc)?.as_str(), "requests ended;s dropped;");
-    Ok(())
+    checks.told(&log, "requests ended;s dropped;");
+    checks.verdict()
 }
 
 #[test]

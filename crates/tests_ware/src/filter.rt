@@ -1,7 +1,9 @@
 //! `tower::filter`: what the predicate is asked, and which requests go inside.
 
+use crate::stories::is_told;
 use futures::task::Poll;
 use std::test::Fail;
+use tests_support::checks::Checks;
 use tests_support::future::After;
 use tests_support::log::Log;
 use tests_support::plain::Plain;
@@ -13,7 +15,8 @@ use tests_support::story::{Act, Stage, Story, driven};
 use tower_base::drive::Event;
 use tower_base::layer::Layer;
 use tower_ware::filter::{
-    AsyncFilter, AsyncFilterLayer, AsyncPredicateFn, Error, Filter, FilterLayer, PredicateFn,
+    AsyncFilter, AsyncFilterLayer, AsyncPredicate, AsyncPredicateFn, Error, Filter, FilterLayer,
+    Predicate, PredicateFn,
 };
 
 // Refuses requests from 100 on, and doubles the others.
@@ -26,10 +29,33 @@ fn doubled(log: &Log, request: u8) -> Result<u8, u8> {
     }
 }
 
+fn filtered<P: Predicate<u8, Request = u8, Error = u8>>(
+    rt: &HostRuntime,
+    stage: &Stage<'_>,
+    predicate: P,
+    events: Vec<Event<u8, Act>>,
+) -> Result<Story, Fail>
+    requires { P.sound predicate }
+{
+    let service = Filter::new(Scripted::new(&stage.script, 's'), predicate);
+    driven(rt, stage, service, events)
+}
+
 fn run(rt: &HostRuntime, stage: &Stage<'_>, events: Vec<Event<u8, Act>>) -> Result<Story, Fail> {
     let log = stage.log;
     let predicate = PredicateFn::new(|request: u8| doubled(log, request));
-    let service = Filter::new(Scripted::new(&stage.script, 's'), predicate);
+    filtered(rt, stage, predicate, events)
+}
+
+fn async_filtered<P: AsyncPredicate<u8, Request = u8, Error = u8>>(
+    rt: &HostRuntime,
+    stage: &Stage<'_>,
+    predicate: P,
+    events: Vec<Event<u8, Act>>,
+) -> Result<Story, Fail>
+    requires { P.sound predicate }
+{
+    let service = AsyncFilter::new(Scripted::new(&stage.script, 's'), predicate);
     driven(rt, stage, service, events)
 }
 
@@ -42,9 +68,7 @@ fn run_async(
 ) -> Result<Story, Fail> {
     let log = stage.log;
     let check = |request: u8| After::new(log, 'c', polls, doubled(log, request));
-    let predicate = AsyncPredicateFn::new(check);
-    let service = AsyncFilter::new(Scripted::new(&stage.script, 's'), predicate);
-    driven(rt, stage, service, events)
+    async_filtered(rt, stage, AsyncPredicateFn::new(check), events)
 }
 
 #[test]
@@ -60,19 +84,17 @@ fn checked_request_goes_inside_and_a_refused_one_does_not(rt: HostRuntime) -> Re
         Event::Future(1),
     ]?;
     let story = run(&rt, &stage, events)?;
-    assert_eq!(rt;
-        story.entries.as_str(),
-        "ready;call 0;0 ok 42;ready;call 1;1 error 200;"
-    );
-    assert_eq!(rt;
-        story.told.as_str(),
-        "s ready;checked 21;s called 42;s(42) ready;s ready;checked 200;s dropped;s(42) dropped;"
-    );
-    Ok(())
+    is_told(
+        &rt,
+        &story,
+        "ready;call 0;0 ok 42;ready;call 1;1 error 200;",
+        "s ready;checked 21;s called 42;s(42) ready;s ready;checked 200;s dropped;s(42) dropped;",
+    )
 }
 
 #[test]
 fn readiness_and_errors_are_passed_on(rt: HostRuntime) -> Result<(), Fail> {
+    let checks = Checks::new(rt.alloc());
     let log = Log::new(rt.alloc())?;
     let stage = Stage::new(&log);
     let events = || vec![in rt.alloc();
@@ -87,11 +109,11 @@ fn readiness_and_errors_are_passed_on(rt: HostRuntime) -> Result<(), Fail> {
     stage.script.moods(&[Busy, Broken(7), Willing]);
     stage.script.replies(&[Reply::Fail(1)]);
     let story = run(&rt, &stage, events()?)?;
-    assert_eq!(rt; story.entries.as_str(), expected);
+    checks.same(&story.entries.as_str(), &expected);
     stage.script.moods(&[Busy, Broken(7), Willing]);
     let story = run_async(&rt, &stage, 0, events()?)?;
-    assert_eq!(rt; story.entries.as_str(), expected);
-    Ok(())
+    checks.same(&story.entries.as_str(), &expected);
+    checks.verdict()
 }
 
 #[test]
@@ -106,16 +128,13 @@ fn polled_service_is_called_once_the_check_is_ok(rt: HostRuntime) -> Result<(), 
         Event::Future(0),
     ]?;
     let story = run_async(&rt, &stage, 1, events)?;
-    assert_eq!(rt;
-        story.entries.as_str(),
-        "ready;call 0;0 pending;ready;0 ok 8;"
-    );
-    assert_eq!(rt;
-        story.told.as_str(),
+    is_told(
+        &rt,
+        &story,
+        "ready;call 0;0 pending;ready;0 ok 8;",
         "s ready;s cloned s1;checked 4;c pending;s1 ready;c ready;s called 8;c dropped;s dropped;\
-         s(8) ready;s1 dropped;s(8) dropped;"
-    );
-    Ok(())
+         s(8) ready;s1 dropped;s(8) dropped;",
+    )
 }
 
 #[test]
@@ -130,15 +149,12 @@ fn refused_check_is_rejected_and_nothing_is_called(rt: HostRuntime) -> Result<()
         Event::Drop(0),
     ]?;
     let story = run_async(&rt, &stage, 1, events)?;
-    assert_eq!(rt;
-        story.entries.as_str(),
-        "ready;call 0;0 pending;0 error 104;drop 0;"
-    );
-    assert_eq!(rt;
-        story.told.as_str(),
-        "s ready;s cloned s1;checked 104;c pending;c ready;c dropped;s dropped;s1 dropped;"
-    );
-    Ok(())
+    is_told(
+        &rt,
+        &story,
+        "ready;call 0;0 pending;0 error 104;drop 0;",
+        "s ready;s cloned s1;checked 104;c pending;c ready;c dropped;s dropped;s1 dropped;",
+    )
 }
 
 #[test]
@@ -156,40 +172,39 @@ fn refused_clone_is_answered_and_nothing_is_asked(rt: HostRuntime) -> Result<(),
         Event::Future(1),
     ]?;
     let story = run_async(&rt, &stage, 0, events)?;
-    assert_eq!(rt;
-        story.entries.as_str(),
-        "ready;call 0;0 error out of memory;at 0;ready;call 1;1 ok 10;"
-    );
-    assert_eq!(rt;
-        story.told.as_str(),
+    is_told(
+        &rt,
+        &story,
+        "ready;call 0;0 error out of memory;at 0;ready;call 1;1 ok 10;",
         "s ready;s refused;s ready;s cloned s1;checked 5;c ready;s called 10;c dropped;s dropped;\
-         s(10) ready;s1 dropped;s(10) dropped;"
-    );
-    Ok(())
+         s(10) ready;s1 dropped;s(10) dropped;",
+    )
 }
 
 #[test]
 fn a_filter_checks_and_lends(rt: HostRuntime) -> Result<(), Fail> {
+    let checks = Checks::new(rt.alloc());
     let alloc = rt.alloc();
     let log = Log::new(alloc)?;
     let stage = Stage::new(&log);
     let predicate = PredicateFn::new(|request: u8| doubled(&log, request));
     let layer = Filter::<Scripted<'_>, _>::layer(predicate).clone()?;
     let mut filter = layer.layer(Scripted::new(&stage.script, 'a'))?;
-    assert_eq!(rt; filter.check(3), Ok(6));
-    assert_eq!(rt; filter.check(103), Err(103));
+    checks.same(&filter.check(3), &Ok(6));
+    checks.same(&filter.check(103), &Err(103));
     *filter.get_mut() = Scripted::new(&stage.script, 'b');
     drop(filter.get_ref().clone()?);
     drop(filter.into_inner());
-    assert_eq!(rt;
-        log.told(alloc)?.as_str(),
-        "checked 3;checked 103;a dropped;b cloned b1;b1 dropped;b dropped;"
+    checks.told(
+        &log,
+        "checked 3;checked 103;a dropped;b cloned b1;b1 dropped;b dropped;",
     );
-    Ok(())
+    checks.verdict()
 }
 
 #[test]
 fn an_async_filter_checks_and_lends(rt: HostRuntime) -> Result<(), Fail> {
+    let checks = Checks::new(rt.alloc());
     let alloc = rt.alloc();
     let log = Log::new(alloc)?;
     let stage = Stage::new(&log);
@@ -202,39 +217,38 @@ fn an_async_filter_checks_and_lends(rt: HostRuntime) -> Result<(), Fail> {
     let layer = AsyncFilter::<Scripted<'_>, _>::layer(predicate).clone()?;
     let mut filter = layer.layer(Scripted::new(&stage.script, 'a'))?;
     let mut check = filter.check(3);
-    assert_eq!(rt; stepped(&task(&rt)?, &mut check), Poll::Ready(Ok(6)));
+    checks.same(&stepped(&task(&rt)?, &mut check), &Poll::Ready(Ok(6)));
     *filter.get_mut() = Scripted::new(&stage.script, 'b');
     drop(filter.get_ref().clone()?);
     drop(filter.into_inner());
-    assert_eq!(rt;
-        log.told(alloc)?.as_str(),
-        "checked 3;c ready;a dropped;b cloned b1;b1 dropped;b dropped;"
+    checks.told(
+        &log,
+        "checked 3;c ready;a dropped;b cloned b1;b1 dropped;b dropped;",
     );
-    Ok(())
+    checks.verdict()
 }
 
 #[test]
 fn clones_have_clones_of_both_parts(rt: HostRuntime) -> Result<(), Fail> {
+    let checks = Checks::new(rt.alloc());
     let alloc = rt.alloc();
     let log = Log::new(alloc)?;
     let stage = Stage::new(&log);
     let filter = Filter::new(Scripted::new(&stage.script, 's'), Plain::new(&log, 'p'));
     drop(filter.clone()?);
-    assert_eq!(rt;
-        log.told(alloc)?.as_str(),
-        "s cloned s1;p cloned p2;s1 dropped;p2 dropped;"
-    );
+    checks.told(&log, "s cloned s1;p cloned p2;s1 dropped;p2 dropped;");
     let filter = AsyncFilter::new(filter, Plain::new(&log, 'q'));
     drop(filter.clone()?);
-    assert_eq!(rt;
-        log.told(alloc)?.as_str(),
-        "s cloned s3;p cloned p4;q cloned q5;s3 dropped;p4 dropped;q5 dropped;"
+    checks.told(
+        &log,
+        "s cloned s3;p cloned p4;q cloned q5;s3 dropped;p4 dropped;q5 dropped;",
     );
-    Ok(())
+    checks.verdict()
 }
 
 #[test]
 fn refused_clones_of_parts_are_handed_on(rt: HostRuntime) -> Result<(), Fail> {
+    let checks = Checks::new(rt.alloc());
     let alloc = rt.alloc();
     let log = Log::new(alloc)?;
     let stage = Stage::new(&log);
@@ -246,46 +260,41 @@ fn refused_clones_of_parts_are_handed_on(rt: HostRuntime) -> Result<(), Fail> {
         Scripted::new(&stage.script, 't'),
         Plain::refusing(&log, 'q'),
     );
-    assert!(rt; filter.clone().is_err() && other.clone().is_err());
-    assert_eq!(rt;
-        log.told(alloc)?.as_str(),
-        "s cloned s1;p refused;s1 dropped;t cloned t2;q refused;t2 dropped;"
+    checks.holds(filter.clone().is_err() && other.clone().is_err());
+    checks.told(
+        &log,
+        "s cloned s1;p refused;s1 dropped;t cloned t2;q refused;t2 dropped;",
     );
     stage.script.clones(0);
-    assert!(rt; filter.clone().is_err() && other.clone().is_err());
-    assert_eq!(rt; log.told(alloc)?.as_str(), "s refused;t refused;");
-    Ok(())
+    checks.holds(filter.clone().is_err() && other.clone().is_err());
+    checks.told(&log, "s refused;t refused;");
+    checks.verdict()
 }
 
 #[test]
 fn a_layer_clones_its_predicate_or_drops_the_service(rt: HostRuntime) -> Result<(), Fail> {
+    let checks = Checks::new(rt.alloc());
     let alloc = rt.alloc();
     let log = Log::new(alloc)?;
     let stage = Stage::new(&log);
     let service = || Scripted::new(&stage.script, 's');
     drop(FilterLayer::new(Plain::new(&log, 'p')).layer(service())?);
-    assert_eq!(rt;
-        log.told(alloc)?.as_str(),
-        "p cloned p1;s dropped;p1 dropped;p dropped;"
-    );
+    checks.told(&log, "p cloned p1;s dropped;p1 dropped;p dropped;");
     drop(AsyncFilterLayer::new(Plain::new(&log, 'p')).layer(service())?);
-    assert_eq!(rt;
-        log.told(alloc)?.as_str(),
-        "p cloned p2;s dropped;p2 dropped;p dropped;"
-    );
+    checks.told(&log, "p cloned p2;s dropped;p2 dropped;p dropped;");
     drop(FilterLayer::new(Plain::new(&log, 'p')).clone()?);
     drop(AsyncFilterLayer::new(Plain::new(&log, 'q')).clone()?);
-    assert_eq!(rt;
-        log.told(alloc)?.as_str(),
-        "p cloned p3;p3 dropped;p dropped;q cloned q4;q4 dropped;q dropped;"
+    checks.told(
+        &log,
+        "p cloned p3;p3 dropped;p dropped;q cloned q4;q4 dropped;q dropped;",
     );
     let layer = FilterLayer::new(Plain::refusing(&log, 'p'));
-    assert!(rt; layer.layer(service()).is_err() && layer.clone().is_err());
-    assert_eq!(rt; log.told(alloc)?.as_str(), "p refused;s dropped;p refused;");
+    checks.holds(layer.layer(service()).is_err() && layer.clone().is_err());
+    checks.told(&log, "p refused;s dropped;p refused;");
     let layer = AsyncFilterLayer::new(Plain::refusing(&log, 'q'));
-    assert!(rt; layer.layer(service()).is_err() && layer.clone().is_err());
-    assert_eq!(rt; log.told(alloc)?.as_str(), "q refused;s dropped;q refused;");
-    Ok(())
+    checks.holds(layer.layer(service()).is_err() && layer.clone().is_err());
+    checks.told(&log, "q refused;s dropped;q refused;");
+    checks.verdict()
 }
 
 #[test]

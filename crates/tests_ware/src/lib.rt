@@ -16,4 +16,6 @@ mod silent;
 #[cfg(test)]
 mod steer;
 #[cfg(test)]
+mod stories;
+#[cfg(test)]
 mod timeout;

@@ -1,7 +1,9 @@
 //! `tower::load_shed`: a call goes inside exactly after a poll that found the inner service ready.
 
+use crate::stories::is_told;
 use futures::task::Poll;
 use std::test::Fail;
+use tests_support::checks::Checks;
 use tests_support::log::Log;
 use tests_support::run::{polled, stepped, task};
 use tests_support::script::Mood::{Broken, Busy, Willing};
@@ -40,17 +42,14 @@ fn calls_go_inside_exactly_after_ok(rt: HostRuntime) -> Result<(), Fail> {
         Event::Future(3),
     ]?;
     let story = driven(&rt, &stage, service, events)?;
-    assert_eq!(rt;
-        story.entries.as_str(),
+    is_told(
+        &rt,
+        &story,
         "skipped;ready;call 0;0 ok 1;ready;call 1;1 error service overloaded;\
-         ready;ready;call 2;2 ok 3;ready;ready;call 3;3 error service overloaded;"
-    );
-    assert_eq!(rt;
-        story.told.as_str(),
+         ready;ready;call 2;2 ok 3;ready;ready;call 3;3 error service overloaded;",
         "s ready;s called 1;s(1) ready;s pending;s pending;s ready;s called 3;s(3) ready;\
-         s ready;s pending;s dropped;s(1) dropped;s(3) dropped;"
-    );
-    Ok(())
+         s ready;s pending;s dropped;s(1) dropped;s(3) dropped;",
+    )
 }
 
 #[test]
@@ -79,6 +78,7 @@ fn only_an_inner_error_is_not_ok(rt: HostRuntime) -> Result<(), Fail> {
 // Calls without a poll, and after one that failed.
 #[test]
 fn other_calls_are_refused(rt: HostRuntime) -> Result<(), Fail> {
+    let checks = Checks::new(rt.alloc());
     let alloc = rt.alloc();
     let log = Log::new(alloc)?;
     let script = Script::new(&log);
@@ -86,83 +86,87 @@ fn other_calls_are_refused(rt: HostRuntime) -> Result<(), Fail> {
     let solo = task(&rt)?;
     let mut shed = LoadShed::new(Scripted::new(&script, 's'));
     let mut first = shed.call(5);
-    assert_eq!(rt;
-        stepped(&solo, &mut first),
-        Poll::Ready(Err(Error::Overloaded))
+    checks.same(
+        &stepped(&solo, &mut first),
+        &Poll::Ready(Err(Error::Overloaded)),
     );
-    assert_eq!(rt; polled(&solo, &mut shed), Poll::Ready(Ok(())));
-    assert_eq!(rt; polled(&solo, &mut shed), Poll::Ready(Err(Error::Inner(7))));
+    checks.same(&polled(&solo, &mut shed), &Poll::Ready(Ok(())));
+    checks.same(
+        &polled(&solo, &mut shed),
+        &Poll::Ready(Err(Error::Inner(7))),
+    );
     let mut second = shed.call(5);
-    assert_eq!(rt;
-        stepped(&solo, &mut second),
-        Poll::Ready(Err(Error::Overloaded))
+    checks.same(
+        &stepped(&solo, &mut second),
+        &Poll::Ready(Err(Error::Overloaded)),
     );
-    assert_eq!(rt; log.told(alloc)?.as_str(), "s ready;s error 7;");
-    Ok(())
+    checks.told(&log, "s ready;s error 7;");
+    checks.verdict()
 }
 
 #[test]
 fn flag_counts_once_and_only_where_it_was_set(rt: HostRuntime) -> Result<(), Fail> {
+    let checks = Checks::new(rt.alloc());
     let alloc = rt.alloc();
     let log = Log::new(alloc)?;
     let script = Script::new(&log);
     let solo = task(&rt)?;
     let mut shed = LoadShed::new(Scripted::new(&script, 's'));
-    assert_eq!(rt; polled(&solo, &mut shed), Poll::Ready(Ok(())));
+    checks.same(&polled(&solo, &mut shed), &Poll::Ready(Ok(())));
     let mut clone = shed.clone()?;
     let mut other = clone.call(4);
     let mut first = shed.call(5);
     let mut second = shed.call(6);
-    assert_eq!(rt;
-        stepped(&solo, &mut other),
-        Poll::Ready(Err(Error::Overloaded))
+    checks.same(
+        &stepped(&solo, &mut other),
+        &Poll::Ready(Err(Error::Overloaded)),
     );
-    assert_eq!(rt; stepped(&solo, &mut first), Poll::Ready(Ok(5)));
-    assert_eq!(rt;
-        stepped(&solo, &mut second),
-        Poll::Ready(Err(Error::Overloaded))
+    checks.same(&stepped(&solo, &mut first), &Poll::Ready(Ok(5)));
+    checks.same(
+        &stepped(&solo, &mut second),
+        &Poll::Ready(Err(Error::Overloaded)),
     );
-    assert_eq!(rt;
-        log.told(alloc)?.as_str(),
-        "s ready;s cloned s1;s called 5;s(5) ready;"
-    );
-    Ok(())
+    checks.told(&log, "s ready;s cloned s1;s called 5;s(5) ready;");
+    checks.verdict()
 }
 
 #[test]
 fn a_shed_request_is_dropped_at_the_call(rt: HostRuntime) -> Result<(), Fail> {
+    let checks = Checks::new(rt.alloc());
     let alloc = rt.alloc();
     let log = Log::new(alloc)?;
     let script = Script::new(&log);
     let mut shed = LoadShed::new(Maker::new(&script, 'm', &script, 's'));
     let future = shed.call(Place::new(&script, 'p', 1));
-    assert_eq!(rt; log.told(alloc)?.as_str(), "p dropped;");
+    checks.told(&log, "p dropped;");
     drop(future);
     drop(shed);
-    assert_eq!(rt; log.told(alloc)?.as_str(), "m dropped;");
-    Ok(())
+    checks.told(&log, "m dropped;");
+    checks.verdict()
 }
 
 #[test]
 fn refused_clone_of_the_service_is_handed_on(rt: HostRuntime) -> Result<(), Fail> {
+    let checks = Checks::new(rt.alloc());
     let alloc = rt.alloc();
     let log = Log::new(alloc)?;
     let script = Script::new(&log);
     script.clones(0);
     let shed = LoadShed::new(Scripted::new(&script, 's'));
-    assert!(rt; shed.clone().is_err());
-    assert_eq!(rt; log.told(alloc)?.as_str(), "s refused;");
-    Ok(())
+    checks.holds(shed.clone().is_err());
+    checks.told(&log, "s refused;");
+    checks.verdict()
 }
 
 #[test]
 fn errors_have_texts(rt: HostRuntime) -> Result<(), Fail> {
+    let checks = Checks::new(rt.alloc());
     let (refused, inner): (Error<u8>, Error<u8>) = (Error::Overloaded, Error::Inner(7));
-    assert_eq!(rt;
-        format!(in rt.alloc(); "{refused}, {inner}, {}", Overloaded::new())?.as_str(),
-        "service overloaded, 7, service overloaded"
+    checks.same(
+        &format!(in rt.alloc(); "{refused}, {inner}, {}", Overloaded::new())?.as_str(),
+        &"service overloaded, 7, service overloaded",
     );
-    assert_eq!(rt; Overloaded::default(), Overloaded::new());
-    assert_eq!(rt; LoadShedLayer::default(), LoadShedLayer::new());
-    Ok(())
+    checks.same(&Overloaded::default(), &Overloaded::new());
+    checks.same(&LoadShedLayer::default(), &LoadShedLayer::new());
+    checks.verdict()
 }

@@ -1,6 +1,8 @@
 //! `tower::reconnect`: each poll, clone of the target, connect and drop.
 
+use crate::stories::is_told;
 use std::test::Fail;
+use tests_support::checks::Checks;
 use tests_support::log::Log;
 use tests_support::script::Mood::{Broken, Busy, Willing};
 use tests_support::script::Reply;
@@ -17,14 +19,15 @@ fn run(rt: &HostRuntime, stage: &Stage<'_>, events: Vec<Event<u8, Act>>) -> Resu
 
 #[test]
 fn one_poll_makes_so_many_links_and_is_then_pending(rt: HostRuntime) -> Result<(), Fail> {
+    let checks = Checks::new(rt.alloc());
     let log = Log::new(rt.alloc())?;
     let stage = Stage::new(&log);
     stage.made.moods(&[Broken(1)]);
     let story = run(&rt, &stage, vec![in rt.alloc(); Event::Poll]?)?;
-    assert_eq!(rt; story.entries.as_str(), "pending;");
-    assert_eq!(rt; story.told.as_str().split("m called 0;").count(), 23);
-    assert_eq!(rt; story.told.as_str().split(" error 1;").count(), 22);
-    Ok(())
+    checks.same(&story.entries.as_str(), &"pending;");
+    checks.same(&story.told.as_str().split("m called 0;").count(), &23);
+    checks.same(&story.told.as_str().split(" error 1;").count(), &22);
+    checks.verdict()
 }
 
 #[test]
@@ -43,21 +46,19 @@ fn failed_connect_is_the_answer_of_the_next_call(rt: HostRuntime) -> Result<(), 
         Event::Future(1),
     ]?;
     let story = run(&rt, &stage, events)?;
-    assert_eq!(rt;
-        story.entries.as_str(),
-        "ready;call 0;0 error 5;ready;call 1;1 ok 2;"
-    );
-    assert_eq!(rt;
-        story.told.as_str(),
+    is_told(
+        &rt,
+        &story,
+        "ready;call 0;0 error 5;ready;call 1;1 ok 2;",
         "m ready;p cloned p1;m called 0;p1 dropped;m(0) ready;m(0) dropped;\
          m ready;p cloned p2;m called 0;p2 dropped;m(0) ready;m(0) dropped;s3 ready;s3 called 2;s3(2) ready;\
-         m dropped;s3 dropped;p dropped;s3(2) dropped;"
-    );
-    Ok(())
+         m dropped;s3 dropped;p dropped;s3(2) dropped;",
+    )
 }
 
 #[test]
 fn later_failure_takes_the_place_of_an_older_one(rt: HostRuntime) -> Result<(), Fail> {
+    let checks = Checks::new(rt.alloc());
     let log = Log::new(rt.alloc())?;
     let stage = Stage::new(&log);
     stage
@@ -65,13 +66,14 @@ fn later_failure_takes_the_place_of_an_older_one(rt: HostRuntime) -> Result<(), 
         .replies(&[Reply::Give(0, Err(5)), Reply::Give(0, Err(6))]);
     let events = vec![in rt.alloc(); Event::Poll, Event::Poll, Event::Call(1), Event::Future(0)]?;
     let story = run(&rt, &stage, events)?;
-    assert_eq!(rt; story.entries.as_str(), "ready;ready;call 0;0 error 6;");
-    assert_eq!(rt; story.told.as_str().split("m called 0;").count(), 3);
-    Ok(())
+    checks.same(&story.entries.as_str(), &"ready;ready;call 0;0 error 6;");
+    checks.same(&story.told.as_str().split("m called 0;").count(), &3);
+    checks.verdict()
 }
 
 #[test]
 fn kept_error_comes_before_the_link_made_since(rt: HostRuntime) -> Result<(), Fail> {
+    let checks = Checks::new(rt.alloc());
     let log = Log::new(rt.alloc())?;
     let stage = Stage::new(&log);
     stage
@@ -87,13 +89,13 @@ fn kept_error_comes_before_the_link_made_since(rt: HostRuntime) -> Result<(), Fa
         Event::Future(1),
     ]?;
     let story = run(&rt, &stage, events)?;
-    assert_eq!(rt;
-        story.entries.as_str(),
-        "ready;ready;call 0;ready;call 1;0 error 5;1 ok 2;"
+    checks.same(
+        &story.entries.as_str(),
+        &"ready;ready;call 0;ready;call 1;0 error 5;1 ok 2;",
     );
-    assert_eq!(rt; story.told.as_str().split("m called 0;").count(), 3);
-    assert_eq!(rt; story.told.as_str().split("s3 called").count(), 2);
-    Ok(())
+    checks.same(&story.told.as_str().split("m called 0;").count(), &3);
+    checks.same(&story.told.as_str().split("s3 called").count(), &2);
+    checks.verdict()
 }
 
 // The target is cloned only once the maker is ready.
@@ -113,17 +115,14 @@ fn maker_that_waits_or_fails_leaves_it_idle(rt: HostRuntime) -> Result<(), Fail>
         Event::Future(0),
     ]?;
     let story = run(&rt, &stage, events)?;
-    assert_eq!(rt;
-        story.entries.as_str(),
-        "pending;error 8;error out of memory;at 0;ready;call 0;0 ok 3;"
-    );
-    assert_eq!(rt;
-        story.told.as_str(),
+    is_told(
+        &rt,
+        &story,
+        "pending;error 8;error out of memory;at 0;ready;call 0;0 ok 3;",
         "m pending;m error 8;m ready;p refused;\
          m ready;p cloned p1;m called 0;p1 dropped;m(0) ready;m(0) dropped;s2 ready;s2 called 3;s2(3) ready;\
-         m dropped;s2 dropped;p dropped;s2(3) dropped;"
-    );
-    Ok(())
+         m dropped;s2 dropped;p dropped;s2(3) dropped;",
+    )
 }
 
 #[test]
@@ -140,16 +139,13 @@ fn a_connect_that_waits_is_polled_again(rt: HostRuntime) -> Result<(), Fail> {
         Event::Future(0),
     ]?;
     let story = run(&rt, &stage, events)?;
-    assert_eq!(rt;
-        story.entries.as_str(),
-        "pending;ready;call 0;0 pending;0 error 4;"
-    );
-    assert_eq!(rt;
-        story.told.as_str(),
+    is_told(
+        &rt,
+        &story,
+        "pending;ready;call 0;0 pending;0 error 4;",
         "m ready;p cloned p1;m called 0;p1 dropped;m(0) pending;m(0) ready;m(0) dropped;s2 ready;\
-         s2 called 4;s2(4) pending;s2(4) ready;m dropped;s2 dropped;p dropped;s2(4) dropped;"
-    );
-    Ok(())
+         s2 called 4;s2(4) pending;s2(4) ready;m dropped;s2 dropped;p dropped;s2(4) dropped;",
+    )
 }
 
 #[test]
@@ -165,14 +161,14 @@ fn link_that_fails_is_made_anew(rt: HostRuntime) -> Result<(), Fail> {
     );
     let events = vec![in rt.alloc(); Event::Poll, Event::Poll, Event::Call(4), Event::Future(0)]?;
     let story = driven(&rt, &stage, service, events)?;
-    assert_eq!(rt; story.entries.as_str(), "pending;ready;call 0;0 ok 4;");
-    assert_eq!(rt;
-        story.told.as_str(),
+    is_told(
+        &rt,
+        &story,
+        "pending;ready;call 0;0 ok 4;",
         "a pending;a error 3;a dropped;\
          m ready;p cloned p1;m called 0;p1 dropped;m(0) ready;m(0) dropped;s2 ready;s2 called 4;s2(4) ready;\
-         m dropped;s2 dropped;p dropped;s2(4) dropped;"
-    );
-    Ok(())
+         m dropped;s2 dropped;p dropped;s2(4) dropped;",
+    )
 }
 
 #[test]

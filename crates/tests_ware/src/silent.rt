@@ -2,6 +2,7 @@
 
 use futures::future::{Ready, err, ok};
 use std::test::Fail;
+use tests_support::checks::Checks;
 use tests_support::log::Log;
 use tests_support::run::{fire, task};
 use tests_support::script::Script;
@@ -45,16 +46,17 @@ impl AsyncPredicate<u8> for Even {
 
 #[test]
 fn predicate_that_says_nothing_checks(rt: HostRuntime) -> Result<(), Fail> {
+    let checks = Checks::new(rt.alloc());
     let log = Log::new(rt.alloc())?;
     let script = Script::new(&log);
     let solo = task(&rt)?;
     let filter = Filter::new(Scripted::new(&script, 's'), Even);
-    assert_eq!(rt; fire(&solo, filter, 6), Some(Ok(6)));
+    checks.same(&fire(&solo, filter, 6), &Some(Ok(6)));
     let filter = Filter::new(Scripted::new(&script, 's'), Even);
-    assert_eq!(rt; fire(&solo, filter, 7), Some(Err(Error::Rejected(7))));
+    checks.same(&fire(&solo, filter, 7), &Some(Err(Error::Rejected(7))));
     let filter = AsyncFilter::new(Scripted::new(&script, 's'), Even);
-    assert_eq!(rt; fire(&solo, filter, 8), Some(Ok(8)));
-    Ok(())
+    checks.same(&fire(&solo, filter, 8), &Some(Ok(8)));
+    checks.verdict()
 }
 
 // Always picks the first.
@@ -69,15 +71,16 @@ impl<S> Picker<S, u8> for First {
 
 #[test]
 fn picker_that_says_nothing_picks(rt: HostRuntime) -> Result<(), Fail> {
+    let checks = Checks::new(rt.alloc());
     let log = Log::new(rt.alloc())?;
     let script = Script::new(&log);
     let solo = task(&rt)?;
     let services = vec![in rt.alloc(); Scripted::new(&script, 'a'), Scripted::new(&script, 'b')]?;
     let steer = Steer::new(rt.alloc(), services, First)?;
-    assert_eq!(rt; fire(&solo, steer, 6), Some(Ok(6)));
-    assert_eq!(rt;
-        log.told(rt.alloc())?.as_str(),
-        "a ready;b ready;a called 6;a(6) ready;a(6) dropped;a dropped;b dropped;"
+    checks.same(&fire(&solo, steer, 6), &Some(Ok(6)));
+    checks.told(
+        &log,
+        "a ready;b ready;a called 6;a(6) ready;a(6) dropped;a dropped;b dropped;",
     );
-    Ok(())
+    checks.verdict()
 }

@@ -1,8 +1,10 @@
 //! `tower::steer`: which services are asked and called, and in which order.
 ghost use Rattle.std.specs.Prelude.{◌<◌, length};
 
+use crate::stories::is_told;
 use std::fmt::Display;
 use std::test::Fail;
+use tests_support::checks::Checks;
 use tests_support::log::Log;
 use tests_support::script::Mood::{Broken, Busy, Willing};
 use tests_support::service::Scripted;
@@ -53,23 +55,24 @@ fn picked_service_is_called_and_asked_again(rt: HostRuntime) -> Result<(), Fail>
         Event::Poll,
     ]?;
     let story = run(&rt, &stage, 2, 1, events)?;
-    assert_eq!(rt; story.entries.as_str(), "ready;call 0;0 ok 5;ready;ready;");
-    assert_eq!(rt;
-        story.told.as_str(),
+    is_told(
+        &rt,
+        &story,
+        "ready;call 0;0 ok 5;ready;ready;",
         "a ready;b ready;picked for 5 of 2;b called 5;b(5) ready;b ready;\
-         a dropped;b dropped;b(5) dropped;"
-    );
-    Ok(())
+         a dropped;b dropped;b(5) dropped;",
+    )
 }
 
 #[test]
 fn all_of_many_services_are_asked(rt: HostRuntime) -> Result<(), Fail> {
+    let checks = Checks::new(rt.alloc());
     let log = Log::new(rt.alloc())?;
     let stage = Stage::new(&log);
     let story = run(&rt, &stage, 65, 0, vec![in rt.alloc(); Event::Poll]?)?;
-    assert_eq!(rt; story.entries.as_str(), "ready;");
-    assert_eq!(rt; story.told.as_str().split("c ready;").count(), 64);
-    Ok(())
+    checks.same(&story.entries.as_str(), &"ready;");
+    checks.same(&story.told.as_str().split("c ready;").count(), &64);
+    checks.verdict()
 }
 
 #[test]
@@ -79,12 +82,12 @@ fn service_that_fails_stays_in_front(rt: HostRuntime) -> Result<(), Fail> {
     stage.made.moods(&[Broken(7), Willing]);
     let events = vec![in rt.alloc(); Event::Poll, Event::Poll]?;
     let story = run(&rt, &stage, 3, 0, events)?;
-    assert_eq!(rt; story.entries.as_str(), "error 7;ready;");
-    assert_eq!(rt;
-        story.told.as_str(),
-        "a ready;b error 7;b ready;c ready;a dropped;b dropped;c dropped;"
-    );
-    Ok(())
+    is_told(
+        &rt,
+        &story,
+        "error 7;ready;",
+        "a ready;b error 7;b ready;c ready;a dropped;b dropped;c dropped;",
+    )
 }
 
 #[test]
@@ -94,12 +97,12 @@ fn one_service_that_waits_holds_all_up(rt: HostRuntime) -> Result<(), Fail> {
     stage.made.moods(&[Busy]);
     let events = vec![in rt.alloc(); Event::Poll, Event::Call(0), Event::Poll]?;
     let story = run(&rt, &stage, 3, 0, events)?;
-    assert_eq!(rt; story.entries.as_str(), "pending;skipped;pending;");
-    assert_eq!(rt;
-        story.told.as_str(),
-        "a ready;b pending;b pending;a dropped;b dropped;c dropped;"
-    );
-    Ok(())
+    is_told(
+        &rt,
+        &story,
+        "pending;skipped;pending;",
+        "a ready;b pending;b pending;a dropped;b dropped;c dropped;",
+    )
 }
 
 // A poll of the service, and a run of a clone, which asks each of its services anew.
@@ -138,17 +141,18 @@ fn beside_clones(rt: &HostRuntime, stage: &Stage<'_>) -> Result<(Story, Story, b
 
 #[test]
 fn clone_asks_each_service_anew(rt: HostRuntime) -> Result<(), Fail> {
+    let checks = Checks::new(rt.alloc());
     let log = Log::new(rt.alloc())?;
     let stage = Stage::new(&log);
     let (first, second, is_refused) = beside_clones(&rt, &stage)?;
-    assert!(rt; is_refused);
-    assert_eq!(rt;
-        first.told.as_str(),
-        "a cloned a1;b cloned b2;a1 ready;b2 ready;a1 dropped;b2 dropped;"
+    checks.holds(is_refused);
+    checks.same(
+        &first.told.as_str(),
+        &"a cloned a1;b cloned b2;a1 ready;b2 ready;a1 dropped;b2 dropped;",
     );
-    assert_eq!(rt;
-        second.told.as_str(),
-        "a refused;a ready;b ready;a dropped;b dropped;"
+    checks.same(
+        &second.told.as_str(),
+        &"a refused;a ready;b ready;a dropped;b dropped;",
     );
-    Ok(())
+    checks.verdict()
 }

@@ -1,6 +1,8 @@
 //! `tower::timeout`: deadlines, readings and what is passed on.
 
+use crate::stories::is_told;
 use std::test::Fail;
+use tests_support::checks::Checks;
 use tests_support::clock::Hand;
 use tests_support::log::Log;
 use tests_support::script::Mood::{Broken, Busy, Willing};
@@ -37,16 +39,13 @@ fn pending_before_the_deadline_and_an_error_at_it(rt: HostRuntime) -> Result<(),
         Event::Future(0),
     ]?;
     let story = run(&rt, &stage, 10, events)?;
-    assert_eq!(rt;
-        story.entries.as_str(),
-        "ready;call 0;at 9;0 pending;at 10;0 error request timed out;"
-    );
-    assert_eq!(rt;
-        story.told.as_str(),
+    is_told(
+        &rt,
+        &story,
+        "ready;call 0;at 9;0 pending;at 10;0 error request timed out;",
         "s ready;s called 1;clock read 0;clock shared;s(1) pending;clock read 9;\
-         s(1) pending;clock read 10;s dropped;clock dropped;s(1) dropped;clock dropped;"
-    );
-    Ok(())
+         s(1) pending;clock read 10;s dropped;clock dropped;s(1) dropped;clock dropped;",
+    )
 }
 
 #[test]
@@ -63,16 +62,13 @@ fn response_at_the_deadline_wins(rt: HostRuntime) -> Result<(), Fail> {
         Event::Future(0),
     ]?;
     let story = run(&rt, &stage, 10, events)?;
-    assert_eq!(rt;
-        story.entries.as_str(),
-        "ready;call 0;0 pending;at 10;at 10;0 ok 7;"
-    );
-    assert_eq!(rt;
-        story.told.as_str(),
+    is_told(
+        &rt,
+        &story,
+        "ready;call 0;0 pending;at 10;at 10;0 ok 7;",
         "s ready;s called 1;clock read 0;clock shared;s(1) pending;clock read 0;s(1) ready;\
-         s dropped;clock dropped;s(1) dropped;clock dropped;"
-    );
-    Ok(())
+         s dropped;clock dropped;s(1) dropped;clock dropped;",
+    )
 }
 
 #[test]
@@ -108,34 +104,32 @@ fn readiness_and_errors_are_passed_on_without_a_reading(rt: HostRuntime) -> Resu
         Event::Future(0),
     ]?;
     let story = run(&rt, &stage, 0, events)?;
-    assert_eq!(rt;
-        story.entries.as_str(),
-        "pending;error 7;ready;call 0;0 error 1;"
-    );
-    assert_eq!(rt;
-        story.told.as_str(),
+    is_told(
+        &rt,
+        &story,
+        "pending;error 7;ready;call 0;0 error 1;",
         "s pending;s error 7;s ready;s called 1;clock read 0;clock shared;s(1) ready;\
-         s dropped;clock dropped;s(1) dropped;clock dropped;"
-    );
-    Ok(())
+         s dropped;clock dropped;s(1) dropped;clock dropped;",
+    )
 }
 
 #[test]
 fn layer_and_clones_share_the_clock_and_read_nothing(rt: HostRuntime) -> Result<(), Fail> {
+    let checks = Checks::new(rt.alloc());
     let alloc = rt.alloc();
     let log = Log::new(alloc)?;
     let stage = Stage::new(&log);
     let layer = TimeoutLayer::new(5, Hand::new(&log, &stage.moment)).clone()?;
-    assert_eq!(rt; log.told(alloc)?.as_str(), "clock shared;clock dropped;");
+    checks.told(&log, "clock shared;clock dropped;");
     let service = layer.layer(Scripted::new(&stage.script, 's'))?;
-    assert_eq!(rt; log.told(alloc)?.as_str(), "clock shared;");
+    checks.told(&log, "clock shared;");
     stage.script.clones(1);
     let clone = service.clone()?;
-    assert_eq!(rt; log.told(alloc)?.as_str(), "s cloned s1;clock shared;");
-    assert!(rt; service.clone().is_err());
-    assert_eq!(rt; log.told(alloc)?.as_str(), "s refused;");
+    checks.told(&log, "s cloned s1;clock shared;");
+    checks.holds(service.clone().is_err());
+    checks.told(&log, "s refused;");
     drop(service.into_inner());
-    assert_eq!(rt; log.told(alloc)?.as_str(), "clock dropped;s dropped;");
+    checks.told(&log, "clock dropped;s dropped;");
     stage.script.replies(&[Reply::Never]);
     let events = vec![in alloc;
         Event::Poll,
@@ -146,11 +140,11 @@ fn layer_and_clones_share_the_clock_and_read_nothing(rt: HostRuntime) -> Result<
         Event::Future(0),
     ]?;
     let story = driven(&rt, &stage, clone, events)?;
-    assert_eq!(rt;
-        story.entries.as_str(),
-        "ready;call 0;at 4;0 pending;at 5;0 error request timed out;"
+    checks.same(
+        &story.entries.as_str(),
+        &"ready;call 0;at 4;0 pending;at 5;0 error request timed out;",
     );
-    Ok(())
+    checks.verdict()
 }
 
 #[test]
@@ -171,12 +165,13 @@ fn inner_service_is_lent(rt: HostRuntime) -> Result<(), Fail> {
 
 #[test]
 fn errors_have_texts(rt: HostRuntime) -> Result<(), Fail> {
+    let checks = Checks::new(rt.alloc());
     let alloc = rt.alloc();
     let (inner, elapsed): (Error<u8>, Error<u8>) = (Error::Inner(3), Error::Elapsed);
-    assert_eq!(rt;
-        format!(in alloc; "{inner}, {elapsed}, {}", Elapsed::new())?.as_str(),
-        "3, request timed out, request timed out"
+    checks.same(
+        &format!(in alloc; "{inner}, {elapsed}, {}", Elapsed::new())?.as_str(),
+        &"3, request timed out, request timed out",
     );
-    assert_eq!(rt; Elapsed::new(), Elapsed::default());
-    Ok(())
+    checks.same(&Elapsed::new(), &Elapsed::default());
+    checks.verdict()
 }

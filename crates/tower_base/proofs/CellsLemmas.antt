@@ -101,3 +101,23 @@ module _ {T : Type 0} where
   bypassed_is s previous next other =
       with_place_at_is (with_place_at s previous (with_next next)) next (with_previous previous) other
       ∙ moved_along _ _ next (with_previous previous) other (with_place_at_is s previous (with_next next) other)
+
+  count_set : (slots : List (Option (Entry T))) (key : ℕ) (old new : Entry T) → get_or slots key None ≡ Some old → count_by is_some (set slots key (Some new)) ≡ count_by is_some slots
+  count_set [] key old new is = refl
+  count_set (None ∷ rest) zero old new is = absurd (cc)
+  count_set (Some e ∷ rest) zero old new is =
+      omega (arith, sum_by-cons (λ o. cond (is_some o) 1 0) (Some e) rest, sum_by-cons (λ o. cond (is_some o) 1 0) (Some new) rest)
+  count_set (slot ∷ rest) (suc key) old new is =
+      omega (arith, count_set rest key old new is, sum_by-cons (λ o. cond (is_some o) 1 0) slot rest, sum_by-cons (λ o. cond (is_some o) 1 0) slot (set rest key (Some new)))
+
+  -- an entry with another value, in the same place
+  pub len_of_replaced : (s : Slab (Entry T)) (key : ℕ) (old new : Entry T) → get s key ≡ Some old → slab_len (with_value s key new) ≡ slab_len s
+  len_of_replaced s key old new is = count_set s.slots key old new is
+
+  pub replaced_places : (s : Slab (Entry T)) (key : ℕ) (old : Entry T) (value : T) → get s key ≡ Some old → (other : ℕ) → place_at (with_value s key (entry value old.place)) other ≡ place_at s other
+  replaced_places s key old value is other =
+      let u : Updates s (with_value s key (entry value old.place)) key (Some (entry value old.place)) = Updates-with_value s key (entry value old.place) (rw is refl) in
+      elim (eqb_tells other key) [
+        | inl equal ↦ ap (place_at (with_value s key (entry value old.place))) equal.1 ∙ ap place_of u.changed ∙ sym (ap (place_at s) equal.1 ∙ ap place_of is)
+        | inr apart ↦ ap place_of (u.others other apart.1)
+      ]

@@ -1,7 +1,8 @@
 -- What the calls of `Links` keep, over plain slabs and ends.
 use Rattle.std.proofs.Common.{◌≡◌, ℕ, ◌+◌, ◌<◌, ◌≤◌, true, false, eqb, [], ◌∷◌, ◌++◌, length, Option, Some, None, refl, sym, ap, subst, ◌∙◌}
-use Rattle.std.proofs.Common.{OnSome, IfNone}
-use Rattle.slab.specs.Slab.{Slab, get, Updates}
+use Rattle.std.proofs.Common.{OnSome, IfNone, IsSome, List, arith}
+use Rattle.slab.specs.Slab.{Slab, get, slab_len, ContainsKey, Updates, with_value}
+use Rattle.slab.proofs.SlabLemmas.{Updates-with_value}
 use Rattle.tower_base.specs.declared.links.cells.Place.{Place}
 use Rattle.tower_base.specs.declared.links.cells.Place.TheVariants.{Linked, Outside}
 use Rattle.tower_base.specs.declared.links.cells.Entry.{Entry}
@@ -10,7 +11,7 @@ use Rattle.tower_base.specs.Cells.{entry, place_of, value_of, place_at, values_o
 use Rattle.tower_base.specs.Order.{has, without, moved, place_map, is_linked, with_next, IsOrder}
 use Rattle.tower_base.specs.Ends.{left_ends, pushed_ends, order_of, IsSound, left_slab, pushed_slab}
 use Rattle.tower_base.proofs.OrderLemmas.{order_is, has_is, IsOrder-same, unlinked, pushed, stayed, not_empty, len_within, moved_same, moved_other}
-use Rattle.tower_base.proofs.CellsLemmas.{bypassed_values, bypassed_is, with_place_at_values, with_place_at_is, with_place_is, with_place_values, Updates-places}
+use Rattle.tower_base.proofs.CellsLemmas.{bypassed_values, bypassed_is, with_place_at_values, with_place_at_is, with_place_is, with_place_values, value_at_key, len_of_values, len_of_replaced, replaced_places, Updates-places, Updates-values}
 
 outside_unlinked : (q : Option Place) → is_linked (place_map (λ _. Outside) q) ≡ false
 outside_unlinked None = refl
@@ -129,3 +130,43 @@ module _ {T : Type 0} where
       let now : IsOrder (place_at s2) (order_of s e) e.first e.last e.len s2.capacity =
       IsOrder-same (place_at s) (place_at s2) (order_of s e) e.first e.last e.len s.capacity s2.capacity (λ key. ap (λ t. place_at t key) is) grows (ordered s e o) in
       record { sound = (order_of s e, now); order = order_is (place_at s2) (order_of s e) e.first e.last e.len s2.capacity now }
+
+  -- what holds where an entry has another value
+  pub record Replaced (s s2 : Slab (Entry T)) (e : Ends) (key : ℕ) (value result : T) : Type 0 where
+    pub sound : IsSound s2 e
+    pub order : order_of s2 e ≡ order_of s e
+    pub value_was : get (values_of s) key ≡ Some result
+    pub updates : Updates (values_of s) (values_of s2) key (Some value)
+    pub len : slab_len (values_of s2) ≡ slab_len (values_of s)
+    pub capacity : s2.capacity ≡ s.capacity
+
+  replaced_at : (s s2 : Slab (Entry T)) (e : Ends) (key : ℕ) (value result : T) (old : Entry T) → get s key ≡ Some old → IsSound s e → result ≡ old.value → s2 ≡ with_value s key (entry value old.place) → Replaced s s2 e key value result
+  replaced_at s s2 e key value result old at o was is =
+      let u : Updates s (with_value s key (entry value old.place)) key (Some (entry value old.place)) = Updates-with_value s key (entry value old.place) (rw at refl) in
+      let now : IsOrder (place_at (with_value s key (entry value old.place))) (order_of s e) e.first e.last e.len s.capacity =
+      IsOrder-same (place_at s) (place_at (with_value s key (entry value old.place))) (order_of s e) e.first e.last e.len s.capacity s.capacity (replaced_places s key old value at) (omega arith) (ordered s e o) in
+      rw is (record {
+        sound = (order_of s e, now);
+        order = order_is (place_at (with_value s key (entry value old.place))) (order_of s e) e.first e.last e.len s.capacity now;
+        value_was = value_at_key s key ∙ ap value_of at ∙ ap (λ x. Some x) (sym was);
+        updates = Updates-values s (with_value s key (entry value old.place)) key (Some (entry value old.place)) u;
+        len = len_of_values (with_value s key (entry value old.place)) ∙ len_of_replaced s key old (entry value old.place) at ∙ sym (len_of_values s);
+        capacity = refl;
+      })
+
+  by_entry : (s s2 : Slab (Entry T)) (e : Ends) (key : ℕ) (value result : T) (slot : Option (Entry T)) → get s key ≡ slot → ContainsKey s key → IsSound s e
+      → ((old : Entry T) → get s key ≡ Some old → result ≡ old.value) → ((old : Entry T) → get s key ≡ Some old → s2 ≡ with_value s key (entry value old.place)) → Replaced s s2 e key value result
+  by_entry s s2 e key value result None at present o was is = absurd (cc)
+  by_entry s s2 e key value result (Some old) at present o was is = replaced_at s s2 e key value result old at o (was old at) (is old at)
+
+  pub replaced : (s s2 : Slab (Entry T)) (e : Ends) (key : ℕ) (value result : T) → ContainsKey s key → IsSound s e
+      → ((old : Entry T) → get s key ≡ Some old → result ≡ old.value) → ((old : Entry T) → get s key ≡ Some old → s2 ≡ with_value s key (entry value old.place)) → Replaced s s2 e key value result
+  replaced s s2 e key value result present o was is = by_entry s s2 e key value result (get s key) refl present o was is
+
+  kept_key : (slot : Option (Entry T)) → IsSome (value_of slot) → IsSome slot
+  kept_key None present = absurd (cc)
+  kept_key (Some old) present = refl
+
+  -- a key has an entry where it has a value
+  pub has_entry : (s : Slab (Entry T)) (key : ℕ) → ContainsKey (values_of s) key → ContainsKey s key
+  has_entry s key present = kept_key (get s key) (rw (sym (value_at_key s key)) present)

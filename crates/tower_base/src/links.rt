@@ -1,6 +1,6 @@
 //! A list of values in one order. A value keeps its key, also once it is taken out of the order.
-ghost use Rattle.std.specs.Prelude.{◌≡◌, ◌+◌, ◌<◌, ◌≤◌, ◌^◌, true, ◌∷◌, ◌++◌, [], Some, None, OnOk, OnSome, IfNone, IsOk, length};
-ghost use Rattle.slab.specs.Slab.{get, slab_len, HasRoomFor, Updates};
+ghost use Rattle.std.specs.Prelude.{◌≡◌, ◌+◌, ◌<◌, ◌≤◌, ◌^◌, true, ◌∷◌, ◌++◌, [], Some, None, OnOk, OnSome, IfNone, IsOk, length, ℕ, Option};
+ghost use Rattle.slab.specs.Slab.{get, slab_len, ContainsKey, HasRoomFor, Updates};
 ghost use Rattle.tower_base.specs.Order.{has, without, first_or, is_linked};
 ghost use Rattle.tower_base.specs.Cells.{place_of, value_of};
 ghost use Rattle.tower_base.specs.Ends.{left_slab, left_ends, pushed_slab, pushed_ends};
@@ -69,6 +69,7 @@ fn leave<T>(cells: &mut Cells<T>, ends: &mut Ends, place: Option<Place>) -> bool
     ensures slab { cells.new.slab ≡ left_slab cells.old.slab place }
     ensures ends { ends.new ≡ left_ends place ends.old }
     ensures touches { cells.new.touches.count ≤ cells.old.touches.count + 2 }
+    ensures first { (next : Option ℕ) → place ≡ Some (Place.Linked None next) → cells.new.touches.count ≤ cells.old.touches.count + 1 }
 {
     let Some(Place::Linked(previous, next)) = place else {
         return false;
@@ -117,6 +118,14 @@ impl<T> Links<T> {
         ensures touches { self.new.touches ≡ self.old.touches }
     {
         self.cells.reserve(additional)
+    }
+
+    /// How many values fit with no allocation. Each key is below it. It reaches no entry.
+    pub fn capacity(&self) -> usize
+        ensures value { result ≡ self.now.entries.capacity }
+        ensures slots { length self.now.entries.slots ≤ result }
+    {
+        self.cells.capacity()
     }
 
     /// Puts a value behind the last, under the key that it returns.
@@ -170,12 +179,26 @@ impl<T> Links<T> {
         stands_linked(place)
     }
 
+    /// Puts another value in the place of the one under the key, and returns that one.
+    pub fn replace(&mut self, key: usize, value: T) -> T
+        requires { ContainsKey self.old.entries key }
+        ensures value { get self.old.entries key ≡ Some result }
+        ensures order { self.new.order ≡ self.old.order }
+        ensures entries { Updates self.old.entries self.new.entries key (Some value) }
+        ensures len { slab_len self.new.entries ≡ slab_len self.old.entries }
+        ensures capacity { self.new.entries.capacity ≡ self.old.entries.capacity }
+        ensures touches { self.new.touches ≤ self.old.touches + 1 }
+    {
+        self.cells.replace(key, value)
+    }
+
     /// Takes a value out of the order. It stays under its key. It tells whether it was in the order.
     pub fn unlink(&mut self, key: usize) -> bool
         ensures linked { result ≡ has self.old.order key }
         ensures order { self.new.order ≡ without self.old.order key }
         ensures entries { self.new.entries ≡ self.old.entries }
         ensures touches { self.new.touches ≤ self.old.touches + 3 }
+        ensures first { first_or self.old.order None ≡ Some key → self.new.touches ≤ self.old.touches + 2 }
     {
         let place = self.cells.put(key, Place::Outside);
         leave(&mut self.cells, &mut self.ends, place)
@@ -190,6 +213,7 @@ impl<T> Links<T> {
         ensures absent { IfNone result (self.new.entries ≡ self.old.entries) }
         ensures capacity { self.new.entries.capacity ≡ self.old.entries.capacity }
         ensures touches { self.new.touches ≤ self.old.touches + 3 }
+        ensures first { first_or self.old.order None ≡ Some key → self.new.touches ≤ self.old.touches + 2 }
     {
         let (place, value) = parts(self.cells.remove(key));
         leave(&mut self.cells, &mut self.ends, place);

@@ -20,7 +20,7 @@ pub enum Pool {
     Constant,
     /// A balancer over endpoints whose requests are counted.
     PendingRequests,
-    /// A cache alone: an endpoint is pushed and evicted beside those that wait, which are polled.
+    /// A cache alone: an endpoint is pushed and evicted beside those that wait.
     Cache,
 }
 
@@ -58,7 +58,7 @@ impl Pool {
         match self {
             Pool::Constant => constant(rt, cx, pace, endpoints, count),
             Pool::PendingRequests => counted(rt, cx, pace, endpoints, count),
-            Pool::Cache => cached(rt, cx, endpoints, count),
+            Pool::Cache => cached(rt, endpoints, count),
         }
     }
 }
@@ -126,13 +126,8 @@ impl Service<u64> for Busy {
     }
 }
 
-// Rounds of a cache, whose answers are added up.
-fn cached<R: AllocGlobal + Copy>(
-    rt: R,
-    cx: &mut Context<'_>,
-    endpoints: usize,
-    count: u64,
-) -> Result<u64, AllocError> {
+// Rounds of a cache, whose answers are added up. Those that were evicted stay, cancelled, since nothing is polled.
+fn cached<R: AllocGlobal + Copy>(rt: R, endpoints: usize, count: u64) -> Result<u64, AllocError> {
     let mut cache: ReadyCache<u64, Busy, u64> = ReadyCache::new(rt.alloc());
     for key in 0..endpoints as u64 {
         cache.push(key, Busy).map_err(|_| AllocError)?;
@@ -143,9 +138,6 @@ fn cached<R: AllocGlobal + Copy>(
         cache.push(key, Busy).map_err(|_| AllocError)?;
         if cache.evict(&key) {
             sum = sum.wrapping_add(number);
-        }
-        if cache.poll_pending(cx).is_pending() {
-            sum = sum.wrapping_add(1);
         }
     }
     Ok(sum)

@@ -94,3 +94,46 @@ pub fn take_give<R: Wait + AllocGlobal + Copy>(
     }
     Ok(sum)
 }
+
+/// So many wait for the permit of a semaphore of one. In a round the holder gives it back, the next one takes it, and the
+/// giver waits behind all others. It answers the sum of the rounds in which the next one had it.
+pub fn contended<R: Wait + AllocGlobal + Copy>(
+    rt: R,
+    cx: &mut Context<'_>,
+    waiters: usize,
+    count: u64,
+) -> Result<u64, AllocError> {
+    let semaphore = Semaphore::new(rt, rt.alloc(), 1)?;
+    let mut asking = Vec::new(rt.alloc());
+    for _ in 0..waiters {
+        asking
+            .push(PollSemaphore::new(semaphore.share()?))
+            .map_err(|_| AllocError)?;
+    }
+    asking
+        .push(PollSemaphore::new(semaphore))
+        .map_err(|_| AllocError)?;
+    let mut held = None;
+    for one in asking.iter_mut() {
+        if let Poll::Ready(Ok(permit)) = one.poll_acquire(cx) {
+            held = Some(permit);
+        }
+    }
+    let (mut sum, mut at) = (0u64, 0usize);
+    for number in 0..count {
+        held = None;
+        let giver = at;
+        at = if at < waiters { at + 1 } else { 0 };
+        if let Some(next) = asking.get_mut(at) {
+            if let Poll::Ready(Ok(permit)) = next.poll_acquire(cx) {
+                held = Some(permit);
+                sum = sum.wrapping_add(number);
+            }
+        }
+        if let Some(giver) = asking.get_mut(giver) {
+            drop(giver.poll_acquire(cx));
+        }
+    }
+    drop(held);
+    Ok(sum)
+}

@@ -57,6 +57,8 @@ pub enum Stack {
     SpawnReady,
     /// A semaphore alone: a permit is taken and given back.
     Semaphore,
+    /// A semaphore of one, with so many waiters.
+    Contended(usize),
     /// The line of permits alone, with so many waiters.
     Line(Line, u64),
     /// A balancer or a cache, with so many endpoints.
@@ -98,6 +100,12 @@ impl Stack {
         }
         if let Some((line, waiters)) = Line::named(name) {
             return Some(Stack::Line(line, waiters));
+        }
+        if let Some(number) = name.strip_prefix("semaphore_contended_") {
+            return match number.parse() {
+                Ok(waiters) => Some(Stack::Contended(waiters)),
+                Err(_) => None,
+            };
         }
         let (pool, endpoints) = Pool::named(name)?;
         Some(Stack::Pool(pool, endpoints))
@@ -149,6 +157,7 @@ impl Stack {
             Stack::Buffer => buffers::buffered(rt, cx, count),
             Stack::SpawnReady => buffers::spawned(rt, cx, &pace, count),
             Stack::Semaphore => lines::take_give(rt, cx, count),
+            Stack::Contended(waiters) => lines::contended(rt, cx, waiters, count),
             Stack::Line(line, waiters) => line.sum(rt.alloc(), waiters, count),
             Stack::Pool(pool, endpoints) => pool.sum(rt, cx, &pace, endpoints, count),
             Stack::Flight(flight) => flight.run(rt, cx, &InFlight::new(rt, count)),

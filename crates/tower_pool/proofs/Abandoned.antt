@@ -1,120 +1,195 @@
--- What the mailbox keeps once the worker is gone.
-use Rattle.std.proofs.Common.{◌≡◌, ℕ, ◌+◌, ◌<◌, zero, suc, Bool, not, cond, List, [], ◌∷◌, length, Option, None, is_some, set, get_or, map, filter, All, refl, subst, sym, ap, ◌∙◌, ◌≤◌, arith}
-use Rattle.std.proofs.lemmas.List.Sums.{sum_by-cons}
-use Rattle.tower_pool.specs.Letters.{Fits, is_cancelled, is_kept, is_unsettled, lost, lost_by, queued_letters}
-use Rattle.tower_pool.specs.Mail.{Entry, abandoned, left_by, queued}
-use Rattle.tower_pool.specs.Mailbox.{present}
+-- What is kept once the worker is gone.
+use Rattle.std.proofs.Common.{◌≡◌, ℕ, ◌+◌, ◌<◌, ◌≤◌, inl, inr, slice_index_or, zero, suc, Bool, true, false, if◌then◌else◌, List, [], ◌∷◌, length, Option, Some, None, is_some, slice_get, refl, sym, ap, subst, ◌∙◌, arith}
+use Rattle.std.proofs.lemmas.Bool.Decides.{eqb_tells}
+use Rattle.std.proofs.lemmas.Bool.{cases_order}
+use Rattle.slab.specs.Slab.{Updates, get, slab_len}
+use Rattle.tower_base.specs.Links.{LinksView}
+use Rattle.tower_base.specs.Order.{has, without}
+use Rattle.tower_pool.specs.Letters.{Fits, is_queued, is_unsettled, lost, lost_by}
+use Rattle.tower_pool.specs.Mail.{At, Entry, Letter, abandoned, left_by, queued}
+use Rattle.tower_pool.specs.Mailbox.{Holds, kept, known, queue}
+use Rattle.tower_pool.specs.Waiting.{are_apart}
 use Rattle.tower_pool.specs.declared.buffer.letter.Fate.{Fate}
 use Rattle.tower_pool.specs.declared.buffer.letter.Fate.TheVariants.{Open, Answered, Failed, Cancelled, Lost}
-use Rattle.tower_pool.specs.declared.buffer.letter.Letter.{Letter}
+use Rattle.tower_pool.specs.declared.buffer.letter.Message.{Message}
+use Rattle.tower_pool.proofs.Fates.{some_is}
+use Rattle.tower_pool.proofs.KeysLemmas.{has_first, has_without_other, has_without_same, not_both}
+use Rattle.tower_pool.proofs.Messages.{Sorted, empty_queue, here_is, not_here}
 
--- the first so many are changed
-pub half : {X : Type 0} → (X → X) → ℕ → List X → List X
-half f zero xs = xs
-half f (suc i) [] = []
-half f (suc i) (x ∷ xs) = f x ∷ half f i xs
-
-pub half_more : {X : Type 0} (f : X → X) (i : ℕ) (xs : List X) (d : X) → i < length xs → set (half f i xs) i (f (get_or (half f i xs) i d)) ≡ half f (i + 1) xs
-unfolding half
-half_more f i [] d low = absurd (omega (arith, low))
-half_more f zero (x ∷ xs) d low = refl
-half_more f (suc i) (x ∷ xs) d low =
-    ap (λ rest. f x ∷ rest) (half_more f i xs d (omega (arith, low))) ∙ ap (λ n. half f n (x ∷ xs)) (let e : suc (i + 1) ≡ suc i + 1 = omega arith in e)
-
-pub half_all : {X : Type 0} (f : X → X) (xs : List X) → half f (length xs) xs ≡ map f xs
-unfolding half
-half_all f [] = refl
-half_all f (x ∷ xs) = ap (λ rest. f x ∷ rest) (half_all f xs)
-
-pub half_none : {X : Type 0} (f : X → X) (xs : List X) → half f 0 xs ≡ xs
-unfolding half
-half_none f xs = refl
-
-length_half : {X : Type 0} (f : X → X) (i : ℕ) (xs : List X) → length (half f i xs) ≡ length xs
-unfolding half
-length_half f zero xs = refl
-length_half f (suc i) [] = refl
-length_half f (suc i) (x ∷ xs) = omega (arith, length_half f i xs)
-
--- one more is changed
-pub half_step : {X : Type 0} (f : X → X) (i : ℕ) (xs items : List X) (x y : X) → items ≡ half f i xs → i < length items → y ≡ f (get_or items i x)
-    → set items i y ≡ half f (i + 1) xs
-half_step f i xs items x y inv low now =
-    ap (λ z. set items i z) now ∙ ap (λ ys. set ys i (f (get_or ys i x))) inv
-    ∙ half_more f i xs x (omega (arith, low, ap length inv, length_half f i xs))
-
--- all are changed
-pub half_done : {X : Type 0} (f : X → X) (i : ℕ) (xs items : List X) → items ≡ half f i xs → i ≤ length items → length items ≤ i → items ≡ map f xs
-half_done f i xs items inv low high =
-    let all : i ≡ length xs = omega (arith, low, high, ap length inv, length_half f i xs) in inv ∙ ap (λ n. half f n xs) all ∙ half_all f xs
+-- a list that has no key is empty
+pub no_keys : (keys : List ℕ) → ((key : ℕ) → has keys key ≡ false) → keys ≡ []
+no_keys [] none = refl
+no_keys (key ∷ keys) none = absurd (not_both (has (key ∷ keys) key) (has_first key keys) (none key))
 
 module _ {Q F : Type 0} where
-  queued_cons : (letter : Letter Q F) (letters : List (Letter Q F)) → queued_letters (letter ∷ letters) ≡ cond (is_some letter.request) 1 0 + queued_letters letters
-  queued_cons letter letters = sum_by-cons (λ l. cond (is_some l.request) 1 0) letter letters
-
-  kept : List (Letter Q F) → List (Letter Q F)
-  kept letters = filter is_kept (map lost letters)
-
-  left_over : (letter : Letter Q F) (fate : Fate F) (rest : List (Entry Q F)) (more : List (Letter Q F)) → letter.fate ≡ fate → present rest ≡ filter is_kept more
-      → present (left_by letter fate ∷ rest) ≡ filter is_kept (lost_by letter fate ∷ more)
-  left_over letter Open rest more e same = ap (λ l. record { id = letter.id; request = None; fate = Lost } ∷ l) same
-  left_over letter Cancelled rest more e same = same ∙ sym (ap (λ b. cond (not b) (letter ∷ filter is_kept more) (filter is_kept more)) (ap is_cancelled e))
-  left_over letter (Answered f) rest more e same = ap (λ l. letter ∷ l) same ∙ sym (ap (λ b. cond (not b) (letter ∷ filter is_kept more) (filter is_kept more)) (ap is_cancelled e))
-  left_over letter Failed rest more e same = ap (λ l. letter ∷ l) same ∙ sym (ap (λ b. cond (not b) (letter ∷ filter is_kept more) (filter is_kept more)) (ap is_cancelled e))
-  left_over letter Lost rest more e same = ap (λ l. letter ∷ l) same ∙ sym (ap (λ b. cond (not b) (letter ∷ filter is_kept more) (filter is_kept more)) (ap is_cancelled e))
-
-  -- the messages that have their ids once the worker is gone
-  pub left : (messages : List (Entry Q F)) → present (abandoned messages) ≡ filter is_kept (map lost (present messages))
-  left [] = refl
-  left (Entry.gone fate ∷ messages) = left messages
-  left (Entry.here letter ∷ messages) = left_over letter letter.fate (abandoned messages) (map lost (present messages)) refl (left messages)
-
   -- as many are queued among all
-  pub queued_present : (messages : List (Entry Q F)) → queued messages ≡ queued_letters (present messages)
-  queued_present [] = refl
-  queued_present (Entry.gone fate ∷ messages) = queued_present messages
-  queued_present (Entry.here letter ∷ messages) =
-      ap (λ n. cond (is_some letter.request) 1 0 + n) (queued_present messages) ∙ sym (queued_cons letter (present messages))
+  pub queued_length : (messages : List (Entry Q F)) → queued messages ≡ length (queue messages)
+  queued_length [] = refl
+  queued_length (Entry.gone fate ∷ messages) = queued_length messages
+  queued_length (Entry.here letter ∷ messages) = by (is_some letter.request) (queued_length messages)
+    where
+      by : (b : Bool) → queued messages ≡ length (queue messages) → (if b then 1 else 0) + queued messages ≡ length (if b then letter.id ∷ queue messages else queue messages)
+      by true e = omega (arith, e)
+      by false e = omega (arith, e)
 
-  head_of : (P : Letter Q F → Type 0) (letter : Letter Q F) (letters : List (Letter Q F)) → All P (letter ∷ letters) → P letter
-  head_of P letter letters all = all 0 letter (omega arith)
+  -- one of the messages, before and after
+  left_at : (messages : List (Entry Q F)) (place : ℕ) (was : Letter Q F) → At messages place was → slice_get (abandoned messages) place ≡ Some (left_by was was.fate)
+  left_at [] place was at = absurd (cc)
+  left_at (Entry.gone fate ∷ messages) zero was at = absurd (not_here fate was at)
+  left_at (Entry.gone fate ∷ messages) (suc place) was at = left_at messages place was at
+  left_at (Entry.here first ∷ messages) zero was at = ap (λ (l : Letter Q F). Some (left_by l l.fate)) (here_is first was at)
+  left_at (Entry.here first ∷ messages) (suc place) was at = left_at messages place was at
 
-  tail_of : (P : Letter Q F → Type 0) (letter : Letter Q F) (letters : List (Letter Q F)) → All P (letter ∷ letters) → All P letters
-  tail_of P letter letters all = λ k d low. all (suc k) d (omega (arith, low))
+  pub record WasAt (messages : List (Entry Q F)) (place : ℕ) (letter : Letter Q F) : Type 0 where
+    pub was : Letter Q F
+    pub at : At messages place was
+    pub left : left_by was was.fate ≡ Entry.here letter
 
-  all_of : (P : Letter Q F → Type 0) (letter : Letter Q F) (letters : List (Letter Q F)) → P letter → All P letters → (k : ℕ) (d : Letter Q F) → k < length (letter ∷ letters) → P (get_or (letter ∷ letters) k d)
-  all_of P letter letters first rest zero d low = first
-  all_of P letter letters first rest (suc k) d low = rest k d (omega (arith, low))
+  was_at : (messages : List (Entry Q F)) (place : ℕ) (letter : Letter Q F) → At (abandoned messages) place letter → WasAt messages place letter
+  was_at [] place letter at = absurd (cc)
+  was_at (Entry.gone fate ∷ messages) zero letter at = absurd (not_here fate letter at)
+  was_at (Entry.gone fate ∷ messages) (suc place) letter at = let r = was_at messages place letter at in record { was = r.was; at = r.at; left = r.left }
+  was_at (Entry.here first ∷ messages) zero letter at = record { was = first; at = refl; left = some_is (left_by first first.fate) (Entry.here letter) at }
+  was_at (Entry.here first ∷ messages) (suc place) letter at = let r = was_at messages place letter at in record { was = r.was; at = r.at; left = r.left }
 
-module _ {Q F E : Type 0} (next : ℕ) (stored : Option E) where
-  -- what is left is well, and none is queued
-  pub record IsLeft (letters : List (Letter Q F)) : Type 0 where
-    pub fit : All (Fits next stored) letters
-    pub queued : queued_letters letters ≡ 0
+  same_here : (a b : Letter Q F) → Entry.here a ≡ Entry.here b → (a.id ≡ b.id) × (Some (kept a) ≡ Some (kept b))
+  same_here a b e = let s = here_is a b (ap Some e) in (ap (λ (l : Letter Q F). l.id) s, ap (λ (l : Letter Q F). Some (kept l)) s)
 
-  one_more_left : (letter : Letter Q F) (more : List (Letter Q F)) → letter.request ≡ None → Fits next stored letter → IsLeft (filter is_kept more)
-      → IsLeft (letter ∷ filter is_kept more)
-  one_more_left letter more out fits rest = record {
-    fit = all_of (Fits next stored) letter (filter is_kept more) fits rest.fit;
-    queued = queued_cons letter (filter is_kept more) ∙ omega (arith, rest.queued, ap {B = ℕ} (λ (r : Option Q). cond (is_some r) 1 0) out);
+  left_tells : (was letter : Letter Q F) (fate : Fate F) → left_by was fate ≡ Entry.here letter → (was.id ≡ letter.id) × (lost_by (kept was) fate ≡ Some (kept letter))
+  left_tells was letter Open e = same_here (record { id = was.id; request = None; fate = Lost }) letter e
+  left_tells was letter Cancelled e = absurd (not_here Cancelled letter (ap Some e))
+  left_tells was letter (Answered f) e = same_here was letter e
+  left_tells was letter Failed e = same_here was letter e
+  left_tells was letter Lost e = same_here was letter e
+
+  lost_tells : (id : ℕ) (was message : Message Q F) (fate : Fate F) → lost_by was fate ≡ Some message → left_by (known id was) fate ≡ Entry.here (known id message)
+  lost_tells id was message Open e = ap (λ (m : Message Q F). Entry.here (known id m)) (some_is (record { request = None; fate = Lost }) message e)
+  lost_tells id was message Cancelled e = absurd (cc)
+  lost_tells id was message (Answered f) e = ap (λ (m : Message Q F). Entry.here (known id m)) (some_is was message e)
+  lost_tells id was message Failed e = ap (λ (m : Message Q F). Entry.here (known id m)) (some_is was message e)
+  lost_tells id was message Lost e = ap (λ (m : Message Q F). Entry.here (known id m)) (some_is was message e)
+
+  out_of_it : (was : Message Q F) (fate : Fate F) (message : Message Q F) → lost_by was fate ≡ Some message → (is_unsettled fate ≡ false → was.request ≡ None) → message.request ≡ None
+  out_of_it was Open message e out = sym (ap (λ (m : Message Q F). m.request) (some_is (record { request = None; fate = Lost }) message e))
+  out_of_it was Cancelled message e out = absurd (cc)
+  out_of_it was (Answered f) message e out = sym (ap (λ (m : Message Q F). m.request) (some_is was message e)) ∙ out refl
+  out_of_it was Failed message e out = sym (ap (λ (m : Message Q F). m.request) (some_is was message e)) ∙ out refl
+  out_of_it was Lost message e out = sym (ap (λ (m : Message Q F). m.request) (some_is was message e)) ∙ out refl
+
+beyond : {T : Type 0} (slots : List (Option T)) (key : ℕ) → length slots ≤ key → slice_index_or slots key None ≡ None
+beyond [] key le = refl
+beyond (slot ∷ slots) zero le = absurd (omega arith)
+beyond (slot ∷ slots) (suc key) le = beyond slots key (omega arith)
+
+-- the first so many were walked over
+pub record Walked {Q F : Type 0} (old new : LinksView (Message Q F)) (n : ℕ) : Type 0 where
+  pub past : (id : ℕ) → id < n → get new.entries id ≡ lost (get old.entries id)
+  pub ahead : (id : ℕ) → n ≤ id → get new.entries id ≡ get old.entries id
+  pub out : (id : ℕ) → id < n → has new.order id ≡ false
+  pub still : (id : ℕ) → n ≤ id → has new.order id ≡ has old.order id
+  pub len : slab_len new.entries ≤ slab_len old.entries
+  pub capacity : new.entries.capacity ≡ old.entries.capacity
+
+module _ {Q F : Type 0} (old : LinksView (Message Q F)) where
+  pub walked_none : Walked old old 0
+  walked_none = record {
+    past = λ id below. absurd (omega (arith, below));
+    ahead = λ id after. refl;
+    out = λ id below. absurd (omega (arith, below));
+    still = λ id after. refl;
+    len = omega arith;
+    capacity = refl;
   }
 
-  one_left : (letter : Letter Q F) (fate : Fate F) (more : List (Letter Q F)) → letter.fate ≡ fate → Fits next stored letter → IsLeft (filter is_kept more)
-      → IsLeft (filter is_kept (lost_by letter fate ∷ more))
-  one_left letter Open more e fits rest = record {
-    fit = all_of (Fits next stored) (record { id = letter.id; request = None; fate = Lost }) (filter is_kept more) (fits.0, (λ is. absurd (cc)), (λ is. refl)) rest.fit;
-    queued = queued_cons (record { id = letter.id; request = None; fate = Lost }) (filter is_kept more) ∙ omega (arith, rest.queued);
+  pub walked_more : (mid new : LinksView (Message Q F)) (n : ℕ) → Walked old mid n → new.order ≡ without mid.order n → Updates mid.entries new.entries n (lost (get mid.entries n))
+      → slab_len new.entries ≤ slab_len mid.entries → new.entries.capacity ≡ mid.entries.capacity → Walked old new (n + 1)
+  walked_more mid new n w order updates len capacity = record {
+    past = λ id below. elim (eqb_tells id n) [
+      | inl same ↦ ap (get new.entries) same.1 ∙ updates.changed ∙ ap lost (w.ahead n (omega arith)) ∙ ap (λ k. lost (get old.entries k)) (sym same.1)
+      | inr differs ↦ updates.others id differs.1 ∙ w.past id (let ne = differs.1 in omega (arith, below, ne))
+    ];
+    ahead = λ id after. updates.others id (λ e. omega (arith, after, e)) ∙ w.ahead id (omega (arith, after));
+    out = λ id below. ap (λ l. has l id) order ∙ (elim (eqb_tells id n) [
+      | inl same ↦ ap (has (without mid.order n)) same.1 ∙ has_without_same mid.order n
+      | inr differs ↦ has_without_other mid.order n id differs.0 ∙ w.out id (let ne = differs.1 in omega (arith, below, ne))
+    ]);
+    still = λ id after. ap (λ l. has l id) order ∙ (elim (eqb_tells id n) [
+      | inl same ↦ absurd (omega (arith, after, same.1))
+      | inr differs ↦ has_without_other mid.order n id differs.0 ∙ w.still id (omega (arith, after))
+    ]);
+    len = omega (arith, len, w.len);
+    capacity = capacity ∙ w.capacity;
   }
-  one_left letter Cancelled more e fits rest =
-      subst (λ (b : Bool). IsLeft (cond (not b) (letter ∷ filter is_kept more) (filter is_kept more))) (sym (ap is_cancelled e)) rest
-  one_left letter (Answered f) more e fits rest =
-      subst (λ (b : Bool). IsLeft (cond (not b) (letter ∷ filter is_kept more) (filter is_kept more))) (sym (ap is_cancelled e)) (one_more_left letter more (fits.2 (ap is_unsettled e)) fits rest)
-  one_left letter Failed more e fits rest =
-      subst (λ (b : Bool). IsLeft (cond (not b) (letter ∷ filter is_kept more) (filter is_kept more))) (sym (ap is_cancelled e)) (one_more_left letter more (fits.2 (ap is_unsettled e)) fits rest)
-  one_left letter Lost more e fits rest =
-      subst (λ (b : Bool). IsLeft (cond (not b) (letter ∷ filter is_kept more) (filter is_kept more))) (sym (ap is_cancelled e)) (one_more_left letter more (fits.2 (ap is_unsettled e)) fits rest)
 
-  pub all_left : (letters : List (Letter Q F)) → All (Fits next stored) letters → IsLeft (filter is_kept (map lost letters))
-  all_left [] all = record { fit = λ k d low. absurd (omega (arith, low)); queued = refl }
-  all_left (letter ∷ letters) all =
-      one_left letter letter.fate (map lost letters) refl (head_of (Fits next stored) letter letters all) (all_left letters (tail_of (Fits next stored) letter letters all))
+  module _ (new : LinksView (Message Q F)) (n : ℕ) (w : Walked old new n) (all : length old.entries.slots ≤ n) where
+    pub walked_entries : (id : ℕ) → get new.entries id ≡ lost (get old.entries id)
+    walked_entries id = elim (cases_order id n) [
+      | inl same ↦ past (omega (arith, same))
+      | inr other ↦ elim other [ inl before ↦ w.past id before | inr after ↦ past (omega (arith, after)) ]
+    ]
+      where
+        past : n ≤ id → get new.entries id ≡ lost (get old.entries id)
+        past le = let none = beyond old.entries.slots id (omega (arith, le, all)) in w.ahead id le ∙ none ∙ sym (ap lost none)
+
+    pub walked_order : ((id : ℕ) → has old.order id ≡ is_queued (get old.entries id)) → new.order ≡ []
+    walked_order linked = no_keys new.order (λ id. elim (cases_order id n) [
+      | inl same ↦ past id (omega (arith, same))
+      | inr other ↦ elim other [ inl before ↦ w.out id before | inr after ↦ past id (omega (arith, after)) ]
+    ])
+      where
+        past : (id : ℕ) → n ≤ id → has new.order id ≡ false
+        past id le = w.still id le ∙ linked id ∙ ap is_queued (beyond old.entries.slots id (omega (arith, le, all)))
+
+module _ {Q F E : Type 0} (stored : Option E) (old new : LinksView (Message Q F)) (s : Sorted stored old) (order : new.order ≡ [])
+    (entries : (id : ℕ) → get new.entries id ≡ lost (get old.entries id)) where
+  pub holds_left : (messages : List (Entry Q F)) → Holds old messages → Holds new (abandoned messages)
+  holds_left messages h = record {
+    stands = λ place letter at.
+        let w = was_at messages place letter at in
+        let t = left_tells w.was letter w.was.fate w.left in
+        entries letter.id ∙ ap (λ k. lost (get old.entries k)) (sym t.0) ∙ ap lost (h.stands place w.was w.at) ∙ t.1;
+    sent = λ id message there. by id message (get old.entries id) refl (sym (entries id) ∙ there);
+    once = λ place other one two first second same.
+        let a = was_at messages place one first in
+        let b = was_at messages other two second in
+        h.once place other a.was b.was a.at b.at ((left_tells a.was one a.was.fate a.left).0 ∙ same ∙ sym (left_tells b.was two b.was.fate b.left).0);
+    order = order ∙ sym (empty_queue (abandoned messages) (λ place letter at.
+        let w = was_at messages place letter at in
+        let t = left_tells w.was letter w.was.fate w.left in
+        out_of_it (kept w.was) w.was.fate (kept letter) t.1 (s.sent w.was.id (kept w.was) (h.stands place w.was w.at)).1));
+  }
+    where
+      by : (id : ℕ) (message : Message Q F) (slot : Option (Message Q F)) → get old.entries id ≡ slot → lost slot ≡ Some message → (place : ℕ) × At (abandoned messages) place (known id message)
+      by id message None is e = absurd (cc)
+      by id message (Some was) is e =
+          let r = h.sent id was is in
+          (r.0, left_at messages r.0 (known id was) r.1 ∙ ap Some (lost_tells id was message was.fate e))
+
+  pub sorted_lost : Sorted stored new
+  sorted_lost = record {
+    differ = ap are_apart order;
+    linked = λ id. ap (λ l. has l id) order ∙ by (get old.entries id) (λ message there. (s.sent id message there).1) ∙ sym (ap is_queued (entries id));
+    sent = λ id message there. fit message (get old.entries id) (λ was is. s.sent id was is) (sym (entries id) ∙ there);
+  }
+    where
+      one : (was : Message Q F) (fate : Fate F) → (is_unsettled fate ≡ false → was.request ≡ None) → false ≡ is_queued (lost_by was fate)
+      one was Open out = refl
+      one was Cancelled out = refl
+      one was (Answered f) out = sym (ap is_some (out refl))
+      one was Failed out = sym (ap is_some (out refl))
+      one was Lost out = sym (ap is_some (out refl))
+
+      by : (slot : Option (Message Q F)) → ((message : Message Q F) → slot ≡ Some message → is_unsettled message.fate ≡ false → message.request ≡ None) → false ≡ is_queued (lost slot)
+      by None out = refl
+      by (Some was) out = one was was.fate (out was refl)
+
+      fit_one : (message was : Message Q F) (fate : Fate F) → was.fate ≡ fate → Fits stored was → lost_by was fate ≡ Some message → Fits stored message
+      fit_one message was Open is fits e = subst (λ (m : Message Q F). Fits stored m) (some_is (record { request = None; fate = Lost }) message e) ((λ failed. absurd (cc)), (λ settled. refl))
+      fit_one message was Cancelled is fits e = absurd (cc)
+      fit_one message was (Answered f) is fits e = subst (λ (m : Message Q F). Fits stored m) (some_is was message e) fits
+      fit_one message was Failed is fits e = subst (λ (m : Message Q F). Fits stored m) (some_is was message e) fits
+      fit_one message was Lost is fits e = subst (λ (m : Message Q F). Fits stored m) (some_is was message e) fits
+
+      fit : (message : Message Q F) (slot : Option (Message Q F)) → ((was : Message Q F) → slot ≡ Some was → Fits stored was) → lost slot ≡ Some message → Fits stored message
+      fit message None fits e = absurd (cc)
+      fit message (Some was) fits e = fit_one message was was.fate refl (fits was refl) e

@@ -1,6 +1,5 @@
 -- What a cache keeps, and its checks, over plain values.
-use Rattle.std.proofs.Common.{ℕ, zero, suc, ◌+◌, ◌≤◌, ◌≡◌, ◌∙◌, List, [], ◌∷◌, Option, Some, None, Result, Ok, Err, IfOk, Bool, true, false, length, slice_get, refl, sym, ap, subst, arith}
-use Rattle.std.specs.Cmp.{IsEquivalence}
+use Rattle.std.proofs.Common.{All, OnOk, OnErr, ◌++◌, ℕ, zero, suc, ◌≡◌, ◌∙◌, List, [], ◌∷◌, Option, Some, None, Result, Ok, Err, IfOk, Bool, true, false, slice_get, refl, sym, ap, subst}
 use Rattle.std.specs.Map.{keys_of}
 use Rattle.std.specs.Option.{MatchOption}
 use Rattle.std.specs.List.{swap_remove}
@@ -10,27 +9,8 @@ use Rattle.indexmap.specs.IndexMap.{set_value_at}
 use Rattle.tower_base.specs.declared.service.Service.{Ghosts as ServiceOf}
 use Rattle.tower_pool.specs.declared.ready_cache.error.Failed.{Failed}
 use Rattle.tower_pool.specs.ReadyCache.{PendingView}
-use Rattle.tower_pool.specs.ReadyCache.{Apart, ReadyCacheView, Called, Checked, Kept, Settles, put_back}
-use Rattle.tower_pool.proofs.PendingLemmas.{apart_back, length-put_back}
-use Rattle.tower_pool.proofs.PlaceLemmas.{as_long}
-
-module _ {K S : Type 0} (eq : K → K → Bool) (is_clone : K → K → Type 0) where
-  pub kept_ready : (ready new : List (K × S)) (pending : List (PendingView K S)) (room : ℕ) → length new ≤ length ready
-      → Kept eq is_clone ready pending room → Kept eq is_clone new pending room
-  kept_ready ready new pending room fewer h = record { clones = h.clones; apart = h.apart; fits = omega (arith, fewer, h.fits) }
-
-  -- whatever is written at an index
-  pub kept_lent : (ready : List (K × S)) (pending : List (PendingView K S)) (room index : ℕ) (w : S) → Kept eq is_clone ready pending room → Kept eq is_clone (set_value_at ready index w) pending room
-  kept_lent ready pending room index w h = kept_ready ready (set_value_at ready index w) pending room (omega (arith, as_long ready index w)) h
-
-  pub kept_back : IsEquivalence eq → (k : K) (s : S) (ready less : List (K × S)) (pending now : List (PendingView K S)) (room wide : ℕ)
-      → length less + 1 ≡ length ready → now ≡ put_back eq k s pending → wide ≡ room
-      → Kept eq is_clone ready pending room → Kept eq is_clone less now wide
-  kept_back laws k s ready less pending now room wide fewer is same h = record {
-    clones = h.clones;
-    apart = subst (Apart eq) (sym is) (apart_back eq laws k s pending h.apart);
-    fits = omega (arith, fewer, ap length is, length-put_back eq laws k s pending, same, h.fits);
-  }
+use Rattle.tower_pool.specs.ReadyCache.{ReadyCacheView, Called, Checked, Settles, cancel, put_back, waiting}
+use Rattle.tower_pool.proofs.PendingLemmas.{All-new}
 
 keys_written : {K S : Type 0} → (es : List (K × S)) (i : ℕ) (w : S) → keys_of (set_value_at es i w) ≡ keys_of es
 keys_written [] i w = refl
@@ -88,3 +68,9 @@ module _ {K S : Type 0} where
 pub when_answered : {X E : Type 0} → (r : Result X E) (P R : X → Type 0) → ((x : X) → r ≡ Ok x → P x → R x) → IfOk r P → IfOk r R
 when_answered (Ok x) P R more h = more x refl h
 when_answered (Err e) P R more h = tt
+
+-- a push of a sound service, by its answer
+pub sound_push : {K S X E : Type 0} → (eq : K → K → Bool) (sound : S → Type 0) (r : Result X E) (k : K) (v : S) (es : List (K × S)) (ps now : List (PendingView K S)) → OnOk r (now ≡ cancel eq k ps ++ waiting k v ∷ []) → OnErr r (now ≡ ps)
+    → sound v → All (λ p. sound p.service) ps → All (λ p. sound p.service) now
+sound_push eq sound (Ok x) k v es ps now is same good h = subst (All (λ p. sound p.service)) (sym is) (All-new eq k sound v ps good h)
+sound_push eq sound (Err e) k v es ps now is same good h = subst (All (λ p. sound p.service)) (sym same) h

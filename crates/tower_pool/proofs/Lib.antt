@@ -1,8 +1,10 @@
 pub mod Abandoned
 pub mod AskLemmas
 pub mod CacheLemmas
+pub mod Fates
 pub mod KeysLemmas
 pub mod LineMoves
+pub mod KeptLemmas
 pub mod Lines
 pub mod Machine
 pub mod MailRuns
@@ -11,7 +13,7 @@ pub mod Moves
 pub mod Orders
 pub mod PendingLemmas
 pub mod PlaceLemmas
-pub mod Positions
 pub mod Queues
 pub mod Replies
 pub mod Waiters
+pub mod WaitersLemmas

@@ -1,33 +1,128 @@
 -- What a mailbox serves is the machine's.
-use Rattle.std.proofs.Common.{◌≡◌, List, [], ◌∷◌, ◌++◌, refl, ◌+◌, ap, subst, sym, arith}
+use Rattle.std.proofs.Common.{◌≡◌, ℕ, zero, suc, true, false, if◌then◌else◌, Option, Some, None, is_some, List, [], ◌∷◌, ◌++◌, map, slice_get, slice_index_or, refl, ◌+◌, ap, subst, sym, ◌∙◌, arith, length}
+use Rattle.slab.specs.Slab.{get}
 use Rattle.tower_base.specs.Latch.{FollowsMachine, StepsAs}
+use Rattle.tower_base.specs.Links.{LinksView}
+use Rattle.tower_base.specs.Order.{has, Apart}
 use Rattle.tower_limit.specs.Waiters.{outside}
-use Rattle.tower_pool.specs.Mail.{Entry, Mail, MailSteps}
-use Rattle.tower_pool.specs.Mailbox.{Follows, StandsFor, plain_of, present}
-use Rattle.tower_pool.specs.declared.buffer.letter.Letter.{Letter}
+use Rattle.tower_pool.specs.Letters.{is_queued}
+use Rattle.tower_pool.specs.Mail.{At, Entry, Letter, Mail, MailSteps}
+use Rattle.tower_pool.specs.Mailbox.{Follows, Holds, StandsFor, kept, known, plain_of, queue}
+use Rattle.tower_pool.specs.declared.buffer.letter.Fate.TheVariants.{Open}
+use Rattle.tower_pool.specs.declared.buffer.letter.Message.{Message}
 use Rattle.tower_pool.specs.declared.buffer.mail.MailStep.{MailStep}
 use Rattle.tower_pool.specs.declared.buffer.mail.MailReply.{MailReply}
 use Rattle.tower_pool.specs.declared.buffer.mailbox.Mailbox.{Mailbox}
-use Rattle.tower_pool.proofs.KeysLemmas.{apart_is}
+use Rattle.tower_pool.proofs.Fates.{queued_some, some_is}
+use Rattle.tower_pool.proofs.KeysLemmas.{apart_cross, apart_is, at_has, has_at, has_first, not_both, or_right}
 use Rattle.tower_pool.proofs.Lines.{some_line}
+use Rattle.tower_pool.proofs.Messages.{Sorted, here_is, not_here}
 use Rattle.tower_pool.proofs.Waiters.{outside_waits}
 
-module _ {Q F : Type 0} where
-  abbrev entries : List (Letter Q F) → List (Entry Q F)
-  entries [] = []
-  entries (letter ∷ letters) = Entry.here letter ∷ entries letters
+-- a key stands at one place
+same_place : (keys : List ℕ) (i j key : ℕ) → Apart keys → slice_get keys i ≡ Some key → slice_get keys j ≡ Some key → i ≡ j
+same_place [] i j key apart a b = absurd (cc)
+same_place (x ∷ keys) zero zero key apart a b = refl
+same_place (x ∷ keys) zero (suc j) key apart a b = absurd (not_both (has keys x) (ap (has keys) (some_is x key a) ∙ has_at keys j key b) apart.0)
+same_place (x ∷ keys) (suc i) zero key apart a b = absurd (not_both (has keys x) (ap (has keys) (some_is x key b) ∙ has_at keys i key a) apart.0)
+same_place (x ∷ keys) (suc i) (suc j) key apart a b = ap suc (same_place keys i j key apart.1 a b)
 
-  all_present : (letters : List (Letter Q F)) → present (entries letters) ≡ letters
-  all_present [] = refl
-  all_present (letter ∷ letters) = ap (λ rest. letter ∷ rest) (all_present letters)
+module _ {Q F : Type 0} where
+  -- the same keys, linked as these are, without their messages
+  blank_slot : Option (Message Q F) → Option (Unit {0})
+  blank_slot None = None
+  blank_slot (Some message) = Some tt
+
+  blank_some : (slot : Option (Message Q F)) → is_some (blank_slot slot) ≡ is_some slot
+  unfolding blank_slot
+  blank_some None = refl
+  blank_some (Some message) = refl
+
+  blank_get : (slots : List (Option (Message Q F))) (key : ℕ) → slice_index_or (map blank_slot slots) key None ≡ blank_slot (slice_index_or slots key None)
+  unfolding blank_slot
+  blank_get [] key = refl
+  blank_get (slot ∷ slots) zero = refl
+  blank_get (slot ∷ slots) (suc key) = blank_get slots key
+
+  abbrev shape : LinksView (Message Q F) → LinksView (Unit {0})
+  shape letters = record {
+    order = letters.order;
+    entries = record { slots = map blank_slot letters.entries.slots; vacant_key = 0; capacity = 0 };
+    touches = 0;
+  }
+
+  -- the message that is kept under a key
+  abbrev entry_of : ℕ → Option (Message Q F) → Entry Q F
+  entry_of key None = Entry.gone Open
+  entry_of key (Some message) = Entry.here (known key message)
+
+  queue_of : (key : ℕ) (slot : Option (Message Q F)) (rest : List (Entry Q F)) → queue (entry_of key slot ∷ rest) ≡ (if is_queued slot then key ∷ queue rest else queue rest)
+  queue_of key None rest = refl
+  queue_of key (Some message) rest = refl
+
+  one_is : (key : ℕ) (slot : Option (Message Q F)) (letter : Letter Q F) → Some (entry_of key slot) ≡ Some (Entry.here letter) → (key ≡ letter.id) × (slot ≡ Some (kept letter))
+  one_is key None letter e = absurd (not_here Open letter e)
+  one_is key (Some message) letter e = let s = here_is (known key message) letter e in (ap (λ (l : Letter Q F). l.id) s, ap (λ (l : Letter Q F). Some (kept l)) s)
+
+  module _ (letters : LinksView (Message Q F)) where
+    abbrev entries_of : List ℕ → List (Entry Q F)
+    entries_of [] = []
+    entries_of (key ∷ keys) = entry_of key (get letters.entries key) ∷ entries_of keys
+
+    at_of : (keys : List ℕ) (place : ℕ) (letter : Letter Q F) → At (entries_of keys) place letter → (slice_get keys place ≡ Some letter.id) × (get letters.entries letter.id ≡ Some (kept letter))
+    at_of [] place letter at = absurd (cc)
+    at_of (key ∷ keys) zero letter at = let o = one_is key (get letters.entries key) letter at in (ap Some o.0, ap (get letters.entries) (sym o.0) ∙ o.1)
+    at_of (key ∷ keys) (suc place) letter at = at_of keys place letter at
+
+    of_at : (keys : List ℕ) (place id : ℕ) (message : Message Q F) → slice_get keys place ≡ Some id → get letters.entries id ≡ Some message → At (entries_of keys) place (known id message)
+    of_at [] place id message at there = absurd (cc)
+    of_at (key ∷ keys) zero id message at there =
+        ap (λ k. Some (entry_of k (get letters.entries k))) (some_is key id at) ∙ ap (λ (slot : Option (Message Q F)). Some (entry_of id slot)) there
+    of_at (key ∷ keys) (suc place) id message at there = of_at keys place id message at there
+
+    queue_none : (keys rest : List ℕ) → ((key : ℕ) → has keys key ≡ true → is_queued (get letters.entries key) ≡ false) → queue (entries_of (keys ++ rest)) ≡ queue (entries_of rest)
+    queue_none [] rest none = refl
+    queue_none (key ∷ keys) rest none =
+        queue_of key (get letters.entries key) (entries_of (keys ++ rest))
+        ∙ ap (λ b. if b then key ∷ queue (entries_of (keys ++ rest)) else queue (entries_of (keys ++ rest))) (none key (has_first key keys))
+        ∙ queue_none keys rest (λ other h. none other (or_right _ (has keys other) h))
+
+    queue_all : (keys : List ℕ) → ((key : ℕ) → has keys key ≡ true → is_queued (get letters.entries key) ≡ true) → queue (entries_of keys) ≡ keys
+    queue_all [] all = refl
+    queue_all (key ∷ keys) all =
+        queue_of key (get letters.entries key) (entries_of keys)
+        ∙ ap (λ b. if b then key ∷ queue (entries_of keys) else queue (entries_of keys)) (all key (has_first key keys))
+        ∙ ap (λ l. key ∷ l) (queue_all keys (λ other h. all other (or_right _ (has keys other) h)))
+
+  -- some messages are held
+  pub some_messages : {E : Type 0} (stored : Option E) (letters : LinksView (Message Q F)) → Sorted stored letters → (messages : List (Entry Q F)) × Holds letters messages
+  some_messages stored letters s =
+      let out = outside (shape letters) in
+      let keys = out ++ letters.order in
+      let w = outside_waits (shape letters) (apart_is letters.order s.differ) (λ key h.
+      let q = queued_some (get letters.entries key) (sym (s.linked key) ∙ h) in
+      ap is_some (blank_get letters.entries.slots key) ∙ blank_some (get letters.entries key) ∙ ap is_some q.1) in (
+        entries_of letters keys,
+        record {
+          stands = λ place letter at. (at_of letters keys place letter at).1;
+          sent = λ id message there.
+              let a = at_has keys id (w.present id ∙ ap is_some (blank_get letters.entries.slots id) ∙ blank_some (get letters.entries id) ∙ ap is_some there) in
+              (a.0, of_at letters keys a.0 id message a.1 there);
+          once = λ place other letter another a b same.
+              same_place keys place other another.id w.apart ((at_of letters keys place letter a).0 ∙ ap Some same) (at_of letters keys other another b).0;
+          order = sym (queue_none letters out letters.order (λ key h. sym (s.linked key) ∙ apart_cross out letters.order key w.apart h)
+              ∙ queue_all letters letters.order (λ key h. sym (s.linked key) ∙ h));
+        },
+      )
 
 module _ {Q F E : Type 0} where
   -- some mail is what the box stands for
   pub some_mail : (box : Mailbox Q F E) → (mail : Mail Q F E) × StandsFor box mail
   some_mail box =
       let keys = outside box.waiters ++ box.waiters.order in
-      let line = some_line box.bound (box.reserved + box.queued) keys (omega (arith, box.fits)) in
-      (plain_of box (entries box.letters.items) line.0, (all_present box.letters.items, (outside box.waiters, outside_waits box.waiters (apart_is box.waiters.order box.apart) box.present, box.count, line.1), refl))
+      let line = some_line box.bound (box.reserved + length box.letters.order) keys (omega (arith, box.fits)) in
+      let held = some_messages box.stored box.letters (record { differ = box.differ; linked = box.linked; sent = box.sent }) in
+      (plain_of box held.0 line.0, (held.1, (outside box.waiters, outside_waits box.waiters (apart_is box.waiters.order box.apart) box.present, box.count, line.1), refl))
 
   pub follows : (old new : Mailbox Q F E) (step : MailStep Q F E) (reply : MailReply Q F E) → Follows old step reply new
       → FollowsMachine StandsFor MailSteps old step reply new

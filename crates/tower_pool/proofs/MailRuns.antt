@@ -1,11 +1,10 @@
 -- The laws of mail.
 use Rattle.std.proofs.Common.{◌≡◌, inl, inr, ℕ, zero, suc, ◌<◌, true, false, unwrap_or, Option, Some, None, List, [], ◌∷◌, ◌++◌, slice_set, refl, sym, ap, subst, ◌∙◌, arith}
 use Rattle.tower_base.specs.Latch.{Serves}
-use Rattle.tower_pool.specs.Mail.{At, Clears, Entry, Mail, MailSteps, Settles, abandoned, left_by}
+use Rattle.tower_pool.specs.Mail.{At, Clears, Entry, Letter, Mail, MailSteps, Settles, abandoned, left_by}
 use Rattle.tower_pool.specs.MailLaws.{Grow, Lasts}
 use Rattle.tower_pool.specs.declared.buffer.letter.Fate.{Fate}
 use Rattle.tower_pool.specs.declared.buffer.letter.Fate.TheVariants.{Open, Answered, Failed as HasFailed, Cancelled, Lost as WasLost}
-use Rattle.tower_pool.specs.declared.buffer.letter.Letter.{Letter}
 use Rattle.tower_pool.specs.declared.buffer.mail.MailStep.{MailStep}
 use Rattle.tower_pool.specs.declared.buffer.mail.MailStep.TheVariants.{Join, Part, Reserve, Look, Cancel, Unreserve, Send, Take, Live, Answer, Fail, FailStored, Outcome, Forget, WorkerGone}
 use Rattle.tower_pool.specs.declared.buffer.mail.MailReply.{MailReply}

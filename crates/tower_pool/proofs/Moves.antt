@@ -1,112 +1,220 @@
--- One message among all that were sent, as the mailbox finds it.
-use Rattle.std.proofs.Common.{◌≡◌, inl, inr, ℕ, zero, suc, ◌<◌, ◌≤◌, Bool, true, false, length, List, Option, Some, None, is_some, slice_get, slice_set, remove, position, All, refl, subst, sym, ap, ◌∙◌, arith}
-use Rattle.std.proofs.lemmas.Option.{slice_get_cases}
-use Rattle.tower_pool.specs.Letters.{Finishes, Fits, is_taken, queued_letters}
-use Rattle.tower_pool.specs.Mail.{Clears, Entry, At, Mail, NoneQueued, NoneWith, Settles, is_over}
-use Rattle.tower_pool.specs.Mailbox.{present}
+-- One message among all that were sent, and what a step leaves of it.
+use Rattle.std.proofs.Common.{◌≡◌, ◌≢◌, ℕ, ◌+◌, ◌<◌, ◌≤◌, zero, suc, Bool, true, false, List, [], ◌∷◌, length, Option, Some, None, OnSome, is_some, slice_set, refl, sym, ap, subst, ◌∙◌, inl, inr, arith}
+use Rattle.slab.specs.Slab.{Slab, get, slab_len, Updates}
+use Rattle.tower_base.specs.Links.{LinksView}
+use Rattle.tower_base.specs.Order.{has, without, first_or, Apart}
+use Rattle.tower_pool.specs.Letters.{FailsTaken, Fits, is_queued, taken_at}
+use Rattle.tower_pool.specs.Mail.{At, Clears, Entry, IsTaken, Letter, Mail, NoneQueued, NoneWith, OldestAt, Settles, is_over}
+use Rattle.tower_pool.specs.Mailbox.{Holds, kept, known, queue}
+use Rattle.tower_pool.specs.Waiting.{are_apart}
 use Rattle.tower_pool.specs.declared.buffer.letter.Fate.{Fate}
 use Rattle.tower_pool.specs.declared.buffer.letter.Fate.TheVariants.{Failed, Cancelled}
-use Rattle.tower_pool.specs.declared.buffer.letter.Letter.{Letter}
-use Rattle.tower_pool.proofs.Messages.{found, holds_at, index_of, none_with}
-use Rattle.tower_pool.proofs.Positions.{at_position, changed, fewer, no_position, not_some, one_queued, taken_tells}
-
--- there is one at a place below the length
-pub item_at : {X : Type 0} (xs : List X) (i : ℕ) → i < length xs → (x : X) × (slice_get xs i ≡ Some x)
-item_at xs i low = elim (slice_get_cases xs i).1 [ inl h ↦ (h.0, h.2) | inr h ↦ absurd (omega (arith, low, h.0)) ]
+use Rattle.tower_pool.specs.declared.buffer.letter.Message.{Message}
+use Rattle.tower_pool.proofs.Fates.{by_none, some_is}
+use Rattle.tower_pool.proofs.KeysLemmas.{apart_is, has_first, length_without, without_first, without_lacks}
+use Rattle.tower_pool.proofs.LineMoves.{first_is}
+use Rattle.tower_pool.proofs.Messages.{FitsIf, Sorted, first_queued, holds_changed, holds_gone, none_with, queue_first, queue_gone, queue_same, sorted_as, sorted_changed, sorted_left}
 
 module _ {Q F : Type 0} where
-  -- the first that passes the test
-  pub record IsThere (messages : List (Entry Q F)) (letters : List (Letter Q F)) (p : Letter Q F → Bool) (i : ℕ) : Type 0 where
+  -- none with this id is at the worker
+  pub not_taken : (letters : LinksView (Message Q F)) (messages : List (Entry Q F)) (id : ℕ) → Holds letters messages → taken_at (get letters.entries id) ≡ None
+      → NoneWith IsTaken messages id
+  not_taken letters messages id h none = none_with letters messages id IsTaken h
+      (λ letter there is. by_none letter.request letter.fate (sym (ap taken_at there) ∙ none) is.0 is.1)
+
+  -- nobody waits for one with this id
+  pub not_known : (letters : LinksView (Message Q F)) (messages : List (Entry Q F)) (id : ℕ) → Holds letters messages
+      → ((message : Message Q F) → get letters.entries id ≡ Some message → message.fate ≡ Cancelled) → NoneWith (λ letter. letter.fate ≢ Cancelled) messages id
+  not_known letters messages id h cancelled = none_with letters messages id (λ letter. letter.fate ≢ Cancelled) h
+      (λ letter there ne. ne (cancelled (kept letter) there))
+
+  -- a message that isn't queued is changed, or gone: its place among all, and what is held then
+  pub record IsChanged (messages : List (Entry Q F)) (old new : LinksView (Message Q F)) (id : ℕ) (message now : Message Q F) : Type 0 where
+    pub place : ℕ
+    pub at : At messages place (known id message)
+    pub holds : Holds new (slice_set messages place (Entry.here (known id now)))
+
+  pub record IsGone (messages : List (Entry Q F)) (old new : LinksView (Message Q F)) (id : ℕ) (message : Message Q F) : Type 0 where
+    pub place : ℕ
+    pub at : At messages place (known id message)
+    pub holds : (fate : Fate F) → Holds new (slice_set messages place (Entry.gone fate))
+
+  module _ (messages : List (Entry Q F)) (old new : LinksView (Message Q F)) (id : ℕ) (message : Message Q F) (there : get old.entries id ≡ Some message) (h : Holds old messages) where
+    pub changed : (now : Message Q F) → is_some now.request ≡ is_some message.request → Updates old.entries new.entries id (Some now) → new.order ≡ old.order
+        → IsChanged messages old new id message now
+    changed now same updates order =
+        let r = h.sent id message there in record {
+          place = r.0;
+          at = r.1;
+          holds = holds_changed old new messages h r.0 (known id message) r.1 (known id now) refl updates
+              (order ∙ h.order ∙ sym (queue_same messages r.0 (known id message) (known id now) r.1 refl same));
+        }
+
+    pub gone : has old.order id ≡ is_queued (get old.entries id) → message.request ≡ None → Updates old.entries new.entries id None → new.order ≡ without old.order id
+        → IsGone messages old new id message
+    gone linked out updates order =
+        let r = h.sent id message there in
+        let lacks : has old.order id ≡ false = linked ∙ ap is_queued there ∙ ap is_some out in record {
+          place = r.0;
+          at = r.1;
+          holds = λ fate. holds_gone old new messages h r.0 (known id message) r.1 fate updates
+              (order ∙ without_lacks old.order id lacks ∙ h.order ∙ sym (queue_gone messages r.0 (known id message) fate r.1 out));
+        }
+
+  -- the oldest queued message, and what is held once it has left the queue
+  pub record IsFirst (messages : List (Entry Q F)) (old : LinksView (Message Q F)) (id : ℕ) : Type 0 where
+    pub place : ℕ
     pub letter : Letter Q F
-    pub item : slice_get letters i ≡ Some letter
-    pub is : p letter ≡ true
-    pub first : (k : ℕ) (other : Letter Q F) → k < i → slice_get letters k ≡ Some other → p other ≡ false
-    pub spot : ℕ
-    pub at : At messages spot letter
-    pub changes : (other : Letter Q F) → present (slice_set messages spot (Entry.here other)) ≡ slice_set letters i other
-    pub leaves : (fate : Fate F) → present (slice_set messages spot (Entry.gone fate)) ≡ remove letters i
-    pub early : ((k : ℕ) (other : Letter Q F) → k < i → slice_get (present messages) k ≡ Some other → other.request ≡ None)
-        → (k : ℕ) (other : Letter Q F) → k < spot → At messages k other → other.request ≡ None
+    pub request : Q
+    pub oldest : OldestAt messages place letter request
+    pub is : letter.id ≡ id
+    pub there : get old.entries id ≡ Some (kept letter)
+    pub cleared : (new : LinksView (Message Q F)) (fate : Fate F) → Updates old.entries new.entries id None → new.order ≡ without old.order id
+        → Holds new (slice_set messages place (Entry.gone fate))
+    pub opened : (new : LinksView (Message Q F)) → Updates old.entries new.entries id (Some (record { request = None; fate = letter.fate })) → new.order ≡ without old.order id
+        → Holds new (slice_set messages place (Entry.here (record letter { request = None })))
 
-  pub there : (messages : List (Entry Q F)) (letters : List (Letter Q F)) (p : Letter Q F → Bool) (i : ℕ) → present messages ≡ letters
-      → position p letters ≡ Some i → IsThere messages letters p i
-  there messages letters p i same e =
-      let a = at_position p letters i e in
-      let r = found messages i a.0 (rw same a.1) in record {
-        letter = a.0;
-        item = a.1;
-        is = a.2;
-        first = a.3;
-        spot = r.place;
-        at = r.at;
-        changes = λ other. r.changed other ∙ ap (λ l. slice_set l i other) same;
-        leaves = λ fate. r.left fate ∙ ap (λ l. remove l i) same;
-        early = r.early;
+  pub first : {E : Type 0} (messages : List (Entry Q F)) (old : LinksView (Message Q F)) (id : ℕ) (stored : Option E) → Holds old messages → Sorted stored old → first_or old.order None ≡ Some id
+      → IsFirst messages old id
+  first messages old id stored h s front =
+      let o = first_is old.order id (sym front) in
+      let r = first_queued messages id o.0 (sym h.order ∙ o.1) in
+      let lacks : has o.0 id ≡ false = (subst Apart o.1 (apart_is old.order s.differ)).0 in
+      let left : without old.order id ≡ o.0 = ap (λ l. without l id) o.1 ∙ without_first id o.0 lacks in
+      let rest : (now : Entry Q F) → ((more : List (Entry Q F)) → queue (now ∷ more) ≡ queue more) → without old.order id ≡ queue (slice_set messages r.place now) = λ now skip.
+      left ∙ tail_is id r.letter.id o.0 (queue (slice_set messages r.place now)) (sym o.1 ∙ h.order ∙ queue_first messages r.place r.letter r.request now r.oldest skip) in
+      record {
+        place = r.place;
+        letter = r.letter;
+        request = r.request;
+        oldest = r.oldest;
+        is = r.is;
+        there = ap (get old.entries) (sym r.is) ∙ h.stands r.place r.letter r.oldest.0;
+        cleared = λ new fate updates order. holds_gone old new messages h r.place r.letter r.oldest.0 fate
+            (subst (λ (i : ℕ). Updates old.entries new.entries i None) (sym r.is) updates) (order ∙ rest (Entry.gone fate) (λ more. refl));
+        opened = λ new updates order. holds_changed old new messages h r.place r.letter r.oldest.0 (record r.letter { request = None }) refl
+            (subst (λ (i : ℕ). Updates old.entries new.entries i (Some (record { request = None; fate = r.letter.fate }))) (sym r.is) updates)
+            (order ∙ rest (Entry.here (record r.letter { request = None })) (λ more. refl));
       }
+    where
+      tail_is : (a b : ℕ) (xs ys : List ℕ) → a ∷ xs ≡ b ∷ ys → xs ≡ ys
+      tail_is a b xs ys e = ap (λ (l : List ℕ). elim l [ [] ↦ xs | z ∷ zs ↦ zs ]) e
 
-  pub not_there : (P : Letter Q F → Type 0) (messages : List (Entry Q F)) (letters : List (Letter Q F)) (p : Letter Q F → Bool) (id : ℕ) → present messages ≡ letters
-      → position p letters ≡ None → ((letter : Letter Q F) → p letter ≡ false → letter.id ≡ id → ¬ (P letter)) → NoneWith P messages id
-  not_there P messages letters p id same e fails =
-      none_with P messages id (λ i letter at is. fails letter (no_position p letters e i letter (rw (sym same) at)) is)
+-- without its first the order is shorter by one
+pub one_less : (order : List ℕ) (id : ℕ) → are_apart order ≡ true → first_or order None ≡ Some id → length order ≡ length (without order id) + 1
+one_less order id apart front =
+    let o = first_is order id (sym front) in
+    length_without order id (apart_is order apart) (ap (λ l. has l id) o.1 ∙ has_first id o.0)
 
+pub first_has : (order : List ℕ) (id : ℕ) → first_or order None ≡ Some id → has order id ≡ true
+first_has order id front = let o = first_is order id (sym front) in ap (λ l. has l id) o.1 ∙ has_first id o.0
+
+pub on_some : {X : Type 0} (r : Option X) (x : X) (P : Type 0) → r ≡ Some x → OnSome r P → P
+on_some {X = X} r x P e h = subst (λ (o : Option X). OnSome o P) e h
+
+-- a taken message fails
 module _ {Q F : Type 0} where
   -- once a taken message is finished
-  pub record IsFinished (messages : List (Entry Q F)) (old new : List (Letter Q F)) (id : ℕ) : Type 0 where
+  pub record IsFinished (messages : List (Entry Q F)) (new : LinksView (Message Q F)) (id : ℕ) : Type 0 where
     pub left : List (Entry Q F)
     pub settles : Settles Failed messages id left
-    pub same : present left ≡ new
+    pub holds : Holds new left
 
-  pub finished : (messages : List (Entry Q F)) (letters new : List (Letter Q F)) (id place : ℕ) → present messages ≡ letters → position (is_taken id) letters ≡ Some place
-      → Finishes letters place Failed new → IsFinished messages letters new id
-  finished messages letters new id place same e f =
-      let t = there messages letters (is_taken id) place same e in
-      let w = taken_tells id t.letter t.is in
-      elim (f t.letter t.item) [
-        | inl h ↦ record {
-          left = slice_set messages t.spot (Entry.here (record t.letter { fate = Failed }));
-          settles = (t.spot, t.letter, (t.at, w.0, w.1), inl (h.0, refl));
-          same = t.changes (record t.letter { fate = Failed }) ∙ sym h.1;
+  pub finished : (messages : List (Entry Q F)) (old new : LinksView (Message Q F)) (id : ℕ) → Holds old messages → has old.order id ≡ is_queued (get old.entries id)
+      → FailsTaken old id new → IsFinished messages new id
+  finished messages old new id h linked f = elim f.goes [
+    | inl o ↦
+        let r = changed messages old new id f.message f.was h (record f.message { fate = Failed }) refl o.1 o.2 in record {
+          left = slice_set messages r.place (Entry.here (known id (record f.message { fate = Failed })));
+          settles = (r.place, known id f.message, (r.at, refl, f.taken), inl (o.0, refl));
+          holds = r.holds;
         }
-        | inr h ↦ record {
-          left = slice_set messages t.spot (Entry.gone Cancelled);
-          settles = (t.spot, t.letter, (t.at, w.0, w.1), inr (elim w.2 [ inl o ↦ absurd (h.0 o) | inr c ↦ c ], refl));
-          same = t.leaves Cancelled ∙ sym h.1;
+    | inr c ↦
+        let r = gone messages old new id f.message f.was h linked f.taken c.1 c.2 in record {
+          left = slice_set messages r.place (Entry.gone Cancelled);
+          settles = (r.place, known id f.message, (r.at, refl, f.taken), inr (c.0, refl));
+          holds = r.holds Cancelled;
         }
-      ]
+  ]
 
 module _ {Q F E : Type 0} where
-  pub record StaysWell (next : ℕ) (now : Option E) (old new : List (Letter Q F)) : Type 0 where
-    pub queued : queued_letters new ≡ queued_letters old
-    pub fit : All (Fits next now) new
+  -- where an error is stored now
+  pub wider : (was now : Option E) (letters : LinksView (Message Q F)) → is_some now ≡ true → Sorted was letters → Sorted now letters
+  wider was now letters some s = record { differ = s.differ; linked = s.linked; sent = λ id message there. ((λ failed. some), (s.sent id message there).1) }
 
-  -- where an error is stored now, or was
-  wider : (next : ℕ) (was now : Option E) (letters : List (Letter Q F)) → is_some now ≡ true → All (Fits next was) letters → All (Fits next now) letters
-  wider next was now letters some all = λ k d low. let h = all k d low in (h.0, (λ is. some), h.2)
+  -- nothing else is known of one that isn't there
+  pub none_fits : (stored : Option E) → FitsIf {Q = Q} {F = F} stored None
+  none_fits stored message is = absurd (cc)
 
-  pub stays_well : (next : ℕ) (was now : Option E) (letters new : List (Letter Q F)) (id place : ℕ) → position (is_taken id) letters ≡ Some place → is_some now ≡ true
-      → All (Fits next was) letters → Finishes letters place Failed new → StaysWell next now letters new
-  stays_well next was now letters new id place e some all f =
-      let a = at_position (is_taken id) letters place e in
-      let w = taken_tells id a.0 a.2 in
-      let wide = wider next was now letters some all in
-      let old : Fits next now a.0 = holds_at (Fits next now) letters place a.0 wide a.1 in
-      elim (f a.0 a.1) [
-        | inl h ↦
-            let c = changed next now letters place a.0 (record a.0 { fate = Failed }) a.1 wide refl (old.0, (λ is. some), (λ is. w.1)) in
-            record { queued = ap queued_letters h.1 ∙ c.queued; fit = rw h.1 c.fit }
-        | inr h ↦
-            let c = fewer next now letters place a.0 a.1 wide in
-            record { queued = omega (arith, ap queued_letters h.1, c.queued, ap one_queued w.1); fit = rw h.1 c.fit }
-      ]
+  pub one_fits : (stored : Option E) (now : Message Q F) → Fits stored now → FitsIf stored (Some now)
+  one_fits stored now fits message is = subst (λ (m : Message Q F). Fits stored m) (some_is now message is) fits
 
-module _ {Q F : Type 0} where
-  pub none_queued : (messages : List (Entry Q F)) (letters : List (Letter Q F)) → present messages ≡ letters
-      → position (λ letter. is_some letter.request) letters ≡ None → NoneQueued messages
-  none_queued messages letters same e place letter at =
-      let r = index_of messages place letter at in
-      not_some letter.request (no_position (λ (l : Letter Q F). is_some l.request) letters e r.0 letter (rw (sym same) r.1))
+  pub sorted_gone : (stored : Option E) (old new : LinksView (Message Q F)) (id : ℕ) → Sorted stored old → Updates old.entries new.entries id None → new.order ≡ without old.order id
+      → Sorted stored new
+  sorted_gone stored old new id s updates order = sorted_left stored old new s id None updates order refl (none_fits stored)
 
-module _ {Q F E : Type 0} where
+  pub sorted_finished : (was now : Option E) (old new : LinksView (Message Q F)) (id : ℕ) → is_some now ≡ true → Sorted was old → FailsTaken old id new
+      → Sorted now new × (length new.order ≡ length old.order)
+  sorted_finished was now old new id some s f = elim f.goes [
+    | inl o ↦ (
+      sorted_changed now old new (wider was now old some s) id (Some (record f.message { fate = Failed })) o.1 o.2 (sym (ap is_queued f.was))
+          (one_fits now (record f.message { fate = Failed }) ((λ failed. some), (λ settled. f.taken))),
+      ap length o.2,
+    )
+    | inr c ↦ (
+      sorted_gone now old new id (wider was now old some s) c.1 c.2,
+      ap length (c.2 ∙ without_lacks old.order id (s.linked id ∙ ap is_queued f.was ∙ ap is_some f.taken)),
+    )
+  ]
+
+  pub sorted_either : (stored : Option E) (old new : LinksView (Message Q F)) (id : ℕ) (b : Bool) → is_some stored ≡ true → Sorted stored old
+      → (b ≡ false → (new.order ≡ old.order) × (new.entries ≡ old.entries)) → (b ≡ true → FailsTaken old id new) → Sorted stored new × (length new.order ≡ length old.order)
+  sorted_either stored old new id true some s kept fails = sorted_finished stored stored old new id some s (fails refl)
+  sorted_either stored old new id false some s kept fails =
+      let k = kept refl in (sorted_as stored old new s k.0 (λ id. ap (λ e. get e id) k.1), ap length k.0)
+
+  -- what holds of the letters once one that isn't queued was changed, or is gone
+  pub record IsSound (stored : Option E) (old new : LinksView (Message Q F)) (id : ℕ) (slot : Option (Message Q F)) (order : List ℕ) : Type 0 where
+    pub sorted : Sorted stored new
+    pub size : length new.order ≡ length old.order
+    pub len : slab_len new.entries ≤ slab_len old.entries
+    pub capacity : new.entries.capacity ≡ old.entries.capacity
+    pub updates : Updates old.entries new.entries id slot
+    pub ordered : new.order ≡ order
+
+  module _ (stored : Option E) (old mid new : LinksView (Message Q F)) (id : ℕ) (message : Message Q F) (s : Sorted stored old) (there : get old.entries id ≡ Some message)
+      (same : mid.order ≡ old.order) (all : mid.entries ≡ old.entries) (capacity : new.entries.capacity ≡ mid.entries.capacity) where
+    pub removed : message.request ≡ None → Updates mid.entries new.entries id None → new.order ≡ without mid.order id → (result : Option (Message Q F)) → result ≡ get mid.entries id
+        → OnSome result (slab_len new.entries + 1 ≡ slab_len mid.entries) → IsSound stored old new id None (without old.order id)
+    removed out updates order result is len =
+        let u : Updates old.entries new.entries id None = subst (λ (e : Slab (Message Q F)). Updates e new.entries id None) all updates in
+        let o : new.order ≡ without old.order id = order ∙ ap (λ l. without l id) same in
+        let less = on_some result message (slab_len new.entries + 1 ≡ slab_len mid.entries) (is ∙ ap (λ e. get e id) all ∙ there) len in record {
+          sorted = sorted_gone stored old new id s u o;
+          size = ap length (o ∙ without_lacks old.order id (s.linked id ∙ ap is_queued there ∙ ap is_some out));
+          len = omega (arith, less, ap slab_len all);
+          capacity = capacity ∙ ap (λ (e : Slab (Message Q F)). e.capacity) all;
+          updates = u;
+          ordered = o;
+        }
+
+    pub resettled : (now : Message Q F) → is_some now.request ≡ is_some message.request → Fits stored now → Updates mid.entries new.entries id (Some now)
+        → new.order ≡ mid.order → slab_len new.entries ≡ slab_len mid.entries → IsSound stored old new id (Some now) old.order
+    resettled now queued fits updates order len =
+        let u : Updates old.entries new.entries id (Some now) = subst (λ (e : Slab (Message Q F)). Updates e new.entries id (Some now)) all updates in
+        let o : new.order ≡ old.order = order ∙ same in record {
+          sorted = sorted_changed stored old new s id (Some now) u o (queued ∙ sym (ap is_queued there)) (one_fits stored now fits);
+          size = ap length o;
+          len = omega (arith, len, ap slab_len all);
+          capacity = capacity ∙ ap (λ (e : Slab (Message Q F)). e.capacity) all;
+          updates = u;
+          ordered = o;
+        }
+
+  -- they were only read
+  pub read : (stored : Option E) (old new : LinksView (Message Q F)) → Sorted stored old → new.order ≡ old.order → new.entries ≡ old.entries → Sorted stored new
+  read stored old new s order all = sorted_as stored old new s order (λ id. ap (λ e. get e id) all)
+
   pub cleared_some : (old new : Mail Q F E) (n : ℕ) → 0 < n → Clears n old new → NoneQueued new.messages → (m : ℕ) × Clears (suc m) old new × NoneQueued new.messages
   cleared_some old new zero some clears none = absurd (omega (arith, some))
   cleared_some old new (suc m) some clears none = (m, clears, none)

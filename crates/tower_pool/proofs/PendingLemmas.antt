@@ -1,14 +1,11 @@
 -- Pending entries: marks, and distinct keys.
-use Rattle.std.proofs.Common.{All, ℕ, suc, ◌+◌, ◌≤◌, ◌≡◌, Bool, true, false, not, cond, ◌&&◌, ◌||◌, List, [], ◌∷◌, ◌++◌, Some, None, length, length-append, slice_set, slice_index_or, position, is_some, nat_lt, if◌then◌else◌, refl, sym, ap, ◌∙◌, subst, true≢false, arith, unwrap_or, lt-ltb, ltb-true}
-use Rattle.std.specs.Cmp.{IsEquivalence, both_ways}
-use Rattle.std.specs.List.{position_or_len, AllByRecursion}
+use Rattle.std.proofs.Common.{All, suc, ◌+◌, ◌≤◌, ◌≡◌, Bool, true, false, not, ◌&&◌, ◌||◌, List, [], ◌∷◌, ◌++◌, length, length-append, if◌then◌else◌, refl, sym, ap, ◌∙◌, subst, true≢false, arith}
+use Rattle.std.specs.Cmp.{IsEquivalence}
+use Rattle.std.specs.List.{AllByRecursion}
 use Rattle.std.proofs.lemmas.List.Folds.{list_any-append}
 use Rattle.std.proofs.lemmas.List.Elements.{All-from_recursion, recursion_from_All, All-append, All-cons, All-nil}
 use Rattle.tower_pool.specs.ReadyCache.{PendingView}
 use Rattle.tower_pool.specs.ReadyCache.{Apart, awaited, cancel, put_back, waiting, waits}
-
-none_some : {A : Type 0} {x : A} → None ≡ Some x → ⊥
-none_some e = true≢false (sym (ap is_some e))
 
 pub left_false : (a b : Bool) → (a || b) ≡ false → a ≡ false
 left_false true b h = absurd (true≢false h)
@@ -18,70 +15,8 @@ pub right_false : (a b : Bool) → (a || b) ≡ false → b ≡ false
 right_false true b h = absurd (true≢false h)
 right_false false b h = h
 
-one_more : (n : ℕ) → 1 + n ≡ suc n
-one_more n = omega arith
-
-shift : (a b : ℕ) → nat_lt (suc a) (suc b) ≡ nat_lt a b
-shift a b = both_ways _ _ (λ t. lt-ltb a b (omega (arith, ltb-true (suc a) (suc b) t))) (λ t. lt-ltb (suc a) (suc b) (omega (arith, ltb-true a b t)))
-
 module _ {K S : Type 0} (eq : K → K → Bool) where
   module _ (k : K) where
-    -- where an entry waits, there is one
-    or_len : (ps : List (PendingView K S)) → nat_lt (position_or_len (waits eq k) ps) (length ps) ≡ awaited eq k ps
-    or_len [] = refl
-    or_len (p ∷ ps) = by (or_len ps) (waits eq k p)
-      where
-        by : nat_lt (position_or_len (waits eq k) ps) (length ps) ≡ awaited eq k ps → (b : Bool) → nat_lt (cond (not b) (1 + position_or_len (waits eq k) ps) 0) (suc (length ps)) ≡ (b || awaited eq k ps)
-        by rest true = lt-ltb 0 (suc (length ps)) (omega arith)
-        by rest false = ap (λ m. nat_lt m (suc (length ps))) (one_more (position_or_len (waits eq k) ps)) ∙ shift (position_or_len (waits eq k) ps) (length ps) ∙ rest
-
-    pub found : (ps : List (PendingView K S)) → is_some (position (waits eq k) ps) ≡ awaited eq k ps
-    found ps = by (nat_lt (position_or_len (waits eq k) ps) (length ps)) refl ∙ or_len ps
-      where
-        by : (b : Bool) → nat_lt (position_or_len (waits eq k) ps) (length ps) ≡ b → is_some (cond b (Some (position_or_len (waits eq k) ps)) None) ≡ b
-        by true e = refl
-        by false e = refl
-
-    -- it gets the mark
-    mark_len : (ps : List (PendingView K S)) (d : PendingView K S) → awaited eq k ps ≡ true
-        → slice_set ps (position_or_len (waits eq k) ps) (record (slice_index_or ps (position_or_len (waits eq k) ps) d) { cancelled = true }) ≡ cancel eq k ps
-    mark_len [] d h = absurd (true≢false (sym h))
-    mark_len (p ∷ ps) d h = by (mark_len ps d) (waits eq k p) h
-      where
-        by : (awaited eq k ps ≡ true → slice_set ps (position_or_len (waits eq k) ps) (record (slice_index_or ps (position_or_len (waits eq k) ps) d) { cancelled = true }) ≡ cancel eq k ps)
-            → (b : Bool) → (b || awaited eq k ps) ≡ true
-            → slice_set (p ∷ ps) (cond (not b) (1 + position_or_len (waits eq k) ps) 0) (record (slice_index_or (p ∷ ps) (cond (not b) (1 + position_or_len (waits eq k) ps) 0) d) { cancelled = true })
-            ≡ (if b then (record p { cancelled = true }) ∷ ps else p ∷ cancel eq k ps)
-        by rest true h = refl
-        by rest false h = subst (λ m. slice_set (p ∷ ps) m (record (slice_index_or (p ∷ ps) m d) { cancelled = true }) ≡ p ∷ cancel eq k ps) (let e : suc (position_or_len (waits eq k) ps) ≡ 1 + position_or_len (waits eq k) ps = omega arith in e) (ap (λ l. p ∷ l) (rest h))
-
-    position_is : (ps : List (PendingView K S)) (i : ℕ) → position (waits eq k) ps ≡ Some i → position_or_len (waits eq k) ps ≡ i
-    position_is ps i = by (nat_lt (position_or_len (waits eq k) ps) (length ps))
-      where
-        by : (b : Bool) → cond b (Some (position_or_len (waits eq k) ps)) None ≡ Some i → position_or_len (waits eq k) ps ≡ i
-        by true e = ap (λ r. unwrap_or r i) e
-        by false e = absurd (none_some e)
-
-    pub marked : (ps : List (PendingView K S)) (i : ℕ) (d : PendingView K S) → position (waits eq k) ps ≡ Some i
-        → slice_set ps i (record (slice_index_or ps i d) { cancelled = true }) ≡ cancel eq k ps
-    marked ps i d e = subst (λ m. slice_set ps m (record (slice_index_or ps m d) { cancelled = true }) ≡ cancel eq k ps) (position_is ps i e) (mark_len ps d (sym (found ps) ∙ ap is_some e))
-
-    pub marked_by : (ps : List (PendingView K S)) (i : ℕ) (d w : PendingView K S) → position (waits eq k) ps ≡ Some i → w ≡ record d { cancelled = true } → d ≡ slice_index_or ps i d
-        → slice_set ps i w ≡ cancel eq k ps
-    marked_by ps i d w e is there = ap (slice_set ps i) (is ∙ with_mark) ∙ marked ps i d e
-      where
-        with_mark : (let a : PendingView K S = record d { cancelled = true } in let b : PendingView K S = record (slice_index_or ps i d) { cancelled = true } in a ≡ b)
-        with_mark = λ j. record (there j) { cancelled = true }
-
-    -- without one, nothing changes
-    pub unmarked : (ps : List (PendingView K S)) → awaited eq k ps ≡ false → cancel eq k ps ≡ ps
-    unmarked [] h = refl
-    unmarked (p ∷ ps) h = by (unmarked ps) (waits eq k p) h
-      where
-        by : (awaited eq k ps ≡ false → cancel eq k ps ≡ ps) → (b : Bool) → (b || awaited eq k ps) ≡ false → (if b then (record p { cancelled = true }) ∷ ps else p ∷ cancel eq k ps) ≡ p ∷ ps
-        by rest true h = absurd (true≢false h)
-        by rest false h = ap (λ l. p ∷ l) (rest h)
-
     pub length-cancel : (ps : List (PendingView K S)) → length (cancel eq k ps) ≡ length ps
     length-cancel [] = refl
     length-cancel (p ∷ ps) = by (length-cancel ps) (waits eq k p)
@@ -126,7 +61,7 @@ module _ {K S : Type 0} (eq : K → K → Bool) where
 
   module _ (laws : IsEquivalence eq) where
     -- equal keys wait alike
-    alike : (j k : K) (ps : List (PendingView K S)) → eq j k ≡ true → awaited eq j ps ≡ awaited eq k ps
+    pub alike : (j k : K) (ps : List (PendingView K S)) → eq j k ≡ true → awaited eq j ps ≡ awaited eq k ps
     alike j k [] e = refl
     alike j k (p ∷ ps) e = (λ i. (not p.cancelled && laws.congr j k p.key e i) || alike j k ps e i)
 

@@ -3,12 +3,11 @@ use Rattle.std.proofs.Common.{◌≡◌, inl, inr, ℕ, zero, suc, true, false, 
 use Rattle.std.proofs.lemmas.List.{append_assoc, append-nil}
 use Rattle.tower_base.specs.Latch.{Serves}
 use Rattle.tower_base.specs.HistoryLemmas.{plain_run, serves_first}
-use Rattle.tower_pool.specs.Mail.{At, Clears, Entry, Mail, MailSteps, OldestAt, Settles, abandoned, blank, left_by}
+use Rattle.tower_pool.specs.Mail.{At, Clears, Entry, Letter, Mail, MailSteps, OldestAt, Settles, abandoned, blank, left_by}
 use Rattle.tower_pool.specs.MailHistory.{TakenAsSent, Within, sent, sent_by, taken, taken_by}
 use Rattle.tower_pool.specs.Mailbox.{Opens, StandsFor}
 use Rattle.tower_pool.specs.declared.buffer.letter.Fate.{Fate}
 use Rattle.tower_pool.specs.declared.buffer.letter.Fate.TheVariants.{Open, Answered, Failed as HasFailed, Cancelled, Lost as WasLost}
-use Rattle.tower_pool.specs.declared.buffer.letter.Letter.{Letter}
 use Rattle.tower_pool.specs.declared.buffer.mail.MailStep.{MailStep}
 use Rattle.tower_pool.specs.declared.buffer.mail.MailStep.TheVariants.{Join, Part, Reserve, Look, Cancel, Unreserve, Send, Take, Live, Answer, Fail, FailStored, Outcome, Forget, WorkerGone}
 use Rattle.tower_pool.specs.declared.buffer.mail.MailReply.{MailReply}

@@ -3,10 +3,9 @@ use Rattle.std.proofs.Common.{◌≡◌, ◌≢◌, ◌<◌, ◌-◌, ℕ, true,
 use Rattle.tower_limit.specs.Line.{Ticket, Steps}
 use Rattle.tower_limit.specs.declared.limit.concurrency.line_core.LineStep.TheVariants.{Release}
 use Rattle.tower_limit.specs.declared.limit.concurrency.line_core.LineReply.TheVariants.{Left}
-use Rattle.tower_pool.specs.Mail.{At, Entry, Mail, MailSteps, Tells}
+use Rattle.tower_pool.specs.Mail.{At, Entry, Letter, Mail, MailSteps, Tells}
 use Rattle.tower_pool.specs.declared.buffer.mail.MailStep.TheVariants.{Outcome, Send}
 use Rattle.tower_pool.specs.declared.buffer.letter.Fate.TheVariants.{Failed as HasFailed}
-use Rattle.tower_pool.specs.declared.buffer.letter.Letter.{Letter}
 use Rattle.tower_pool.specs.declared.buffer.mail.MailReply.{MailReply}
 use Rattle.tower_pool.specs.declared.buffer.mail.MailReply.TheVariants.{Memory, Failed, Closed}
 

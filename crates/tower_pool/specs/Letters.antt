@@ -1,14 +1,13 @@
--- The messages that have their ids.
-use Rattle.std.specs.Prelude.{◌≡◌, ◌≢◌, ◌⊎◌, slice_get, slice_set, remove, ◌<◌, ◌==◌, ◌&&◌, ℕ, Bool, true, false, not, Option, Some, None, List, count_by, is_some, is_none}
+-- The messages that are kept under their ids.
+use Rattle.std.specs.Prelude.{◌≡◌, ◌⊎◌, ℕ, Bool, true, false, Option, Some, None, is_some}
+use Rattle.slab.specs.Slab.{get, Updates}
+use Rattle.tower_base.specs.Links.{LinksView}
+use Rattle.tower_base.specs.Order.{without}
 use Rattle.tower_pool.specs.declared.buffer.letter.Fate.{Fate}
-use Rattle.tower_pool.specs.declared.buffer.letter.Fate.TheVariants.{Open, Failed, Cancelled, Lost}
-use Rattle.tower_pool.specs.declared.buffer.letter.Letter.{Letter}
+use Rattle.tower_pool.specs.declared.buffer.letter.Fate.TheVariants.{Open, Answered, Failed, Cancelled, Lost}
+use Rattle.tower_pool.specs.declared.buffer.letter.Message.{Message}
 
 module _ {F : Type 0} where
-  abbrev pub is_open : Fate F → Bool
-  is_open Open = true
-  is_open _ = false
-
   abbrev pub is_failed : Fate F → Bool
   is_failed Failed = true
   is_failed _ = false
@@ -23,36 +22,57 @@ module _ {F : Type 0} where
   is_unsettled Cancelled = true
   is_unsettled _ = false
 
+  -- it was answered, or the worker went away
+  abbrev pub Ended : Fate F → Type 0
+  Ended (Answered future) = Unit {0}
+  Ended Lost = Unit {0}
+  Ended _ = ⊥
+
+  -- without its future
+  abbrev pub bare : Fate F → Fate (Unit {0})
+  bare Open = Open
+  bare (Answered future) = Answered tt
+  bare Failed = Failed
+  bare Cancelled = Cancelled
+  bare Lost = Lost
+
 module _ {Q F : Type 0} where
-  -- how many are queued
-  abbrev pub queued_letters : List (Letter Q F) → ℕ
-  queued_letters letters = count_by (λ letter. is_some letter.request) letters
+  -- of one that the worker has, which has no outcome or isn't waited for: whether it is waited for
+  abbrev pub taken_by : Option Q → Fate F → Option Bool
+  taken_by None Open = Some true
+  taken_by None Cancelled = Some false
+  taken_by _ _ = None
 
-  -- the worker has the message of this id, which has no outcome or isn't waited for
-  abbrev pub is_taken : ℕ → Letter Q F → Bool
-  is_taken id letter = (letter.id == id) && (is_none letter.request && is_unsettled letter.fate)
+  abbrev pub taken_at : Option (Message Q F) → Option Bool
+  taken_at None = None
+  taken_at (Some message) = taken_by message.request message.fate
 
-  -- somebody may wait for the message of this id
-  abbrev pub is_known : ℕ → Letter Q F → Bool
-  is_known id letter = (letter.id == id) && not (is_cancelled letter.fate)
+  abbrev pub fate_at : Option (Message Q F) → Option (Fate (Unit {0}))
+  fate_at None = None
+  fate_at (Some message) = Some (bare message.fate)
 
-  -- where the worker is gone, one without an outcome is lost
-  abbrev pub lost_by : Letter Q F → Fate F → Letter Q F
-  lost_by letter Open = record { id = letter.id; request = None; fate = Lost }
-  lost_by letter _ = letter
+  abbrev pub is_queued : Option (Message Q F) → Bool
+  is_queued None = false
+  is_queued (Some message) = is_some message.request
 
-  abbrev pub lost : Letter Q F → Letter Q F
-  lost letter = lost_by letter letter.fate
+  -- where the worker is gone, one without an outcome is lost, and one that nobody waits for is gone
+  abbrev pub lost_by : Message Q F → Fate F → Option (Message Q F)
+  lost_by message Open = Some (record { request = None; fate = Lost })
+  lost_by message Cancelled = None
+  lost_by message _ = Some message
 
-  -- somebody may wait for it
-  abbrev pub is_kept : Letter Q F → Bool
-  is_kept letter = not (is_cancelled letter.fate)
+  abbrev pub lost : Option (Message Q F) → Option (Message Q F)
+  lost None = None
+  lost (Some message) = lost_by message message.fate
 
-  -- Its id was given. It has failed only where an error is stored, and is queued only without an outcome.
-  abbrev pub Fits : {E : Type 0} → ℕ → Option E → Letter Q F → Type 0
-  Fits next stored letter = (letter.id < next) × (is_failed letter.fate ≡ true → is_some stored ≡ true) × (is_unsettled letter.fate ≡ false → letter.request ≡ None)
+  -- It has failed only where an error is stored, and is queued only without an outcome.
+  abbrev pub Fits : {E : Type 0} → Option E → Message Q F → Type 0
+  Fits stored message = (is_failed message.fate ≡ true → is_some stored ≡ true) × (is_unsettled message.fate ≡ false → message.request ≡ None)
 
-  -- a message without an outcome has this one now, and any other is known no more
-  abbrev pub Finishes : List (Letter Q F) → ℕ → Fate F → List (Letter Q F) → Type 0
-  Finishes old place fate new = (letter : Letter Q F) → slice_get old place ≡ Some letter
-      → ((letter.fate ≡ Open) × (new ≡ slice_set old place (record letter { fate = fate }))) ⊎ ((letter.fate ≢ Open) × (new ≡ remove old place))
+  -- a taken message without an outcome has failed, and one that nobody waits for is gone
+  pub record FailsTaken (old : LinksView (Message Q F)) (id : ℕ) (new : LinksView (Message Q F)) : Type 0 where
+    pub message : Message Q F
+    pub was : get old.entries id ≡ Some message
+    pub taken : message.request ≡ None
+    pub goes : ((message.fate ≡ Open) × Updates old.entries new.entries id (Some (record message { fate = Failed })) × (new.order ≡ old.order))
+        ⊎ ((message.fate ≡ Cancelled) × Updates old.entries new.entries id None × (new.order ≡ without old.order id))

@@ -10,5 +10,6 @@ pub mod ReadyCache
 pub mod ReadyCacheLends
 pub mod ReadyCachePoll
 pub mod Waiting
+pub mod Waiters
 pub mod Worker
 pub mod WorkerOrder

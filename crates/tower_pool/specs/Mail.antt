@@ -5,11 +5,16 @@ use Rattle.tower_limit.specs.declared.limit.concurrency.line_core.LineStep.TheVa
 use Rattle.tower_limit.specs.declared.limit.concurrency.line_core.LineReply.TheVariants.{Granted, Waiting as Waits, Left, Unknown as NoTicket}
 use Rattle.tower_pool.specs.declared.buffer.letter.Fate.{Fate}
 use Rattle.tower_pool.specs.declared.buffer.letter.Fate.TheVariants.{Open, Answered, Failed as HasFailed, Cancelled, Lost as WasLost}
-use Rattle.tower_pool.specs.declared.buffer.letter.Letter.{Letter}
 use Rattle.tower_pool.specs.declared.buffer.mail.MailStep.{MailStep}
 use Rattle.tower_pool.specs.declared.buffer.mail.MailStep.TheVariants.{Join, Part, Reserve, Look, Cancel, Unreserve, Send, Take, Live, Answer, Fail, FailStored, Outcome, Forget, WorkerGone}
 use Rattle.tower_pool.specs.declared.buffer.mail.MailReply.{MailReply}
 use Rattle.tower_pool.specs.declared.buffer.mail.MailReply.TheVariants.{Done, Place, Waiting, Memory, Failed, Closed, Sent, Message, Cleared, Empty, End, Truth, Back, Future, Lost, Unknown}
+
+-- A message that has its id. It has its request while it is queued.
+pub record Letter (Q F : Type 0) : Type 0 where
+  pub id : ℕ
+  pub request : Option Q
+  pub fate : Fate F
 
 -- A message that was sent. It has its id, and its request while it is queued; or it is gone, with what became of it.
 pub data Entry (Q F : Type 0) : Type 0 where

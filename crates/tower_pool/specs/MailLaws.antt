@@ -1,10 +1,9 @@
 -- What holds of every list of steps that mail makes.
 use Rattle.std.specs.Prelude.{◌≡◌, ◌⊎◌, ◌<◌, ℕ, suc, true, unwrap_or, Option, Some, None, List, slice_get}
 use Rattle.tower_base.specs.Latch.{Serves}
-use Rattle.tower_pool.specs.Mail.{At, Entry, Mail, MailSteps, Settles}
+use Rattle.tower_pool.specs.Mail.{At, Entry, Letter, Mail, MailSteps, Settles}
 use Rattle.tower_pool.specs.declared.buffer.letter.Fate.{Fate}
 use Rattle.tower_pool.specs.declared.buffer.letter.Fate.TheVariants.{Open, Failed}
-use Rattle.tower_pool.specs.declared.buffer.letter.Letter.{Letter}
 use Rattle.tower_pool.specs.declared.buffer.mail.MailStep.{MailStep}
 use Rattle.tower_pool.specs.declared.buffer.mail.MailStep.TheVariants.{Fail, Take}
 use Rattle.tower_pool.specs.declared.buffer.mail.MailReply.{MailReply}

@@ -1,39 +1,53 @@
 -- Which plain mails a `Mailbox` stands for.
-use Rattle.std.specs.Prelude.{◌≡◌, ◌<◌, ◌≤◌, ◌+◌, ◌*◌, ◌^◌, ℕ, List, [], ◌∷◌, vec_len, vec_capacity}
-use Rattle.slab.specs.Slab.{slab_len}
+use Rattle.std.specs.Prelude.{◌≡◌, ◌<◌, ◌≤◌, ◌+◌, ◌*◌, ℕ, if◌then◌else◌, is_some, Some, List, [], ◌∷◌, length}
+use Rattle.slab.specs.Slab.{get, slab_len}
+use Rattle.tower_base.specs.Links.{LinksView}
 use Rattle.tower_limit.specs.Line.{Ticket}
 use Rattle.tower_limit.specs.LineCore.{StandsAt}
-use Rattle.tower_pool.specs.Mail.{Entry, Mail, MailSteps, blank}
-use Rattle.tower_pool.specs.declared.buffer.letter.Letter.{Letter}
+use Rattle.tower_pool.specs.Mail.{At, Entry, Letter, Mail, MailSteps, blank}
+use Rattle.tower_pool.specs.declared.buffer.letter.Message.{Message}
 use Rattle.tower_pool.specs.declared.buffer.mail.MailStep.{MailStep}
-use Rattle.tower_pool.specs.declared.buffer.mail.MailStep.TheVariants.{Reserve, Look, Cancel, Unreserve, Take}
+use Rattle.tower_pool.specs.declared.buffer.mail.MailStep.TheVariants.{Take, WorkerGone}
 use Rattle.tower_pool.specs.declared.buffer.mail.MailReply.{MailReply}
 use Rattle.tower_pool.specs.declared.buffer.mailbox.Mailbox.{Mailbox}
 
 module _ {Q F : Type 0} where
-  -- the messages that have their ids
-  abbrev pub present : List (Entry Q F) → List (Letter Q F)
-  present [] = []
-  present (Entry.here letter ∷ rest) = letter ∷ present rest
-  present (Entry.gone fate ∷ rest) = present rest
+  -- the ids of the queued messages, in the order of sending
+  abbrev pub queue : List (Entry Q F) → List ℕ
+  queue [] = []
+  queue (Entry.gone fate ∷ rest) = queue rest
+  queue (Entry.here letter ∷ rest) = if is_some letter.request then letter.id ∷ queue rest else queue rest
+
+  -- what is kept under its id
+  abbrev pub kept : Letter Q F → Message Q F
+  kept letter = record { request = letter.request; fate = letter.fate }
+
+  -- the message that is kept under this id
+  abbrev pub known : ℕ → Message Q F → Letter Q F
+  known id message = record { id = id; request = message.request; fate = message.fate }
+
+  -- Each message that has its id is kept under it, and nothing else is. No two have one id. Those in the order are the queued ones.
+  pub record Holds (letters : LinksView (Message Q F)) (messages : List (Entry Q F)) : Type 0 where
+    pub stands : (place : ℕ) (letter : Letter Q F) → At messages place letter → get letters.entries letter.id ≡ Some (kept letter)
+    pub sent : (id : ℕ) (message : Message Q F) → get letters.entries id ≡ Some message → (place : ℕ) × At messages place (known id message)
+    pub once : (place other : ℕ) (letter another : Letter Q F) → At messages place letter → At messages other another → letter.id ≡ another.id → place ≡ other
+    pub order : letters.order ≡ queue messages
 
 module _ {Q F E : Type 0} where
-  -- how many entries of those who wait were reached so far
+  -- how many entries were reached so far, of those who wait and of the messages
   abbrev pub touches : Mailbox Q F E → ℕ
-  touches box = box.waiters.touches
+  touches box = box.waiters.touches + box.letters.touches
 
   -- six at most for each message that left the queue
   abbrev pub FewEach : Mailbox Q F E → Mailbox Q F E → Type 0
-  FewEach old new = touches new + 6 * new.queued ≤ touches old + 6 * old.queued
+  FewEach old new = touches new + 6 * length new.letters.order ≤ touches old + 6 * length old.letters.order
 
-  -- A step for a place reaches at most six of them, and `Take` at most six for each message that leaves the queue.
+  -- `Take` reaches at most six entries for each message that leaves the queue, and any other step six, but where the worker is gone.
+  -- (`Fail` drops the waiters with their count, so that what it touched there before isn't seen.)
   abbrev pub Few : Mailbox Q F E → MailStep Q F E → Mailbox Q F E → Type 0
-  Few old Reserve new = touches new ≤ touches old + 6
-  Few old (Look key) new = touches new ≤ touches old + 6
-  Few old (Cancel key) new = touches new ≤ touches old + 6
-  Few old Unreserve new = touches new ≤ touches old + 6
   Few old Take new = FewEach old new
-  Few old _ new = Unit {0}
+  Few old WorkerGone new = Unit {0}
+  Few old _ new = touches new ≤ touches old + 6
 
   -- the mail with these messages and this line
   abbrev pub plain_of : Mailbox Q F E → List (Entry Q F) → List Ticket → Mail Q F E
@@ -50,11 +64,11 @@ module _ {Q F E : Type 0} where
 
   -- the line has the same who wait, and holds the reserved places and the queued messages
   abbrev pub HasLine : Mailbox Q F E → List Ticket → Type 0
-  HasLine box line = StandsAt box.bound (box.reserved + box.queued) box.granted box.waiters line
+  HasLine box line = StandsAt box.bound (box.reserved + length box.letters.order) box.granted box.waiters line
 
   -- the same messages have their ids, and all else is as in the box
   abbrev pub StandsFor : Mailbox Q F E → Mail Q F E → Type 0
-  StandsFor box mail = (present mail.messages ≡ box.letters.items) × HasLine box mail.line × (mail ≡ plain_of box mail.messages mail.line)
+  StandsFor box mail = Holds box.letters mail.messages × HasLine box mail.line × (mail ≡ plain_of box mail.messages mail.line)
 
   -- mail that nobody has asked
   abbrev pub Opens : Mailbox Q F E → Type 0
@@ -62,18 +76,17 @@ module _ {Q F E : Type 0} where
 
   -- each mail that the old box stands for is changed so, to one that the new box stands for
   abbrev pub Changes : (Mail Q F E → Mail Q F E → Type 0) → Mailbox Q F E → Mailbox Q F E → Type 0
-  Changes change old new = (messages : List (Entry Q F)) (line : List Ticket) → present messages ≡ old.letters.items → HasLine old line
+  Changes change old new = (messages : List (Entry Q F)) (line : List Ticket) → Holds old.letters messages → HasLine old line
       → (left : List (Entry Q F)) × (goes : List Ticket) × change (plain_of old messages line) (plain_of new left goes)
-      × (present left ≡ new.letters.items) × HasLine new goes
+      × Holds new.letters left × HasLine new goes
 
   -- Each mail that the old box stands for makes the machine's step to one that the new box stands for.
   abbrev pub Follows : Mailbox Q F E → MailStep Q F E → MailReply Q F E → Mailbox Q F E → Type 0
-  Follows old step reply new = (messages : List (Entry Q F)) (line : List Ticket) → present messages ≡ old.letters.items → HasLine old line
+  Follows old step reply new = (messages : List (Entry Q F)) (line : List Ticket) → Holds old.letters messages → HasLine old line
       → (left : List (Entry Q F)) × (goes : List Ticket) × MailSteps (plain_of old messages line) step reply (plain_of new left goes)
-      × (present left ≡ new.letters.items) × HasLine new goes
+      × Holds new.letters left × HasLine new goes
 
-  -- a further place may be asked for: it has an id, and room for its message and its key
+  -- a further place may be asked for: there is room for its message and its key
   abbrev pub HasRoom : Mailbox Q F E → Type 0
-  HasRoom box = (box.next_id + box.reserved + slab_len box.waiters.entries + 1 < 2 ^ 64)
-      × (vec_len box.letters + box.reserved + slab_len box.waiters.entries < vec_capacity box.letters)
+  HasRoom box = (slab_len box.letters.entries + box.reserved + slab_len box.waiters.entries < box.letters.entries.capacity)
       × (slab_len box.waiters.entries < box.waiters.entries.capacity)

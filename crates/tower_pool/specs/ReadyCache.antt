@@ -1,7 +1,7 @@
 -- The machine of `ready_cache`: a list of ready endpoints, each under its key, and a list of pending ones, longest waiting first.
-use Rattle.std.specs.Prelude.{All, ℕ, ◌+◌, ◌≡◌, ◌≤◌, Bool, true, false, not, ◌&&◌, List, [], ◌∷◌, ◌++◌, Option, Some, length, slice_get, position, if◌then◌else◌, Result, Ok, Err}
+use Rattle.std.specs.Prelude.{All, ℕ, ◌+◌, ◌≡◌, ◌≤◌, Bool, true, false, not, ◌&&◌, ◌||◌, is_some, List, [], ◌∷◌, ◌++◌, Option, Some, length, slice_get, position, if◌then◌else◌, Result, Ok, Err}
 use Rattle.std.specs.List.{list_any, swap_remove}
-use Rattle.std.specs.Map.{keys_of}
+use Rattle.std.specs.Map.{keys_of, lookup}
 use Rattle.std.specs.Option.{MatchOption}
 use Rattle.futures.specs.declared.task.Poll.{Poll}
 use Rattle.futures.specs.declared.task.Poll.TheVariants.{Ready, Pending}
@@ -51,10 +51,12 @@ module _ {K S : Type 0} (eq : K → K → Bool) where
   abbrev pub place : K → List (K × S) → Option ℕ
   place k es = position (eq k) (keys_of es)
 
-  -- What each cache keeps: clones of keys equal what was cloned, pending keys are distinct, and ready endpoints have room to come back.
-  pub record Kept (is_clone : K → K → Type 0) (ready : List (K × S)) (pending : List (PendingView K S)) (room : ℕ) : Type 0 where
+  -- What each cache keeps: clones of keys equal what was cloned, pending keys are distinct, keys have a place as long as they are ready, or
+  -- pending and not cancelled, and ready endpoints have room to come back.
+  pub record Kept (is_clone : K → K → Type 0) (ready : List (K × S)) (pending : List (PendingView K S)) (knows : K → Bool) (room : ℕ) : Type 0 where
     pub clones : (x y : K) → is_clone x y → y ≡ x
     pub apart : Apart pending
+    pub known : (k : K) → knows k ≡ (is_some (lookup (eq k) ready) || awaited k pending)
     pub fits : length ready + length pending ≤ room
 
 -- each service is sound

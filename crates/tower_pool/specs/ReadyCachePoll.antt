@@ -1,5 +1,5 @@
 -- What one poll of the pending endpoints does: it asks each one that isn't cancelled, longest waiting first.
-use Rattle.std.specs.Prelude.{ℕ, length, ◌≡◌, Bool, true, false, List, [], ◌∷◌, ◌++◌, Result, Ok, Err, ◌⊎◌}
+use Rattle.std.specs.Prelude.{ℕ, zero, suc, ◌≡◌, Bool, true, false, List, [], ◌∷◌, ◌++◌, Result, Ok, Err, ◌⊎◌}
 use Rattle.futures.specs.declared.task.Poll.{Poll}
 use Rattle.futures.specs.declared.task.Poll.TheVariants.{Ready, Pending}
 use Rattle.indexmap.specs.IndexMap.{insert_entry}
@@ -42,18 +42,23 @@ module _ {K S Q A E G : Type 0} (eq : K → K → Bool) (s : ServiceOf S Q A E G
   abbrev pub PendingPolled : ReadyCacheView K S → Poll (Result (Unit {0}) (Error K E)) → ReadyCacheView K S → Type 0
   PendingPolled old answer new = EachAsked [] old.pending old.ready answer new
 
-  -- one entry's part of it: `Ok true` where it waits, and `Ok false` where it left
-  abbrev pub Asked : List (K × S) → List (PendingView K S) → PendingView K S → List (PendingView K S) → Result Bool (Error K E) → ReadyCacheView K S → Type 0
-  Asked ready asked p rest (Ok false) new =
-      ByTest p.cancelled (new ≡ record { ready = ready; pending = asked ++ rest })
-      ((left : S) × s.polled p.service (Ready (Ok tt)) left × (new ≡ record { ready = insert_entry eq ready p.key left; pending = asked ++ rest }))
-  Asked ready asked p rest (Ok true) new =
-      (p.cancelled ≡ false) × ((left : S) × s.polled p.service Pending left × (new ≡ record { ready = ready; pending = asked ++ (record p { service = left }) ∷ rest }))
-  Asked ready asked p rest (Err Memory) new = (p.cancelled ≡ false) × (new ≡ record { ready = ready; pending = asked ++ p ∷ rest })
-  Asked ready asked p rest (Err (Failed k e)) new =
-      (p.cancelled ≡ false) × (k ≡ p.key) × ((left : S) × s.polled p.service (Ready (Err e)) left × (new ≡ record { ready = ready; pending = asked ++ rest }))
+  -- the first entry's part of it: `Ok true` where it waits, and is the last now, and `Ok false` where it left
+  abbrev pub Asked : List (K × S) → PendingView K S → List (PendingView K S) → Result Bool (Error K E) → ReadyCacheView K S → Type 0
+  Asked ready p rest (Ok false) new =
+      ByTest p.cancelled (new ≡ record { ready = ready; pending = rest })
+      ((left : S) × s.polled p.service (Ready (Ok tt)) left × (new ≡ record { ready = insert_entry eq ready p.key left; pending = rest }))
+  Asked ready p rest (Ok true) new =
+      (p.cancelled ≡ false) × ((left : S) × s.polled p.service Pending left × (new ≡ record { ready = ready; pending = rest ++ (record p { service = left }) ∷ [] }))
+  Asked ready p rest (Err Memory) new = (p.cancelled ≡ false) × (new ≡ record { ready = ready; pending = rest ++ p ∷ [] })
+  Asked ready p rest (Err (Failed k e)) new =
+      (p.cancelled ≡ false) × (k ≡ p.key) × ((left : S) × s.polled p.service (Ready (Err e)) left × (new ≡ record { ready = ready; pending = rest }))
 
-  -- that part, of the entry at the index, after those that wait
-  abbrev pub AskedAt : ReadyCacheView K S → ℕ → Result Bool (Error K E) → ReadyCacheView K S → Type 0
-  AskedAt old index answer new = (asked rest : List (PendingView K S)) (p : PendingView K S) → old.pending ≡ asked ++ p ∷ rest → length asked ≡ index
-      → Asked old.ready asked p rest answer new
+  -- that part, where there is an entry
+  abbrev pub AskedFirst : ReadyCacheView K S → Result Bool (Error K E) → ReadyCacheView K S → Type 0
+  AskedFirst old answer new = (p : PendingView K S) (rest : List (PendingView K S)) → old.pending ≡ p ∷ rest → Asked old.ready p rest answer new
+
+-- the list once so many first ones went last, one after another
+abbrev pub rotated : {X : Type 0} → ℕ → List X → List X
+rotated zero xs = xs
+rotated (suc n) [] = rotated n []
+rotated (suc n) (x ∷ xs) = rotated n (xs ++ x ∷ [])

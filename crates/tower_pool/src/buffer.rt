@@ -16,7 +16,7 @@ mod worker;
 pub use error::Error;
 pub use laws::law;
 pub use layer::{BufferLayer, Guard};
-pub use letter::{Fate, Letter};
+pub use letter::{Fate, Message};
 pub use mail::{MailReply, MailStep};
 pub use mail_core::MailCore;
 pub use seat::{Seat, Stage};

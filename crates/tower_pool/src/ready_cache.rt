@@ -3,7 +3,7 @@
 pub mod cache;
 pub mod error;
 mod iter;
-mod pending;
+mod waiters;
 
 pub use cache::ReadyCache;
 pub use iter::IterReady;

@@ -1,6 +1,6 @@
 //! The slab, and the only calls that reach one of its entries. Each reaches one entry at most, and counts one touch.
-ghost use Rattle.std.specs.Prelude.{◌≡◌, ◌+◌, ◌≤◌, ◌<◌, [], Some, None, OnOk, IsOk, OnSome, IfNone};
-ghost use Rattle.slab.specs.Slab.{get, slab_len, HasRoomFor, Updates};
+ghost use Rattle.std.specs.Prelude.{◌≡◌, ◌+◌, ◌≤◌, ◌<◌, [], Some, None, OnOk, IsOk, OnSome, IfNone, length};
+ghost use Rattle.slab.specs.Slab.{get, slab_len, ContainsKey, HasRoomFor, Updates, with_value};
 ghost use Rattle.tower_base.specs.Cells.{place_at, entry, with_place};
 ghost use Rattle.tower_base.specs.Order.{with_next, with_previous};
 
@@ -35,6 +35,7 @@ impl<T> Cells<T> {
     ghost use Rattle.std.specs.Prelude.{option_copied};
     ghost use Rattle.tower_base.specs.Cells.{value_at};
     ghost use Rattle.tower_base.specs.CellsLends.{ends_touched};
+    ghost use Rattle.tower_base.specs.declared.links.cells.Entry.{Entry};
 
     pub fn new(alloc: Global) -> Cells<T>
         ensures slots { result.slab.slots ≡ [] }
@@ -62,7 +63,8 @@ impl<T> Cells<T> {
 
     /// How many values fit with no allocation. Reaches no entry.
     pub fn capacity(&self) -> usize
-        ensures { result ≡ self.now.slab.capacity }
+        ensures value { result ≡ self.now.slab.capacity }
+        ensures slots { length self.now.slab.slots ≤ result }
     {
         self.slab.capacity()
     }
@@ -103,6 +105,20 @@ impl<T> Cells<T> {
         match self.slab.get(key) {
             Some(entry) => Some(&entry.value),
             None => None,
+        }
+    }
+
+    /// Puts another value in the place of the one under the key, and returns that one.
+    pub fn replace(&mut self, key: usize, value: T) -> T
+        requires { ContainsKey self.old.slab key }
+        ensures value { (old : Entry T) → get self.old.slab key ≡ Some old → result ≡ old.value }
+        ensures slab { (old : Entry T) → get self.old.slab key ≡ Some old → self.new.slab ≡ with_value self.old.slab key (entry value old.place) }
+        ensures touches { self.new.touches.count ≡ self.old.touches.count + 1 }
+    {
+        self.touches.tick();
+        match self.slab.get_mut(key) {
+            Some(entry) => mem::replace(&mut entry.value, value),
+            None => unreachable!(),
         }
     }
 

@@ -1,6 +1,6 @@
 //! A message that somebody still knows by its id.
 ghost use Rattle.std.specs.Prelude.{◌≡◌};
-ghost use Rattle.tower_pool.specs.Letters.{is_open, is_failed, is_cancelled, is_unsettled, lost};
+ghost use Rattle.tower_pool.specs.Letters.{bare, is_cancelled, taken_by};
 
 /// What became of a message.
 #[derive(Drop)]
@@ -17,49 +17,43 @@ pub enum Fate<F> {
     Lost,
 }
 
-/// A message that has its id. It has its request while it is queued.
+/// A message, under its id. It has its request while it is queued.
 #[derive(Drop)]
-pub struct Letter<Request, F> {
-    pub id: u64,
+pub struct Message<Request, F> {
     pub request: Option<Request>,
     pub fate: Fate<F>,
 }
 
 impl<F> Fate<F> {
-    pub(crate) fn is_open(&self) -> bool
-        ensures { result ≡ is_open self.now }
-    {
-        matches!(self, Fate::Open)
-    }
-
-    pub(crate) fn is_failed(&self) -> bool
-        ensures { result ≡ is_failed self.now }
-    {
-        matches!(self, Fate::Failed)
-    }
-
     pub(crate) fn is_cancelled(&self) -> bool
         ensures { result ≡ is_cancelled self.now }
     {
         matches!(self, Fate::Cancelled)
     }
 
-    // It has no outcome, or nobody waits for one.
-    pub(crate) fn is_unsettled(&self) -> bool
-        ensures { result ≡ is_unsettled self.now }
+    // Without its future.
+    pub(crate) fn bare(&self) -> Fate<()>
+        ensures { result ≡ bare self.now }
     {
-        matches!(self, Fate::Open | Fate::Cancelled)
+        match self {
+            Fate::Open => Fate::Open,
+            Fate::Answered(_) => Fate::Answered(()),
+            Fate::Failed => Fate::Failed,
+            Fate::Cancelled => Fate::Cancelled,
+            Fate::Lost => Fate::Lost,
+        }
     }
 }
 
-impl<Request: Drop, F: Drop> Letter<Request, F> {
-    // The worker is gone. Without an outcome it is lost.
-    pub(crate) fn lose(&mut self)
-        ensures { self.new ≡ lost self.old }
+impl<Request, F> Message<Request, F> {
+    // Of one that the worker has, which has no outcome or isn't waited for: whether it is waited for.
+    pub(crate) fn taken(&self) -> Option<bool>
+        ensures { result ≡ taken_by self.now.request self.now.fate }
     {
-        if self.fate.is_open() {
-            self.request = None;
-            self.fate = Fate::Lost;
+        match (&self.request, &self.fate) {
+            (None, Fate::Open) => Some(true),
+            (None, Fate::Cancelled) => Some(false),
+            _ => None,
         }
     }
 }

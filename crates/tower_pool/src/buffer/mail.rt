@@ -44,7 +44,7 @@ pub enum MailReply<Request, F, E> {
     Place,
     /// It isn't there yet. The asker waits under this key, or for the outcome of this message.
     Waiting(u64),
-    /// There is no room, or no further id or `Buffer`. The mail is as it was.
+    /// There is no room, or no further `Buffer`. The mail is as it was.
     Memory,
     /// The service failed, with this error.
     Failed(E),

@@ -66,9 +66,10 @@ impl<Request: Drop, F: Drop, E: Clone> Core for MailCore<Request, F, E> {
 
     ghost is_wait = { is_waiting };
 
-    /// Open mail answers `Memory` to `Reserve` only where the ids are used up, or room was missing. `Reserve`,
-    /// `Look`, `Cancel` and `Unreserve` reach at most six entries of those who wait, and `Take` at most six
-    /// for each message that leaves the queue.
+    /// Open mail answers `Memory` to `Reserve` only where room was missing. `Take` reaches at most six entries,
+    /// of the messages and of those who wait, for each message that leaves the queue, and any other step
+    /// six, whatever is stored. Closing isn't counted: `WorkerGone` reaches every message, and `Fail` drops
+    /// those who wait together with the count of their touches.
     fn step(&mut self, step: MailStep<Request, F, E>) -> MailReply<Request, F, E>
         ensures steps { StepsAs StandsFor MailSteps self.old step result self.new }
         ensures excused { step ≡ MailStep.Reserve → result ≡ MailReply.Memory → self.old.closed ≡ false → ¬ (HasRoom self.old) }

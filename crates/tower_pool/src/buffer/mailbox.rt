@@ -1,46 +1,49 @@
 //! Mail: the messages on their way to a worker, and the line for places.
-ghost use Rattle.std.specs.Prelude.{◌≡◌, ◌<◌, ◌≤◌, ◌+◌, ◌^◌, All, position, remove, unwrap_or, slice_get, slice_set, Some, None, true, filter, map, vec_len, vec_capacity, is_some, length};
-ghost use Rattle.slab.specs.Slab.{slab_len};
+ghost use Rattle.std.specs.Prelude.{◌≡◌, ◌<◌, ◌≤◌, ◌+◌, ◌^◌, ℕ, unwrap_or, Some, None, [], true, false, length};
+ghost use Rattle.slab.specs.Slab.{get, slab_len, ContainsKey, Updates};
+ghost use Rattle.tower_base.specs.Order.{has, without, first_or};
 ghost use Rattle.tower_limit.specs.Waiters.{IsPresent, outside};
-ghost use Rattle.tower_pool.specs.Letters.{Finishes, Fits, is_cancelled, is_failed, is_kept, is_known, is_open, lost, is_taken, queued_letters};
+ghost use Rattle.tower_pool.specs.Letters.{Ended, FailsTaken, Fits, fate_at, is_cancelled, is_queued, lost, taken_at};
 ghost use Rattle.tower_pool.specs.Mail.{Tells};
 ghost use Rattle.tower_pool.specs.Waiting.{Admits, are_apart};
-ghost use Rattle.tower_pool.specs.declared.buffer.letter.Letter.{Letter};
+ghost use Rattle.tower_pool.specs.declared.buffer.letter.Message.{Message};
 
-use crate::buffer::letter::{Fate, Letter};
+use crate::buffer::letter::{Fate, Message};
 use crate::buffer::mail::{MailReply, MailStep};
 use std::alloc::{AllocError, Global};
 use tower_base::links::Links;
 
-/// The messages that have their ids, in the order of sending, and those who wait for places.
+type Letters<Request, F> = Links<Message<Request, F>>;
+
+/// The messages that have their ids, which are their keys, and those who wait for places.
 ///
-/// Who has no place is linked in the order of asking. Who was granted one, and hasn't seen it, stands
-/// outside the order. Each reserved place and each waiter has room for its message, and an id.
+/// A queued message is linked in the order of sending, and any other stands outside that order. Who has no
+/// place is linked in the order of asking. Who was granted one, and hasn't seen it, stands outside that order.
+/// Each reserved place and each waiter has room for its message.
 #[derive(Drop)]
 pub(crate) struct Mailbox<Request, F, E> {
     alloc: Global,
     bound: usize,
     reserved: usize,
-    queued: usize,
     granted: usize,
     waiters: Links<()>,
-    letters: Vec<Letter<Request, F>>,
-    next_id: u64,
+    letters: Letters<Request, F>,
     buffers: u64,
     stored: Option<E>,
     closed: bool,
     has_worker: bool,
-    ghost fits: { reserved + queued + granted ≤ bound },
+    ghost limit: { bound < 2 ^ 64 },
+    ghost fits: { reserved + length letters.order + granted ≤ bound },
     // Nobody waits in the order while a place is free.
-    ghost full: { 0 < length waiters.order → reserved + queued + granted ≡ bound },
+    ghost full: { 0 < length waiters.order → reserved + length letters.order + granted ≡ bound },
     ghost apart: { are_apart waiters.order ≡ true },
     ghost present: { IsPresent waiters },
     ghost count: { length (outside waiters) ≡ granted },
     ghost places: { slab_len waiters.entries ≡ granted + length waiters.order },
-    ghost held: { queued ≡ queued_letters letters.items },
-    ghost room: { vec_len letters + reserved + slab_len waiters.entries ≤ vec_capacity letters },
-    ghost numbers: { next_id + reserved + slab_len waiters.entries < 2 ^ 64 },
-    ghost sent: { All (Fits next_id stored) letters.items },
+    ghost room: { slab_len letters.entries + reserved + slab_len waiters.entries ≤ letters.entries.capacity },
+    ghost differ: { are_apart letters.order ≡ true },
+    ghost linked: { (id : ℕ) → has letters.order id ≡ is_queued (get letters.entries id) },
+    ghost sent: { (id : ℕ) (message : Message Request F) → get letters.entries id ≡ Some message → Fits stored message },
 }
 
 impl<Request, F, E> Mailbox<Request, F, E> {
@@ -55,11 +58,9 @@ impl<Request, F, E> Mailbox<Request, F, E> {
             alloc,
             bound,
             reserved: 0,
-            queued: 0,
             granted: 0,
             waiters: Links::new(alloc),
-            letters: Vec::new(alloc),
-            next_id: 0,
+            letters: Links::new(alloc),
             buffers: 1,
             stored: None,
             closed: false,
@@ -68,7 +69,8 @@ impl<Request, F, E> Mailbox<Request, F, E> {
     }
 
     pub(crate) fn join(&mut self) -> MailReply<Request, F, E>
-        ensures { Follows self.old MailStep.Join result self.new }
+        ensures follows { Follows self.old MailStep.Join result self.new }
+        ensures touches { touches self.new ≤ touches self.old + 6 }
     {
         if self.buffers == u64::MAX {
             return MailReply::Memory;
@@ -78,7 +80,8 @@ impl<Request, F, E> Mailbox<Request, F, E> {
     }
 
     pub(crate) fn part(&mut self) -> MailReply<Request, F, E>
-        ensures { Follows self.old MailStep.Part result self.new }
+        ensures follows { Follows self.old MailStep.Part result self.new }
+        ensures touches { touches self.new ≤ touches self.old + 6 }
     {
         if self.buffers == 0 {
             return MailReply::Unknown;
@@ -89,9 +92,9 @@ impl<Request, F, E> Mailbox<Request, F, E> {
 
     // How many places are free.
     fn free(&self) -> usize
-        ensures { result + (self.now.reserved + self.now.queued + self.now.granted) ≡ self.now.bound }
+        ensures { result + (self.now.reserved + length self.now.letters.order + self.now.granted) ≡ self.now.bound }
     {
-        self.bound - (self.reserved + self.queued + self.granted)
+        self.bound - (self.reserved + self.letters.len() + self.granted)
     }
 
     pub(crate) fn cancel(&mut self, key: u64) -> MailReply<Request, F, E>
@@ -125,12 +128,11 @@ impl<Request, F, E> Mailbox<Request, F, E> {
         MailReply::Done
     }
 
-    // Waits, where no place is free. There is room for its message, and an id.
+    // Waits, where no place is free. There is room for its message.
     fn queue_up(&mut self) -> MailReply<Request, F, E>
         requires closed { self.old.closed ≡ false }
-        requires full { self.old.bound ≤ self.old.reserved + self.old.queued + self.old.granted }
-        requires room { vec_len self.old.letters + self.old.reserved + slab_len self.old.waiters.entries < vec_capacity self.old.letters }
-        requires number { self.old.next_id + self.old.reserved + slab_len self.old.waiters.entries + 1 < 2 ^ 64 }
+        requires full { self.old.bound ≤ self.old.reserved + length self.old.letters.order + self.old.granted }
+        requires room { slab_len self.old.letters.entries + self.old.reserved + slab_len self.old.waiters.entries < self.old.letters.entries.capacity }
         ensures follows { Follows self.old MailStep.Reserve result self.new }
         ensures excused { result ≡ MailReply.Memory → self.old.waiters.entries.capacity ≤ slab_len self.old.waiters.entries }
         ensures touches { touches self.new ≤ touches self.old + 6 }
@@ -155,8 +157,9 @@ impl<Request: Drop, F, E: Clone> Mailbox<Request, F, E> {
         if self.closed {
             return shut(&self.stored);
         }
+        let _capacity = self.letters.capacity();
         let promised = self.reserved + self.granted + self.waiters.len();
-        if u64::MAX - self.next_id <= promised as u64 {
+        if promised == usize::MAX {
             return MailReply::Memory;
         }
         let Ok(()) = self.letters.reserve(promised + 1) else {
@@ -190,7 +193,8 @@ impl<Request: Drop, F, E: Clone> Mailbox<Request, F, E> {
 
     pub(crate) fn send(&mut self, request: Request) -> MailReply<Request, F, E>
         requires { (x y : E) → E.is_clone x y → y ≡ x }
-        ensures { Follows self.old (MailStep.Send request) result self.new }
+        ensures follows { Follows self.old (MailStep.Send request) result self.new }
+        ensures touches { touches self.new ≤ touches self.old + 6 }
     {
         if self.reserved == 0 {
             return MailReply::Unknown;
@@ -198,16 +202,12 @@ impl<Request: Drop, F, E: Clone> Mailbox<Request, F, E> {
         if !self.has_worker {
             return self.refuse(request);
         }
-        let id = self.next_id;
-        self.letters.push_reserved(Letter {
-            id,
+        let id = self.letters.push_back(Message {
             request: Some(request),
             fate: Fate::Open,
         });
-        self.next_id += 1;
         self.reserved -= 1;
-        self.queued += 1;
-        MailReply::Sent(id)
+        MailReply::Sent(id as u64)
     }
 
     // The worker is gone. The place is used up, unless there is no memory for what is told.
@@ -215,7 +215,8 @@ impl<Request: Drop, F, E: Clone> Mailbox<Request, F, E> {
         requires same { (x y : E) → E.is_clone x y → y ≡ x }
         requires reserved { 0 < self.old.reserved }
         requires gone { self.old.has_worker ≡ false }
-        ensures { Follows self.old (MailStep.Send request) result self.new }
+        ensures follows { Follows self.old (MailStep.Send request) result self.new }
+        ensures touches { touches self.new ≤ touches self.old + 6 }
     {
         match shut(&self.stored) {
             MailReply::Memory => MailReply::Memory,
@@ -229,20 +230,20 @@ impl<Request: Drop, F, E: Clone> Mailbox<Request, F, E> {
 }
 
 impl<Request: Drop, F: Drop, E: Drop> Mailbox<Request, F, E> {
-    ghost use Rattle.std.specs.Prelude.{ℕ, nat_eq, ◌&&◌, ◌||◌};
+    ghost use Rattle.std.specs.Prelude.{nat_eq, ◌&&◌, ◌||◌};
     ghost use Rattle.tower_pool.specs.Mail.{ClearsOldest, TakesOldest};
-    ghost use Rattle.tower_pool.specs.Mailbox.{Changes, FewEach, Follows};
+    ghost use Rattle.tower_pool.specs.Mailbox.{Changes, FewEach, Follows, touches};
 
     pub(crate) fn take(&mut self) -> MailReply<Request, F, E>
         ensures follows { Follows self.old MailStep.Take result self.new }
         ensures few { FewEach self.old self.new }
     {
         let mut cleared = false;
-        'clearing: while let Some(place) = oldest(&self.letters) {
-            if !is_cancelled_at(&self.letters, place) {
-                return self.take_at(place);
+        'clearing: while let Some(first) = self.letters.front() {
+            if !is_cancelled_at(&mut self.letters, first) {
+                return self.take_first(first);
             }
-            self.clear_at(place);
+            self.clear_first(first);
             cleared = true;
         }
         if cleared {
@@ -262,79 +263,86 @@ impl<Request: Drop, F: Drop, E: Drop> Mailbox<Request, F, E> {
     }
 
     // The oldest queued message, which nobody waits for.
-    fn clear_at(&mut self, place: usize)
-        requires oldest { position (λ letter. is_some letter.request) self.old.letters.items ≡ Some place }
-        requires cancelled { (letter : Letter Request F) → slice_get self.old.letters.items place ≡ Some letter → letter.fate ≡ Fate.Cancelled }
+    fn clear_first(&mut self, id: usize)
+        requires oldest { first_or self.old.letters.order None ≡ Some id }
+        requires cancelled { (message : Message Request F) → get self.old.letters.entries id ≡ Some message → message.fate ≡ Fate.Cancelled }
         ensures clears { Changes ClearsOldest self.old self.new }
-        ensures fewer { vec_len self.new.letters + 1 ≡ vec_len self.old.letters }
-        ensures few { FewEach self.old self.new }
+        ensures fewer { length self.new.letters.order + 1 ≡ length self.old.letters.order }
+        ensures few { touches self.new ≤ touches self.old + 4 }
     {
-        strike(&mut self.letters, place);
-        self.queued -= 1;
+        self.letters.remove(id);
         admit(&mut self.waiters, &mut self.granted);
     }
 
     // The oldest queued message, which somebody waits for.
-    fn take_at(&mut self, place: usize) -> MailReply<Request, F, E>
-        requires oldest { position (λ letter. is_some letter.request) self.old.letters.items ≡ Some place }
-        requires open { (letter : Letter Request F) → slice_get self.old.letters.items place ≡ Some letter → letter.fate ≡ Fate.Open }
-        ensures takes { (id : ℕ) × (request : Request) × (result ≡ MailReply.Message id request) × Changes (λ old new. TakesOldest old id request new) self.old self.new }
-        ensures few { FewEach self.old self.new }
+    fn take_first(&mut self, id: usize) -> MailReply<Request, F, E>
+        requires oldest { first_or self.old.letters.order None ≡ Some id }
+        requires open { (message : Message Request F) → get self.old.letters.entries id ≡ Some message → message.fate ≡ Fate.Open }
+        ensures takes { (request : Request) × (result ≡ MailReply.Message id request) × Changes (λ old new. TakesOldest old id request new) self.old self.new }
+        ensures fewer { length self.new.letters.order + 1 ≡ length self.old.letters.order }
+        ensures few { touches self.new ≤ touches self.old + 5 }
     {
-        let (id, request) = open_letter(&mut self.letters, place);
-        self.queued -= 1;
+        let request = open_first(&mut self.letters, id);
         admit(&mut self.waiters, &mut self.granted);
-        MailReply::Message(id, request)
+        MailReply::Message(id as u64, request)
     }
 
     pub(crate) fn live(&mut self, id: u64) -> MailReply<Request, F, E>
-        ensures { Follows self.old (MailStep.Live id) result self.new }
+        ensures follows { Follows self.old (MailStep.Live id) result self.new }
+        ensures touches { touches self.new ≤ touches self.old + 6 }
     {
-        let Some(place) = taken(&self.letters, id) else {
+        let Some(open) = taken(&mut self.letters, id as usize) else {
             return MailReply::Unknown;
         };
-        if is_open_at(&self.letters, place) {
+        if open {
             return MailReply::Truth(true);
         }
-        strike(&mut self.letters, place);
+        self.letters.remove(id as usize);
         MailReply::Truth(false)
     }
 
     pub(crate) fn answer(&mut self, id: u64, future: F) -> MailReply<Request, F, E>
-        ensures { Follows self.old (MailStep.Answer id future) result self.new }
+        ensures follows { Follows self.old (MailStep.Answer id future) result self.new }
+        ensures touches { touches self.new ≤ touches self.old + 6 }
     {
-        let Some(place) = taken(&self.letters, id) else {
+        let Some(open) = taken(&mut self.letters, id as usize) else {
             return MailReply::Unknown;
         };
-        if is_open_at(&self.letters, place) {
-            settle(&mut self.letters, place, Fate::Answered(future));
+        if open {
+            settle(&mut self.letters, id as usize, Fate::Answered(future));
             return MailReply::Done;
         }
-        strike(&mut self.letters, place);
+        self.letters.remove(id as usize);
         MailReply::Back(future)
     }
 
     pub(crate) fn give_up(&mut self, id: u64) -> MailReply<Request, F, E>
-        ensures { Follows self.old (MailStep.Forget id) result self.new }
+        ensures follows { Follows self.old (MailStep.Forget id) result self.new }
+        ensures touches { touches self.new ≤ touches self.old + 4 }
     {
-        let Some(place) = known(&self.letters, id) else {
+        let Some(fate) = fate_of(&mut self.letters, id as usize) else {
             return MailReply::Unknown;
         };
-        if is_open_at(&self.letters, place) {
-            settle(&mut self.letters, place, Fate::Cancelled);
-            return MailReply::Done;
+        match fate {
+            Fate::Cancelled => MailReply::Unknown,
+            Fate::Open => {
+                settle(&mut self.letters, id as usize, Fate::Cancelled);
+                MailReply::Done
+            }
+            _ => {
+                self.letters.remove(id as usize);
+                MailReply::Done
+            }
         }
-        strike(&mut self.letters, place);
-        MailReply::Done
     }
 
     pub(crate) fn fail(&mut self, id: u64, error: E) -> MailReply<Request, F, E>
-        ensures { Follows self.old (MailStep.Fail id error) result self.new }
+        ensures follows { Follows self.old (MailStep.Fail id error) result self.new }
+        ensures touches { touches self.new ≤ touches self.old + 6 }
     {
-        let Some(place) = taken(&self.letters, id) else {
+        if !fail_taken(&mut self.letters, id as usize) {
             return MailReply::Unknown;
-        };
-        finish(&mut self.letters, place, Fate::Failed);
+        }
         self.waiters = Links::new(self.alloc);
         self.granted = 0;
         self.closed = true;
@@ -343,15 +351,15 @@ impl<Request: Drop, F: Drop, E: Drop> Mailbox<Request, F, E> {
     }
 
     pub(crate) fn fail_stored(&mut self, id: u64) -> MailReply<Request, F, E>
-        ensures { Follows self.old (MailStep.FailStored id) result self.new }
+        ensures follows { Follows self.old (MailStep.FailStored id) result self.new }
+        ensures touches { touches self.new ≤ touches self.old + 6 }
     {
         if self.stored.is_none() {
             return MailReply::Unknown;
         }
-        let Some(place) = taken(&self.letters, id) else {
+        if !fail_taken(&mut self.letters, id as usize) {
             return MailReply::Unknown;
-        };
-        finish(&mut self.letters, place, Fate::Failed);
+        }
         MailReply::Done
     }
 
@@ -359,7 +367,6 @@ impl<Request: Drop, F: Drop, E: Drop> Mailbox<Request, F, E> {
         ensures { Follows self.old MailStep.WorkerGone result self.new }
     {
         abandon(&mut self.letters);
-        self.queued = 0;
         self.waiters = Links::new(self.alloc);
         self.granted = 0;
         self.closed = true;
@@ -369,41 +376,52 @@ impl<Request: Drop, F: Drop, E: Drop> Mailbox<Request, F, E> {
 }
 
 impl<Request: Drop, F: Drop, E: Clone> Mailbox<Request, F, E> {
-    ghost use Rattle.tower_pool.specs.Mailbox.{Follows};
+    ghost use Rattle.tower_pool.specs.Mailbox.{Follows, touches};
 
     pub(crate) fn outcome(&mut self, id: u64) -> MailReply<Request, F, E>
         requires { (x y : E) → E.is_clone x y → y ≡ x }
-        ensures { Follows self.old (MailStep.Outcome id) result self.new }
+        ensures follows { Follows self.old (MailStep.Outcome id) result self.new }
+        ensures touches { touches self.new ≤ touches self.old + 6 }
     {
-        let Some(place) = known(&self.letters, id) else {
+        let Some(fate) = fate_of(&mut self.letters, id as usize) else {
             return MailReply::Unknown;
         };
-        if is_open_at(&self.letters, place) {
-            return MailReply::Waiting(id);
-        }
-        if is_failed_at(&self.letters, place) {
-            return self.tell_failure(id, place);
-        }
-        match strike(&mut self.letters, place) {
-            Fate::Answered(future) => MailReply::Future(future),
-            Fate::Lost => MailReply::Lost,
-            Fate::Open | Fate::Failed | Fate::Cancelled => unreachable!(),
+        match fate {
+            Fate::Cancelled => MailReply::Unknown,
+            Fate::Open => MailReply::Waiting(id),
+            Fate::Failed => self.tell_failure(id),
+            _ => self.hand_out(id),
         }
     }
 
     // The stored error. Without memory for its clone the message stays.
-    fn tell_failure(&mut self, id: u64, place: usize) -> MailReply<Request, F, E>
+    fn tell_failure(&mut self, id: u64) -> MailReply<Request, F, E>
         requires same { (x y : E) → E.is_clone x y → y ≡ x }
-        requires low { place < vec_len self.old.letters }
-        requires failed { (letter : Letter Request F) → slice_get self.old.letters.items place ≡ Some letter → (letter.id ≡ id) × (letter.fate ≡ Fate.Failed) }
-        ensures { Follows self.old (MailStep.Outcome id) result self.new }
+        requires failed { (message : Message Request F) × (get self.old.letters.entries id ≡ Some message) × (message.fate ≡ Fate.Failed) }
+        ensures follows { Follows self.old (MailStep.Outcome id) result self.new }
+        ensures touches { touches self.new ≤ touches self.old + 5 }
     {
         match shut(&self.stored) {
             MailReply::Memory => MailReply::Memory,
             reply => {
-                strike(&mut self.letters, place);
+                self.letters.remove(id as usize);
                 reply
             }
+        }
+    }
+
+    // The future of a message that was answered, or that the message was lost.
+    fn hand_out(&mut self, id: u64) -> MailReply<Request, F, E>
+        requires ended { (message : Message Request F) × (get self.old.letters.entries id ≡ Some message) × Ended message.fate }
+        ensures follows { Follows self.old (MailStep.Outcome id) result self.new }
+        ensures touches { touches self.new ≤ touches self.old + 5 }
+    {
+        let Some(Message { request: _, fate }) = self.letters.remove(id as usize) else {
+            unreachable!();
+        };
+        match fate {
+            Fate::Answered(future) => MailReply::Future(future),
+            _ => MailReply::Lost,
         }
     }
 }
@@ -426,7 +444,7 @@ fn shut<Request, F, E: Clone>(stored: &Option<E>) -> MailReply<Request, F, E>
 fn admit(waiters: &mut Links<()>, granted: &mut usize)
     requires { granted.old + 1 < 2 ^ 64 }
     ensures admits { Admits granted.old waiters.old granted.new waiters.new }
-    ensures touches { waiters.new.touches ≤ waiters.old.touches + 3 }
+    ensures touches { waiters.new.touches ≤ waiters.old.touches + 2 }
 {
     if let Some(first) = waiters.front() {
         waiters.unlink(first);
@@ -434,133 +452,130 @@ fn admit(waiters: &mut Links<()>, granted: &mut usize)
     }
 }
 
-// The message of this id, which was taken, and has no outcome or isn't waited for.
-fn taken<Request, F>(letters: &[Letter<Request, F>], id: u64) -> Option<usize>
-    ensures { result ≡ position (is_taken id) letters.now }
+// Of the message under the key, if the worker has it, and it has no outcome or isn't waited for: whether it is.
+fn taken<Request, F>(letters: &mut Letters<Request, F>, id: usize) -> Option<bool>
+    ensures taken { result ≡ taken_at (get letters.old.entries id) }
+    ensures order { letters.new.order ≡ letters.old.order }
+    ensures entries { letters.new.entries ≡ letters.old.entries }
+    ensures touches { letters.new.touches ≤ letters.old.touches + 1 }
 {
-    letters.iter().position(|letter| letter.id == id
-        && letter.request.is_none()
-        && letter.fate.is_unsettled())
+    letters.get(id)?.taken()
 }
 
-// The message of this id, if somebody may wait for it.
-fn known<Request, F>(letters: &[Letter<Request, F>], id: u64) -> Option<usize>
-    ensures { result ≡ position (is_known id) letters.now }
+// What became of the message under the key.
+fn fate_of<Request, F>(letters: &mut Letters<Request, F>, id: usize) -> Option<Fate<()>>
+    ensures fate { result ≡ fate_at (get letters.old.entries id) }
+    ensures order { letters.new.order ≡ letters.old.order }
+    ensures entries { letters.new.entries ≡ letters.old.entries }
+    ensures touches { letters.new.touches ≤ letters.old.touches + 1 }
 {
-    letters
-        .iter()
-        .position(|letter| letter.id == id && !letter.fate.is_cancelled())
+    Some(letters.get(id)?.fate.bare())
 }
 
-// The oldest message that is queued.
-fn oldest<Request, F>(letters: &[Letter<Request, F>]) -> Option<usize>
-    ensures { result ≡ position (λ letter. is_some letter.request) letters.now }
+fn is_cancelled_at<Request, F>(letters: &mut Letters<Request, F>, id: usize) -> bool
+    ensures cancelled { (message : Message Request F) → get letters.old.entries id ≡ Some message → result ≡ is_cancelled message.fate }
+    ensures order { letters.new.order ≡ letters.old.order }
+    ensures entries { letters.new.entries ≡ letters.old.entries }
+    ensures touches { letters.new.touches ≤ letters.old.touches + 1 }
 {
-    letters.iter().position(|letter| letter.request.is_some())
-}
-
-fn is_open_at<Request, F>(letters: &[Letter<Request, F>], place: usize) -> bool
-    requires { place < length letters.now }
-    ensures { (letter : Letter Request F) → slice_get letters.now place ≡ Some letter → result ≡ is_open letter.fate }
-{
-    letters[place].fate.is_open()
-}
-
-// This becomes of the message at that place.
-fn settle<Request, F: Drop>(letters: &mut Vec<Letter<Request, F>>, place: usize, fate: Fate<F>)
-    requires { place < vec_len letters.old }
-    ensures items { (letter : Letter Request F) → slice_get letters.old.items place ≡ Some letter
-        → letters.new.items ≡ slice_set letters.old.items place (record letter { fate = fate }) }
-    ensures len { vec_len letters.new ≡ vec_len letters.old }
-    ensures capacity { vec_capacity letters.new ≡ vec_capacity letters.old }
-{
-    letters[place].fate = fate;
-}
-
-// The message at that place is known no more.
-fn strike<Request: Drop, F: Drop>(letters: &mut Vec<Letter<Request, F>>, place: usize) -> Fate<F>
-    requires { place < vec_len letters.old }
-    ensures fate { (letter : Letter Request F) → slice_get letters.old.items place ≡ Some letter → result ≡ letter.fate }
-    ensures items { letters.new.items ≡ remove letters.old.items place }
-    ensures len { vec_len letters.new + 1 ≡ vec_len letters.old }
-    ensures capacity { vec_capacity letters.new ≡ vec_capacity letters.old }
-{
-    let Letter {
-        id: _,
-        request: _,
-        fate,
-    } = letters.remove(place);
-    fate
-}
-
-fn is_failed_at<Request, F>(letters: &[Letter<Request, F>], place: usize) -> bool
-    requires { place < length letters.now }
-    ensures { (letter : Letter Request F) → slice_get letters.now place ≡ Some letter → result ≡ is_failed letter.fate }
-{
-    letters[place].fate.is_failed()
-}
-
-// A message without an outcome has this one now, and any other is known no more.
-fn finish<Request: Drop, F: Drop>(
-    letters: &mut Vec<Letter<Request, F>>,
-    place: usize,
-    fate: Fate<F>,
-)
-    requires { place < vec_len letters.old }
-    ensures finishes { Finishes letters.old.items place fate letters.new.items }
-    ensures len { vec_len letters.new ≤ vec_len letters.old }
-    ensures capacity { vec_capacity letters.new ≡ vec_capacity letters.old }
-{
-    if is_open_at(letters, place) {
-        settle(letters, place, fate);
-        return;
+    match letters.get(id) {
+        Some(message) => message.fate.is_cancelled(),
+        None => false,
     }
-    strike(letters, place);
 }
 
-fn is_cancelled_at<Request, F>(letters: &[Letter<Request, F>], place: usize) -> bool
-    requires { place < length letters.now }
-    ensures { (letter : Letter Request F) → slice_get letters.now place ≡ Some letter → result ≡ is_cancelled letter.fate }
+// A message that isn't queued.
+fn out<Request, F>(fate: Fate<F>) -> Message<Request, F>
+    ensures { result ≡ record { request = None; fate = fate } }
 {
-    letters[place].fate.is_cancelled()
+    Message {
+        request: None,
+        fate,
+    }
 }
 
-// The id and the request of the message at that place, which was queued.
-fn open_letter<Request: Drop, F>(
-    letters: &mut Vec<Letter<Request, F>>,
-    place: usize,
-) -> (u64, Request)
-    requires low { place < vec_len letters.old }
-    requires queued { (letter : Letter Request F) → slice_get letters.old.items place ≡ Some letter → is_some letter.request ≡ true }
-    ensures items { (letter : Letter Request F) → slice_get letters.old.items place ≡ Some letter
-        → letters.new.items ≡ slice_set letters.old.items place (record letter { request = None }) }
-    ensures id { (letter : Letter Request F) → slice_get letters.old.items place ≡ Some letter → result.0 ≡ letter.id }
-    ensures request { (letter : Letter Request F) → slice_get letters.old.items place ≡ Some letter → letter.request ≡ Some result.1 }
-    ensures len { vec_len letters.new ≡ vec_len letters.old }
-    ensures capacity { vec_capacity letters.new ≡ vec_capacity letters.old }
+// This becomes of the message under the key.
+fn settle<Request: Drop, F: Drop>(letters: &mut Letters<Request, F>, id: usize, fate: Fate<F>)
+    requires { ContainsKey letters.old.entries id }
+    ensures entries { (message : Message Request F) → get letters.old.entries id ≡ Some message
+        → Updates letters.old.entries letters.new.entries id (Some (record message { fate = fate })) }
+    ensures order { letters.new.order ≡ letters.old.order }
+    ensures len { slab_len letters.new.entries ≡ slab_len letters.old.entries }
+    ensures capacity { letters.new.entries.capacity ≡ letters.old.entries.capacity }
+    ensures touches { letters.new.touches ≤ letters.old.touches + 2 }
 {
-    let id = letters[place].id;
-    let Some(request) = letters[place].request.take() else {
-        unreachable!();
+    let Message { request, fate: _ } = letters.replace(id, out(Fate::Open));
+    letters.replace(id, Message { request, fate });
+}
+
+// The request of the oldest queued message, which the worker has now.
+fn open_first<Request: Drop, F: Drop>(letters: &mut Letters<Request, F>, id: usize) -> Request
+    requires oldest { first_or letters.old.order None ≡ Some id }
+    requires queued { is_queued (get letters.old.entries id) ≡ true }
+    requires open { (message : Message Request F) → get letters.old.entries id ≡ Some message → message.fate ≡ Fate.Open }
+    ensures request { get letters.old.entries id ≡ Some (record { request = Some result; fate = Fate.Open }) }
+    ensures entries { Updates letters.old.entries letters.new.entries id (Some (record { request = None; fate = Fate.Open })) }
+    ensures order { letters.new.order ≡ without letters.old.order id }
+    ensures len { slab_len letters.new.entries ≡ slab_len letters.old.entries }
+    ensures capacity { letters.new.entries.capacity ≡ letters.old.entries.capacity }
+    ensures touches { letters.new.touches ≤ letters.old.touches + 3 }
+{
+    letters.unlink(id);
+    let Message { request, fate: _ } = letters.replace(id, out(Fate::Open));
+    match request {
+        Some(request) => request,
+        None => unreachable!(),
+    }
+}
+
+// Whether the worker has the message under the key. It has failed, or is known no more if nobody waits for it.
+fn fail_taken<Request: Drop, F: Drop>(letters: &mut Letters<Request, F>, id: usize) -> bool
+    ensures unknown { result ≡ false → taken_at (get letters.old.entries id) ≡ None }
+    ensures kept { result ≡ false → (letters.new.order ≡ letters.old.order) × (letters.new.entries ≡ letters.old.entries) }
+    ensures fails { result ≡ true → FailsTaken letters.old id letters.new }
+    ensures len { slab_len letters.new.entries ≤ slab_len letters.old.entries }
+    ensures capacity { letters.new.entries.capacity ≡ letters.old.entries.capacity }
+    ensures touches { letters.new.touches ≤ letters.old.touches + 4 }
+{
+    let Some(open) = taken(letters, id) else {
+        return false;
     };
-    (id, request)
+    if open {
+        settle(letters, id, Fate::Failed);
+    } else {
+        letters.remove(id);
+    }
+    true
 }
 
 // The worker is gone: those without an outcome are lost, and those that nobody waits for are gone.
-fn abandon<Request: Drop, F: Drop>(letters: &mut Vec<Letter<Request, F>>)
-    ensures items { letters.new.items ≡ filter is_kept (map lost letters.old.items) }
-    ensures len { vec_len letters.new ≤ vec_len letters.old }
-    ensures capacity { vec_capacity letters.new ≡ vec_capacity letters.old }
+fn abandon<Request: Drop, F: Drop>(letters: &mut Letters<Request, F>)
+    requires linked { (id : ℕ) → has letters.old.order id ≡ is_queued (get letters.old.entries id) }
+    ensures order { letters.new.order ≡ [] }
+    ensures entries { (id : ℕ) → get letters.new.entries id ≡ lost (get letters.old.entries id) }
+    ensures len { slab_len letters.new.entries ≤ slab_len letters.old.entries }
+    ensures capacity { letters.new.entries.capacity ≡ letters.old.entries.capacity }
 {
-    lose_each(letters);
-    letters.retain(|letter| !letter.fate.is_cancelled());
+    for id in 0..letters.capacity() {
+        lose_at(letters, id);
+    }
 }
 
-fn lose_each<Request: Drop, F: Drop>(letters: &mut [Letter<Request, F>])
-    ensures { letters.new ≡ map lost letters.old }
+fn lose_at<Request: Drop, F: Drop>(letters: &mut Letters<Request, F>, id: usize)
+    ensures order { letters.new.order ≡ without letters.old.order id }
+    ensures entries { Updates letters.old.entries letters.new.entries id (lost (get letters.old.entries id)) }
+    ensures len { slab_len letters.new.entries ≤ slab_len letters.old.entries }
+    ensures capacity { letters.new.entries.capacity ≡ letters.old.entries.capacity }
 {
-    for letter in letters.iter_mut() {
-        letter.lose();
+    letters.unlink(id);
+    match fate_of(letters, id) {
+        Some(Fate::Open) => {
+            letters.replace(id, out(Fate::Lost));
+        }
+        Some(Fate::Cancelled) => {
+            letters.remove(id);
+        }
+        _ => {}
     }
 }
 

@@ -1,5 +1,5 @@
 //! The cache of endpoints.
-ghost use Rattle.std.specs.Prelude.{◌≡◌, ◌<◌, ◌+◌, ◌++◌, ◌||◌, ◌↔◌, [], ◌∷◌, length, slice_get, is_some, true, false, Some, IsTrue, IfSome, OnOk, OnErr, IfErr, IfOk, if◌then◌else◌};
+ghost use Rattle.std.specs.Prelude.{cond, None, ◌≡◌, ◌<◌, ◌+◌, ◌*◌, ◌≤◌, ◌++◌, ◌||◌, ◌↔◌, [], ◌∷◌, length, slice_get, is_some, true, false, Some, IsTrue, IfSome, OnOk, OnErr, IfErr, IfOk, if◌then◌else◌};
 ghost use Rattle.std.specs.List.{IsDistinct};
 ghost use Rattle.std.specs.Map.{keys_of, lookup};
 ghost use Rattle.std.specs.Map.Iter.{deref_pair};
@@ -9,11 +9,12 @@ ghost use Rattle.futures.specs.Task.{IsArmed, Keeps};
 ghost use Rattle.futures.specs.declared.task.Poll.TheVariants.{Ready};
 ghost use Rattle.indexmap.specs.IndexMap.{swap_remove_entry};
 ghost use Rattle.tower_pool.specs.ReadyCache.{awaited, cancel, place, waiting, Apart, At, AtKey, Called, Checked, CheckedKey, Sound};
-ghost use Rattle.tower_pool.specs.ReadyCachePoll.{AskedAt, PendingPolled};
+ghost use Rattle.tower_pool.specs.ReadyCachePoll.{AskedFirst, PendingPolled};
+ghost use Rattle.tower_pool.specs.Waiters.{Holds, cache_of};
 
 use crate::ready_cache::error::{Error, Failed};
 use crate::ready_cache::iter::IterReady;
-use crate::ready_cache::pending::{Pending, awaited, cancel, put_back};
+use crate::ready_cache::waiters::Waiters;
 use futures::task::{Context, Poll};
 use indexmap::IndexMap;
 use std::alloc::Global;
@@ -31,28 +32,19 @@ use tower_base::service::Service;
 #[derive(Drop)]
 pub struct ReadyCache<K: Eq + Hash + Clone, S, Req> {
     ready: IndexMap<K, S>,
-    pending: Vec<Pending<K, S>>,
+    pending: Waiters<K, S>,
     of: PhantomData<Req>,
 }
 
 impl<K: Eq + Hash + Clone, S, Req> Model for ReadyCache<K, S, Req> {
-    ghost use Rattle.std.specs.Vec.{vec_capacity};
     ghost use Rattle.tower_pool.specs.ReadyCache.{Kept, ReadyCacheView};
+    ghost use Rattle.tower_pool.specs.Waiters.{knows};
 
     ghost Value = { ReadyCacheView K S };
 
     ghost view = { λ c. record { ready = c.ready.entries; pending = c.pending.items } };
 
-    ghost invariant = { λ c. Kept K.eq K.is_clone c.ready.entries c.pending.items (vec_capacity c.pending) };
-}
-
-// Removes the key's ready endpoint, whose place the last one takes. Answers whether there was one.
-fn take_out<K: Eq + Hash + Drop, S: Drop>(ready: &mut IndexMap<K, S>, key: &K) -> bool
-    ensures found { result ≡ is_some (lookup (K.eq key.now) ready.old.entries) }
-    ensures entries { ready.new.entries ≡ swap_remove_entry (K.eq key.now) ready.old.entries }
-    ensures len { length ready.new.entries + (if result then 1 else 0) ≡ length ready.old.entries }
-{
-    ready.swap_remove(key).is_some()
+    ghost invariant = { λ c. Kept K.eq K.is_clone c.ready.entries c.pending.items (knows K.eq c.pending) c.pending.room };
 }
 
 impl<K: Eq + Hash + Clone + Drop, S: Service<Req>, Req> ReadyCache<K, S, Req> {
@@ -64,7 +56,7 @@ impl<K: Eq + Hash + Clone + Drop, S: Service<Req>, Req> ReadyCache<K, S, Req> {
     {
         ReadyCache {
             ready: IndexMap::new(alloc),
-            pending: Vec::new(alloc),
+            pending: Waiters::new(alloc),
             of: PhantomData,
         }
     }
@@ -103,7 +95,7 @@ impl<K: Eq + Hash + Clone + Drop, S: Service<Req>, Req> ReadyCache<K, S, Req> {
     pub fn pending_contains(&self, key: &K) -> bool
         ensures { result ≡ awaited K.eq key.now self.now.pending }
     {
-        awaited(&self.pending, key)
+        self.pending.awaited(key)
     }
 
     /// The key's ready endpoint: its index, its key as it was pushed, and its service.
@@ -138,15 +130,7 @@ impl<K: Eq + Hash + Clone + Drop, S: Service<Req>, Req> ReadyCache<K, S, Req> {
         ensures given_back { IfErr result (λ back. back ≡ (key, service)) }
         ensures sound { Sound S.sound self.old → S.sound service → Sound S.sound self.new }
     {
-        let more = self.ready.len() + 1;
-        match self.pending.reserve(more) {
-            Ok(()) => {
-                cancel(&mut self.pending, &key);
-                self.pending.push_reserved(Pending::new(key, service));
-                Ok(())
-            }
-            Err(_) => Err((key, service)),
-        }
+        self.pending.push(key, service, self.ready.len() + 1)
     }
 
     /// Cancels the key's pending endpoint and removes its ready one, whose place the last one takes. Answers whether
@@ -157,40 +141,85 @@ impl<K: Eq + Hash + Clone + Drop, S: Service<Req>, Req> ReadyCache<K, S, Req> {
         ensures pending { self.new.pending ≡ cancel K.eq key.now self.old.pending }
         ensures sound { Sound S.sound self.old → Sound S.sound self.new }
     {
-        let was_pending = cancel(&mut self.pending, key);
-        let was_ready = take_out(&mut self.ready, key);
+        let was_pending = self.pending.evict(key);
+        let was_ready = self.ready.swap_remove(key).is_some();
         was_pending || was_ready
     }
 
-    // Asks the pending endpoint at the index, unless it is cancelled. Answers whether it is pending still.
-    fn ask(&mut self, cx: &mut Context<'_>, index: usize) -> Result<bool, Error<K, S::Error>>
-        requires sound { Sound S.sound self.old }
-        requires within { index < length self.old.pending }
-        ensures asked { AskedAt K.eq S.Service self.old index result self.new }
-        ensures len { IfOk result (λ waits. length self.new.pending + (if waits then 0 else 1) ≡ length self.old.pending) }
-        ensures sound { Sound S.sound self.new }
+    // Asks the pending endpoint that waits longest, unless it is cancelled, and puts it last where it waits still. Answers
+    // whether it does.
+    fn ask(
+        ready: &mut IndexMap<K, S>,
+        pending: &mut Waiters<K, S>,
+        cx: &mut Context<'_>,
+    ) -> Result<bool, Error<K, S::Error>>
+        requires held { Holds K.eq K.is_clone ready.old.entries pending.old }
+        requires sound { Sound S.sound (cache_of ready.old.entries pending.old) }
+        requires some { 0 < length pending.old.items }
+        ensures held { Holds K.eq K.is_clone ready.new.entries pending.new }
+        ensures asked { AskedFirst K.eq S.Service (cache_of ready.old.entries pending.old) result (cache_of ready.new.entries pending.new) }
+        ensures sound { Sound S.sound (cache_of ready.new.entries pending.new) }
         ensures armed { result ≡ Ok true → IsArmed cx.new }
         ensures kept { Keeps cx.old cx.new }
+        ensures touches { pending.new.touches ≤ pending.old.touches + 5 }
     {
-        if self.pending[index].is_cancelled() {
-            let _ = self.pending.remove(index);
+        let (key, mut service, is_cancelled) = pending.take_first().unwrap();
+        if is_cancelled {
             return Ok(false);
         }
-        if self.ready.reserve(1).is_err() {
+        if ready.reserve(1).is_err() {
+            pending.append((key, service, false));
             return Err(Error::Memory);
         }
-        match self.pending[index].poll(cx) {
-            Poll::Pending => Ok(true),
+        match service.poll_ready(cx) {
+            Poll::Pending => {
+                pending.append((key, service, false));
+                Ok(true)
+            }
             Poll::Ready(Ok(())) => {
-                let (key, service) = self.pending.remove(index).into_parts();
-                let _ = self.ready.insert(key, service).unwrap();
+                let _ = ready.insert(key, service).unwrap();
                 Ok(false)
             }
             Poll::Ready(Err(error)) => {
-                let (key, _) = self.pending.remove(index).into_parts();
+                pending.let_go(&key, ready.contains_key(&key));
                 Err(Error::Failed(key, error))
             }
         }
+    }
+
+    // Asks each one so, by at most five touches for each one that was pending.
+    fn ask_each(
+        ready: &mut IndexMap<K, S>,
+        pending: &mut Waiters<K, S>,
+        cx: &mut Context<'_>,
+    ) -> Poll<Result<(), Error<K, S::Error>>>
+        requires held { Holds K.eq K.is_clone ready.old.entries pending.old }
+        requires sound { Sound S.sound (cache_of ready.old.entries pending.old) }
+        ensures held { Holds K.eq K.is_clone ready.new.entries pending.new }
+        ensures polled { PendingPolled K.eq S.Service (cache_of ready.old.entries pending.old) result (cache_of ready.new.entries pending.new) }
+        ensures done { result ≡ Ready (Ok tt) → pending.new.items ≡ [] }
+        ensures sound { Sound S.sound (cache_of ready.new.entries pending.new) }
+        ensures armed { OnPending result (IsArmed cx.new) }
+        ensures kept { Keeps cx.old cx.new }
+        ensures touches { pending.new.touches ≤ pending.old.touches + 5 * length pending.old.items }
+    {
+        let mut waits = false;
+        let mut left = pending.len();
+        while left > 0 {
+            left -= 1;
+            match Self::ask(ready, pending, cx) {
+                Ok(true) => waits = true,
+                Ok(false) => {}
+                Err(error) => {
+                    pending.rotate(left);
+                    return Poll::Ready(Err(error));
+                }
+            }
+        }
+        if waits {
+            return Poll::Pending;
+        }
+        Poll::Ready(Ok(()))
     }
 
     /// Asks each pending endpoint once, longest waiting first, but drops the cancelled ones unasked.
@@ -207,19 +236,7 @@ impl<K: Eq + Hash + Clone + Drop, S: Service<Req>, Req> ReadyCache<K, S, Req> {
         ensures armed { OnPending result (IsArmed cx.new) }
         ensures kept { Keeps cx.old cx.new }
     {
-        let mut index = 0usize;
-        while index < self.pending_len() {
-            match self.ask(cx, index) {
-                Ok(true) => index += 1,
-                Ok(false) => {}
-                Err(error) => return Poll::Ready(Err(error)),
-            }
-        }
-        if index == 0 {
-            Poll::Ready(Ok(()))
-        } else {
-            Poll::Pending
-        }
+        Self::ask_each(&mut self.ready, &mut self.pending, cx)
     }
 
     /// Asks the key's ready endpoint whether it is still ready. `Ok(false)` where the key has none. One that isn't ready
@@ -264,11 +281,12 @@ impl<K: Eq + Hash + Clone + Drop, S: Service<Req>, Req> ReadyCache<K, S, Req> {
             Poll::Ready(Ok(())) => Ok(true),
             Poll::Ready(Err(error)) => {
                 let (key, _) = self.ready.swap_remove_index(index).unwrap();
+                self.pending.let_go(&key, false);
                 Err(Failed(key, error))
             }
             Poll::Pending => {
                 let (key, service) = self.ready.swap_remove_index(index).unwrap();
-                put_back(&mut self.pending, key, service);
+                self.pending.put_back(key, service);
                 Ok(false)
             }
         }
@@ -298,7 +316,7 @@ impl<K: Eq + Hash + Clone + Drop, S: Service<Req>, Req> ReadyCache<K, S, Req> {
     {
         let (key, mut service) = self.ready.swap_remove_index(index).unwrap();
         let future = service.call(request);
-        put_back(&mut self.pending, key, service);
+        self.pending.put_back(key, service);
         future
     }
 }
@@ -313,10 +331,8 @@ impl<K: Eq + Hash + Clone + Drop, S: Service<Req>, Req> ReadyCache<K, S, Req> {
         ensures* writes_back { sem 𝓛 (LendsReady K.row S.row Req.row K.Hash K.Clone self.entry (place K.eq key.now self.old.ready) result) }
         ensures value { option_copied_mut result ≡ lookup (K.eq key.now) self.old.ready }
     {
-        match self.ready.get_index_of(key) {
-            Some(index) => self.ready.get_index_mut(index),
-            None => None,
-        }
+        let index = self.ready.get_index_of(key)?;
+        self.ready.get_index_mut(index)
     }
 
     /// The service of the ready endpoint at the index, to be changed.

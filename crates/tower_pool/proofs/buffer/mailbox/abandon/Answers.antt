@@ -1,15 +1,22 @@
-use Rattle.std.proofs.Common.{◌≡◌, ◌∙◌, ◌++◌, ap, arith, drop, filter, length, map, rules, take}
-use Rattle.std.proofs.Math.Seq.{take-append_seam}
-use Rattle.std.proofs.lemmas.Fn.{filter_same}
-use Rattle.std.proofs.lemmas.List.{length-map}
-use Rattle.tower_pool.specs.Letters.{is_kept, lost}
+use Rattle.std.proofs.Common.{arith}
+use Rattle.tower_pool.proofs.Abandoned.{walked_entries, walked_more, walked_none, walked_order}
 use Rattle.tower_pool.proofs.buffer.mailbox.abandon.Goals as goal
 
-pub returns-clause-items : goal.returns-clause-items
-returns-clause-items g c =
-    let xs = c.lose_each.new.letters in
-    let ys = drop (length xs) c.args.letters.now.items in
-    let all = c.lose_each.ensures ∙ ap (map lost) c.deref_mut.ensures.value in
-    let whole : c.args.letters.now.len ≡ length xs = omega (arith, ap length all, length-map c.args.letters.now.items lost) in
-    filter_same _ is_kept _ (λ x b f' k. search rules) _ _ c.retain.ensures.filtered
-    ∙ ap (filter is_kept) (ap (λ n. take n (xs ++ ys)) whole ∙ take-append_seam xs ys ∙ all)
+pub loop-id-init : goal.loop-id-init
+loop-id-init g c = walked_none c.args.letters.now
+
+pub loop-id-preserved : goal.loop-id-preserved
+loop-id-preserved g c =
+    walked_more c.args.letters.now c.loop-id.letters c.lose_at.new.letters c.loop-id.id c.loop-id.invariant c.lose_at.ensures.order c.lose_at.ensures.entries c.lose_at.ensures.len c.lose_at.ensures.capacity
+
+pub returns-clause-order : goal.returns-clause-order
+returns-clause-order g c = walked_order c.args.letters.now c.loop-id.letters c.loop-id.id c.loop-id.invariant (omega (arith, c.capacity-id-end.ensures.slots, c.loop-id-test.false, c.loop-id.auto.id-end)) c.requires.linked
+
+pub returns-clause-entries : goal.returns-clause-entries
+returns-clause-entries g c = walked_entries c.args.letters.now c.loop-id.letters c.loop-id.id c.loop-id.invariant (omega (arith, c.capacity-id-end.ensures.slots, c.loop-id-test.false, c.loop-id.auto.id-end))
+
+pub returns-clause-len : goal.returns-clause-len
+returns-clause-len g c = c.loop-id.invariant.len
+
+pub returns-clause-capacity : goal.returns-clause-capacity
+returns-clause-capacity g c = c.loop-id.invariant.capacity

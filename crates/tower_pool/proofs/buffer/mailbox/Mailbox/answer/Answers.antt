@@ -1,89 +1,104 @@
-use Rattle.std.proofs.Common.{◌≡◌, ◌∙◌, None, Some, position, slice_set, refl, sym, ap, arith}
-use Rattle.tower_pool.specs.Letters.{Fits, is_taken, queued_letters}
-use Rattle.tower_pool.specs.Mail.{Entry, IsTaken}
+use Rattle.std.proofs.Common.{◌+◌, ◌∙◌, Some, length, slice_set, refl, sym, ap, arith}
+use Rattle.slab.specs.Slab.{Slab, get, slab_len}
+use Rattle.tower_pool.specs.Mail.{Entry}
+use Rattle.tower_pool.specs.Mailbox.{known}
 use Rattle.tower_pool.specs.declared.buffer.letter.Fate.TheVariants.{Answered, Cancelled}
-use Rattle.tower_pool.specs.declared.buffer.letter.Letter.{Letter}
-use Rattle.tower_pool.proofs.Messages.{holds_at}
-use Rattle.tower_pool.proofs.Moves.{there, not_there}
-use Rattle.tower_pool.proofs.Positions.{at_position, changed, closed_now, fewer, not_taken, one_queued, open_is, taken_tells}
+use Rattle.tower_pool.specs.declared.buffer.letter.Message.{Message}
+use Rattle.tower_pool.proofs.Fates.{taken_cancelled, taken_open}
+use Rattle.tower_pool.proofs.LineMoves.{stands_as}
+use Rattle.tower_pool.proofs.Messages.{Sorted}
+use Rattle.tower_pool.proofs.Moves.{changed, gone, read, removed, resettled}
 use Rattle.tower_pool.proofs.buffer.mailbox.Mailbox.answer.Goals as goal
-
-pub returns-in_default : goal.returns-in_default
-returns-in_default g c = λ messages line p s.
-    let old = c.args.self.now in
-    let e : position (is_taken c.args.id) old.letters.items ≡ None = cc (c.in_default.ensures, c.deref.ensures.value) in
-    (messages, line, (not_there IsTaken messages old.letters.items (is_taken c.args.id) c.args.id p e (not_taken c.args.id), refl), p, s)
-
-pub returns-then-is_open_at : goal.returns-then-is_open_at
-returns-then-is_open_at g c = λ messages line p s.
-    let old = c.args.self.now in
-    let e : position (is_taken c.args.id) old.letters.items ≡ Some c.in-Some.place = cc (c.in-Some.ensures, c.deref.ensures.value) in
-    let t = there messages old.letters.items (is_taken c.args.id) c.in-Some.place p e in
-    let w = taken_tells c.args.id t.letter t.is in
-    let o = sym (c.is_open_at.ensures t.letter (rw c.deref-2.ensures.value t.item)) ∙ c.if-is_open_at.true in
-    let now : Letter _ _ = record t.letter { fate = Answered c.args.future } in
-    let news = c.settle.ensures.items t.letter t.item in
-    let well = changed old.next_id old.stored old.letters.items c.in-Some.place t.letter now t.item old.sent refl
-    ((holds_at (Fits old.next_id old.stored) old.letters.items c.in-Some.place t.letter old.sent t.item).0, (λ failed. absurd (cc)), (λ settled. w.1)) in (
-      slice_set messages t.spot (Entry.here now),
-      line,
-      (t.spot, t.letter, (t.at, w.0, w.1), open_is t.letter.fate o, refl),
-      t.changes now ∙ sym news,
-      s,
-    )
 
 pub invariant_of-self : goal.invariant_of-self
 invariant_of-self g c =
     let old = c.args.self.now in
-    let e : position (is_taken c.args.id) old.letters.items ≡ Some c.in-Some.place = cc (c.in-Some.ensures, c.deref.ensures.value) in
-    let a = at_position (is_taken c.args.id) old.letters.items c.in-Some.place e in
-    let w = taken_tells c.args.id a.0 a.2 in
-    let now : Letter _ _ = record a.0 { fate = Answered c.args.future } in
-    let news = c.settle.ensures.items a.0 a.1 in
-    let well = changed old.next_id old.stored old.letters.items c.in-Some.place a.0 now a.1 old.sent refl
-    ((holds_at (Fits old.next_id old.stored) old.letters.items c.in-Some.place a.0 old.sent a.1).0, (λ failed. absurd (cc)), (λ settled. w.1)) in record {
-      fits = old.fits;
-      full = old.full;
+    let was : Sorted old.stored old.letters = record { differ = old.differ; linked = old.linked; sent = old.sent } in
+    let now = read old.stored old.letters c.taken.new.letters was c.taken.ensures.order c.taken.ensures.entries in
+    record {
+      limit = old.limit;
+      fits = omega (arith, old.fits, ap length c.taken.ensures.order);
+      full = λ waits. omega (arith, old.full waits, ap length c.taken.ensures.order);
       apart = old.apart;
       present = old.present;
       count = old.count;
       places = old.places;
-      held = omega (arith, old.held, well.queued, ap queued_letters news);
-      room = omega (arith, old.room, c.settle.ensures.len, c.settle.ensures.capacity);
-      numbers = old.numbers;
-      sent = rw news well.fit;
+      room = omega (arith, old.room, ap slab_len c.taken.ensures.entries, ap (λ (e : Slab (Message _ _)). e.capacity) c.taken.ensures.entries);
+      differ = now.differ;
+      linked = now.linked;
+      sent = now.sent;
     }
+
+pub invariant_of-self-then-open : goal.invariant_of-self-then-open
+invariant_of-self-then-open g c =
+    let old = c.args.self.now in
+    let was : Sorted old.stored old.letters = record { differ = old.differ; linked = old.linked; sent = old.sent } in
+    let t = taken_open (get old.letters.entries c.args.id) (sym c.in-Some.ensures.taken ∙ ap Some c.if-open.true) in
+    let now : Message _ _ = record t.message { fate = Answered c.args.future } in
+    let d = resettled old.stored old.letters c.taken.new.letters c.settle.new.letters c.args.id t.message was t.is c.taken.ensures.order c.taken.ensures.entries c.settle.ensures.capacity
+    now refl ((λ failed. absurd (cc)), (λ settled. t.out)) (c.settle.ensures.entries t.message (ap (λ e. get e c.args.id) c.taken.ensures.entries ∙ t.is)) c.settle.ensures.order c.settle.ensures.len in
+    record {
+      limit = old.limit;
+      fits = omega (arith, old.fits, d.size);
+      full = λ waits. omega (arith, old.full waits, d.size);
+      apart = old.apart;
+      present = old.present;
+      count = old.count;
+      places = old.places;
+      room = omega (arith, old.room, d.len, d.capacity);
+      differ = d.sorted.differ;
+      linked = d.sorted.linked;
+      sent = d.sorted.sent;
+    }
+
+pub returns-then-open-clause-follows : goal.returns-then-open-clause-follows
+returns-then-open-clause-follows g c = λ messages line h s.
+    let old = c.args.self.now in
+    let was : Sorted old.stored old.letters = record { differ = old.differ; linked = old.linked; sent = old.sent } in
+    let t = taken_open (get old.letters.entries c.args.id) (sym c.in-Some.ensures.taken ∙ ap Some c.if-open.true) in
+    let now : Message _ _ = record t.message { fate = Answered c.args.future } in
+    let d = resettled old.stored old.letters c.taken.new.letters c.settle.new.letters c.args.id t.message was t.is c.taken.ensures.order c.taken.ensures.entries c.settle.ensures.capacity
+    now refl ((λ failed. absurd (cc)), (λ settled. t.out)) (c.settle.ensures.entries t.message (ap (λ e. get e c.args.id) c.taken.ensures.entries ∙ t.is)) c.settle.ensures.order c.settle.ensures.len in
+    let r = changed messages old.letters c.settle.new.letters c.args.id t.message t.is h now refl d.updates d.ordered in (
+      slice_set messages r.place (Entry.here (known c.args.id now)),
+      line,
+      (r.place, known c.args.id t.message, (r.at, refl, t.out), t.fate_is, refl),
+      r.holds,
+      stands_as old.bound (old.reserved + length old.letters.order) (old.reserved + length c.settle.new.letters.order) old.granted old.waiters line (omega (arith, d.size)) s,
+    )
 
 pub invariant_of-self-2 : goal.invariant_of-self-2
 invariant_of-self-2 g c =
     let old = c.args.self.now in
-    let e : position (is_taken c.args.id) old.letters.items ≡ Some c.in-Some.place = cc (c.in-Some.ensures, c.deref.ensures.value) in
-    let a = at_position (is_taken c.args.id) old.letters.items c.in-Some.place e in
-    let w = taken_tells c.args.id a.0 a.2 in
-    let less = fewer old.next_id old.stored old.letters.items c.in-Some.place a.0 a.1 old.sent in record {
-      fits = old.fits;
-      full = old.full;
+    let was : Sorted old.stored old.letters = record { differ = old.differ; linked = old.linked; sent = old.sent } in
+    let t = taken_cancelled (get old.letters.entries c.args.id) (sym c.in-Some.ensures.taken ∙ ap Some c.if-open.false) in
+    let d = removed old.stored old.letters c.taken.new.letters c.remove.new.self c.args.id t.message was t.is c.taken.ensures.order c.taken.ensures.entries c.remove.ensures.capacity
+    t.out c.remove.ensures.entries c.remove.ensures.order c.remove.result c.remove.ensures.value c.remove.ensures.len in
+    record {
+      limit = old.limit;
+      fits = omega (arith, old.fits, d.size);
+      full = λ waits. omega (arith, old.full waits, d.size);
       apart = old.apart;
       present = old.present;
       count = old.count;
       places = old.places;
-      held = omega (arith, old.held, less.queued, ap one_queued w.1, ap queued_letters c.strike.ensures.items);
-      room = omega (arith, old.room, c.strike.ensures.len, c.strike.ensures.capacity);
-      numbers = old.numbers;
-      sent = rw c.strike.ensures.items less.fit;
+      room = omega (arith, old.room, d.len, d.capacity);
+      differ = d.sorted.differ;
+      linked = d.sorted.linked;
+      sent = d.sorted.sent;
     }
 
-pub returns : goal.returns
-returns g c = λ messages line p s.
+pub returns-clause-follows : goal.returns-clause-follows
+returns-clause-follows g c = λ messages line h s.
     let old = c.args.self.now in
-    let e : position (is_taken c.args.id) old.letters.items ≡ Some c.in-Some.place = cc (c.in-Some.ensures, c.deref.ensures.value) in
-    let t = there messages old.letters.items (is_taken c.args.id) c.in-Some.place p e in
-    let w = taken_tells c.args.id t.letter t.is in
-    let o = sym (c.is_open_at.ensures t.letter (rw c.deref-2.ensures.value t.item)) ∙ c.if-is_open_at.false in
-    let less = fewer old.next_id old.stored old.letters.items c.in-Some.place t.letter t.item old.sent in (
-      slice_set messages t.spot (Entry.gone Cancelled),
+    let was : Sorted old.stored old.letters = record { differ = old.differ; linked = old.linked; sent = old.sent } in
+    let t = taken_cancelled (get old.letters.entries c.args.id) (sym c.in-Some.ensures.taken ∙ ap Some c.if-open.false) in
+    let d = removed old.stored old.letters c.taken.new.letters c.remove.new.self c.args.id t.message was t.is c.taken.ensures.order c.taken.ensures.entries c.remove.ensures.capacity
+    t.out c.remove.ensures.entries c.remove.ensures.order c.remove.result c.remove.ensures.value c.remove.ensures.len in
+    let r = gone messages old.letters c.remove.new.self c.args.id t.message t.is h (old.linked c.args.id) t.out d.updates d.ordered in (
+      slice_set messages r.place (Entry.gone Cancelled),
       line,
-      (t.spot, t.letter, (t.at, w.0, w.1), closed_now t.letter.fate w.2 o, refl, refl),
-      t.leaves Cancelled ∙ sym c.strike.ensures.items,
-      s,
+      (r.place, known c.args.id t.message, (r.at, refl, t.out), t.fate_is, refl, refl),
+      r.holds Cancelled,
+      stands_as old.bound (old.reserved + length old.letters.order) (old.reserved + length c.remove.new.self.order) old.granted old.waiters line (omega (arith, d.size)) s,
     )

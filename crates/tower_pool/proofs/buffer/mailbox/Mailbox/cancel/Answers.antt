@@ -15,15 +15,16 @@ invariant_of-self g c =
     let lacks : has old.waiters.order c.args.key ≡ false = absent_lacks old.waiters c.args.key old.present none in
     let size : length new.order ≡ length old.waiters.order = ap length (c.remove.ensures.order ∙ without_lacks old.waiters.order c.args.key lacks) in
     record {
+      limit = old.limit;
       fits = old.fits;
       full = λ some. old.full (omega (arith, some, size));
       apart = kept_apart old.granted new k;
       present = kept_present old.granted new k;
       count = kept_count old.granted new k;
       places = omega (arith, ap slab_len c.in_default.ensures.absent, old.places, size);
-      held = old.held;
       room = omega (arith, old.room, ap slab_len c.in_default.ensures.absent);
-      numbers = omega (arith, old.numbers, ap slab_len c.in_default.ensures.absent);
+      differ = old.differ;
+      linked = old.linked;
       sent = old.sent;
     }
 
@@ -45,15 +46,16 @@ invariant_of-self-then-len-waiting g c =
     let k0 : Kept old.granted old.waiters = kept_from old.granted old.waiters old.apart old.present old.count in
     let k : Kept old.granted new = kept_left old.granted old.waiters new k0 c.args.key c.remove.ensures.entries c.remove.ensures.order h in
     record {
+      limit = old.limit;
       fits = old.fits;
       full = λ more. old.full (has_some old.waiters.order c.args.key h);
       apart = kept_apart old.granted new k;
       present = kept_present old.granted new k;
       count = kept_count old.granted new k;
       places = omega (arith, c.in-Some.ensures.len, old.places, length_without old.waiters.order c.args.key (apart_is old.waiters.order old.apart) h, ap length c.remove.ensures.order);
-      held = old.held;
       room = omega (arith, old.room, c.in-Some.ensures.len);
-      numbers = omega (arith, old.numbers, c.in-Some.ensures.len);
+      differ = old.differ;
+      linked = old.linked;
       sent = old.sent;
     }
 
@@ -61,7 +63,7 @@ pub returns-then-len-waiting-clause-follows : goal.returns-then-len-waiting-clau
 returns-then-len-waiting-clause-follows g c = λ messages line p s.
     let old = c.args.self.now in
     let h : has old.waiters.order c.args.key ≡ true = shorter old.waiters.order c.args.key (omega (arith, c.if-len-waiting.true, c.len.ensures, c.len-waiting.ensures, ap length c.remove.ensures.order)) in
-    let r = leaves_line old.bound (old.reserved + old.queued) old.granted old.waiters line s c.remove.new.self c.args.key c.remove.ensures.entries c.remove.ensures.order h in
+    let r = leaves_line old.bound (old.reserved + length old.letters.order) old.granted old.waiters line s c.remove.new.self c.args.key c.remove.ensures.entries c.remove.ensures.order h in
     (messages, r.0, inr (c.if-self.false, r.1, refl), p, r.2)
 
 pub overflow_sub-self : goal.overflow_sub-self
@@ -82,19 +84,20 @@ invariant_of-self-2 g c =
     let k0 : Kept old.granted old.waiters = kept_from old.granted old.waiters old.apart old.present old.count in
     let some : 1 ≤ old.granted = count_some old.granted old.waiters k0 c.args.key there lacks in
     let k : Kept (old.granted - 1) mid = kept_taken old.granted old.waiters mid k0 c.args.key c.remove.ensures.entries c.remove.ensures.order there lacks in
-    let w = admits_well old.bound (old.reserved + old.queued) (old.granted - 1) c.admit.new.granted mid c.admit.new.waiters c.admit.ensures.admits
+    let w = admits_well old.bound (old.reserved + length old.letters.order) (old.granted - 1) c.admit.new.granted mid c.admit.new.waiters c.admit.ensures.admits
     (omega (arith, old.fits, some)) (λ more. omega (arith, old.full (omega (arith, more, size)), some)) k (omega (arith, c.in-Some.ensures.len, old.places, size, some)) in
     let same = admits_size old.bound 0 (old.granted - 1) c.admit.new.granted mid c.admit.new.waiters c.admit.ensures.admits in
     record {
+      limit = old.limit;
       fits = w.fits;
       full = w.full;
       apart = kept_apart c.admit.new.granted c.admit.new.waiters w.kept;
       present = kept_present c.admit.new.granted c.admit.new.waiters w.kept;
       count = kept_count c.admit.new.granted c.admit.new.waiters w.kept;
       places = w.places;
-      held = old.held;
       room = omega (arith, old.room, same, c.in-Some.ensures.len);
-      numbers = omega (arith, old.numbers, same, c.in-Some.ensures.len);
+      differ = old.differ;
+      linked = old.linked;
       sent = old.sent;
     }
 
@@ -104,5 +107,5 @@ returns-clause-follows g c = λ messages line p s.
     let mid = c.remove.new.self in
     let lacks : has old.waiters.order c.args.key ≡ false = no_shorter old.waiters.order c.args.key (apart_is old.waiters.order old.apart) (omega (arith, c.if-len-waiting.false, c.len.ensures, c.len-waiting.ensures, ap length c.remove.ensures.order)) in
     let there : is_some (get old.waiters.entries c.args.key) ≡ true = ap is_some (sym c.in-Some.ensures.value) in
-    let r = gives_up old.bound (old.reserved + old.queued) old.granted old.waiters line s mid c.args.key c.remove.ensures.entries c.remove.ensures.order there lacks in
-    (messages, r.0, inr (c.if-self.false, r.1, refl), p, admits_stands old.bound (old.reserved + old.queued) (old.granted - 1) c.admit.new.granted mid c.admit.new.waiters c.admit.ensures.admits r.0 r.2)
+    let r = gives_up old.bound (old.reserved + length old.letters.order) old.granted old.waiters line s mid c.args.key c.remove.ensures.entries c.remove.ensures.order there lacks in
+    (messages, r.0, inr (c.if-self.false, r.1, refl), p, admits_stands old.bound (old.reserved + length old.letters.order) (old.granted - 1) c.admit.new.granted mid c.admit.new.waiters c.admit.ensures.admits r.0 r.2)

@@ -1,42 +1,63 @@
-use Rattle.std.proofs.Common.{is_some, length, ◌≡◌, ◌+◌, None, Some, position, refl, ap, arith}
-use Rattle.tower_pool.specs.Letters.{is_taken}
-use Rattle.tower_pool.specs.Mail.{IsTaken, holding}
+use Rattle.std.proofs.Common.{◌+◌, is_some, length, refl, ap, arith}
+use Rattle.tower_pool.specs.Mail.{holding}
 use Rattle.tower_pool.proofs.LineMoves.{kept_apart, kept_count, kept_present, nobody_waits, stands_alone}
 use Rattle.tower_pool.proofs.Lines.{closes}
-use Rattle.tower_pool.proofs.Moves.{finished, not_there, stays_well}
-use Rattle.tower_pool.proofs.Positions.{not_taken}
+use Rattle.tower_pool.proofs.Messages.{Sorted}
+use Rattle.tower_pool.proofs.Moves.{finished, read, sorted_finished}
 use Rattle.tower_pool.proofs.buffer.mailbox.Mailbox.fail.Goals as goal
-
-pub returns-in_default : goal.returns-in_default
-returns-in_default g c = λ messages line p s.
-    let old = c.args.self.now in
-    let e : position (is_taken c.args.id) old.letters.items ≡ None = cc (c.in_default.ensures, c.deref.ensures.value) in
-    (messages, line, (not_there IsTaken messages old.letters.items (is_taken c.args.id) c.args.id p e (not_taken c.args.id), refl), p, s)
 
 pub invariant_of-self : goal.invariant_of-self
 invariant_of-self g c =
     let old = c.args.self.now in
-    let e : position (is_taken c.args.id) old.letters.items ≡ Some c.in-Some.place = cc (c.in-Some.ensures, c.deref.ensures.value) in
-    let well = stays_well old.next_id old.stored c.keep_first.new.stored old.letters.items c.finish.new.letters.items c.args.id c.in-Some.place e (ap is_some c.keep_first.ensures) old.sent c.finish.ensures.finishes in
-    let w = nobody_waits old.bound (old.reserved + old.queued) c.new.result (omega (arith, old.fits)) c.new.ensures.order c.new.ensures.entries in
+    let was : Sorted old.stored old.letters = record { differ = old.differ; linked = old.linked; sent = old.sent } in
+    let same = c.if-not-fail_taken.ensures.kept refl in
+    let now = read old.stored old.letters c.fail_taken.new.letters was same.0 same.1 in
     record {
+      limit = old.limit;
+      fits = omega (arith, old.fits, ap length same.0);
+      full = λ waits. omega (arith, old.full waits, ap length same.0);
+      apart = old.apart;
+      present = old.present;
+      count = old.count;
+      places = old.places;
+      room = omega (arith, old.room, c.fail_taken.ensures.len, c.fail_taken.ensures.capacity);
+      differ = now.differ;
+      linked = now.linked;
+      sent = now.sent;
+    }
+
+pub invariant_of-self-2 : goal.invariant_of-self-2
+invariant_of-self-2 g c =
+    let old = c.args.self.now in
+    let was : Sorted old.stored old.letters = record { differ = old.differ; linked = old.linked; sent = old.sent } in
+    let f = c.if-not-fail_taken.ensures.fails refl in
+    let now = sorted_finished old.stored c.keep_first.new.stored old.letters c.fail_taken.new.letters c.args.id (ap is_some c.keep_first.ensures) was f in
+    let w = nobody_waits old.bound (old.reserved + length c.fail_taken.new.letters.order) c.new.result (omega (arith, old.fits, now.1)) c.new.ensures.order c.new.ensures.entries in
+    record {
+      limit = old.limit;
       fits = w.fits;
       full = w.full;
       apart = kept_apart 0 c.new.result w.kept;
       present = kept_present 0 c.new.result w.kept;
       count = kept_count 0 c.new.result w.kept;
       places = w.places;
-      held = omega (arith, old.held, well.queued);
-      room = omega (arith, old.room, c.finish.ensures.len, c.finish.ensures.capacity, w.places, ap length c.new.ensures.order);
-      numbers = omega (arith, old.numbers, w.places, ap length c.new.ensures.order);
-      sent = well.fit;
+      room = omega (arith, old.room, c.fail_taken.ensures.len, c.fail_taken.ensures.capacity, w.places, ap length c.new.ensures.order);
+      differ = now.0.differ;
+      linked = now.0.linked;
+      sent = now.0.sent;
     }
 
-pub returns : goal.returns
-returns g c = λ messages line p s.
+pub returns-clause-follows : goal.returns-clause-follows
+returns-clause-follows g c = λ messages line h s.
     let old = c.args.self.now in
-    let e : position (is_taken c.args.id) old.letters.items ≡ Some c.in-Some.place = cc (c.in-Some.ensures, c.deref.ensures.value) in
-    let well = stays_well old.next_id old.stored c.keep_first.new.stored old.letters.items c.finish.new.letters.items c.args.id c.in-Some.place e (ap is_some c.keep_first.ensures) old.sent c.finish.ensures.finishes in
-    let r = finished messages old.letters.items c.finish.new.letters.items c.args.id c.in-Some.place p e c.finish.ensures.finishes in
-    let shut = closes _ _ _ line s.3 in
-    (r.left, holding line, (r.settles, rw c.keep_first.ensures refl), r.same, stands_alone old.bound (old.reserved + old.queued) c.new.result (holding line) c.new.ensures.order c.new.ensures.entries shut)
+    let was : Sorted old.stored old.letters = record { differ = old.differ; linked = old.linked; sent = old.sent } in
+    let f = c.if-not-fail_taken.ensures.fails refl in
+    let now = sorted_finished old.stored c.keep_first.new.stored old.letters c.fail_taken.new.letters c.args.id (ap is_some c.keep_first.ensures) was f in
+    let r = finished messages old.letters c.fail_taken.new.letters c.args.id h (old.linked c.args.id) f in
+    let shut = closes _ _ _ line s.3 in (
+      r.left,
+      holding line,
+      (r.settles, rw c.keep_first.ensures refl),
+      r.holds,
+      stands_alone old.bound (old.reserved + length c.fail_taken.new.letters.order) c.new.result (holding line) c.new.ensures.order c.new.ensures.entries (omega (arith, shut.0, now.1), shut.1, shut.2),
+    )

@@ -1,39 +1,40 @@
-use Rattle.std.proofs.Common.{◌≡◌, ◌∙◌, None, Some, not, true, is_some, position, inr, refl, ap, arith}
-use Rattle.tower_pool.specs.Letters.{is_taken}
-use Rattle.tower_pool.specs.Mail.{IsTaken}
-use Rattle.tower_pool.proofs.Moves.{finished, not_there, stays_well}
-use Rattle.tower_pool.proofs.Positions.{not_taken}
+use Rattle.std.proofs.Common.{◌≡◌, ◌+◌, ◌∙◌, true, is_some, length, not, refl, ap, arith}
+use Rattle.tower_pool.proofs.LineMoves.{stands_as}
+use Rattle.tower_pool.proofs.Messages.{Sorted}
+use Rattle.tower_pool.proofs.Moves.{finished, sorted_either, sorted_finished}
 use Rattle.tower_pool.proofs.buffer.mailbox.Mailbox.fail_stored.Goals as goal
-
-pub returns-in_default : goal.returns-in_default
-returns-in_default g c = λ messages line p s.
-    let old = c.args.self.now in
-    let e : position (is_taken c.args.id) old.letters.items ≡ None = cc (c.in_default.ensures, c.deref.ensures.value) in
-    (messages, line, (inr (not_there IsTaken messages old.letters.items (is_taken c.args.id) c.args.id p e (not_taken c.args.id)), refl), p, s)
 
 pub invariant_of-self : goal.invariant_of-self
 invariant_of-self g c =
     let old = c.args.self.now in
-    let e : position (is_taken c.args.id) old.letters.items ≡ Some c.in-Some.place = cc (c.in-Some.ensures, c.deref.ensures.value) in
+    let was : Sorted old.stored old.letters = record { differ = old.differ; linked = old.linked; sent = old.sent } in
     let some : is_some old.stored ≡ true = c.is_none.ensures ∙ ap not c.if-is_none.false in
-    let well = stays_well old.next_id old.stored old.stored old.letters.items c.finish.new.letters.items c.args.id c.in-Some.place e some old.sent c.finish.ensures.finishes in record {
-      fits = old.fits;
-      full = old.full;
+    let now = sorted_either old.stored old.letters c.fail_taken.new.letters c.args.id c.fail_taken.result some was c.fail_taken.ensures.kept c.fail_taken.ensures.fails in
+    record {
+      limit = old.limit;
+      fits = omega (arith, old.fits, now.1);
+      full = λ waits. omega (arith, old.full waits, now.1);
       apart = old.apart;
       present = old.present;
       count = old.count;
       places = old.places;
-      held = omega (arith, old.held, well.queued);
-      room = omega (arith, old.room, c.finish.ensures.len, c.finish.ensures.capacity);
-      numbers = old.numbers;
-      sent = well.fit;
+      room = omega (arith, old.room, c.fail_taken.ensures.len, c.fail_taken.ensures.capacity);
+      differ = now.0.differ;
+      linked = now.0.linked;
+      sent = now.0.sent;
     }
 
-pub returns : goal.returns
-returns g c = λ messages line p s.
+pub returns-clause-follows : goal.returns-clause-follows
+returns-clause-follows g c = λ messages line h s.
     let old = c.args.self.now in
-    let e : position (is_taken c.args.id) old.letters.items ≡ Some c.in-Some.place = cc (c.in-Some.ensures, c.deref.ensures.value) in
+    let was : Sorted old.stored old.letters = record { differ = old.differ; linked = old.linked; sent = old.sent } in
     let some : is_some old.stored ≡ true = c.is_none.ensures ∙ ap not c.if-is_none.false in
-    let well = stays_well old.next_id old.stored old.stored old.letters.items c.finish.new.letters.items c.args.id c.in-Some.place e some old.sent c.finish.ensures.finishes in
-    let r = finished messages old.letters.items c.finish.new.letters.items c.args.id c.in-Some.place p e c.finish.ensures.finishes in
-    (r.left, line, (some, r.settles, refl), r.same, s)
+    let f = c.if-not-fail_taken.ensures.fails refl in
+    let now = sorted_finished old.stored old.stored old.letters c.fail_taken.new.letters c.args.id some was f in
+    let r = finished messages old.letters c.fail_taken.new.letters c.args.id h (old.linked c.args.id) f in (
+      r.left,
+      line,
+      (some, r.settles, refl),
+      r.holds,
+      stands_as old.bound (old.reserved + length old.letters.order) (old.reserved + length c.fail_taken.new.letters.order) old.granted old.waiters line (omega (arith, now.1)) s,
+    )

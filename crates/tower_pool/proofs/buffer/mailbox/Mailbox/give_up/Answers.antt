@@ -1,91 +1,136 @@
-use Rattle.std.proofs.Common.{◌≢◌, inl, inr, ◌≡◌, ◌∙◌, None, Some, position, slice_set, refl, sym, ap, arith}
-use Rattle.tower_pool.specs.Letters.{Fits, is_known, queued_letters}
+use Rattle.std.proofs.Common.{◌≡◌, ◌≢◌, ◌+◌, ◌∙◌, length, slice_set, inl, inr, refl, sym, ap, arith}
+use Rattle.slab.specs.Slab.{Slab, get, slab_len}
+use Rattle.tower_pool.specs.Letters.{bare}
 use Rattle.tower_pool.specs.Mail.{Entry}
-use Rattle.tower_pool.specs.declared.buffer.letter.Fate.TheVariants.{Cancelled}
-use Rattle.tower_pool.specs.declared.buffer.letter.Letter.{Letter}
-use Rattle.tower_pool.proofs.Messages.{holds_at}
-use Rattle.tower_pool.proofs.Moves.{there, not_there}
-use Rattle.tower_pool.proofs.Positions.{at_position, changed, fewer, known_tells, not_known, not_open, one_queued, open_is, settled}
+use Rattle.tower_pool.specs.Mailbox.{known}
+use Rattle.tower_pool.specs.declared.buffer.letter.Fate.TheVariants.{Cancelled, Open}
+use Rattle.tower_pool.specs.declared.buffer.letter.Message.{Message}
+use Rattle.tower_pool.proofs.Fates.{bare_open, fate_some, settled}
+use Rattle.tower_pool.proofs.LineMoves.{stands_as}
+use Rattle.tower_pool.proofs.Messages.{Sorted}
+use Rattle.tower_pool.proofs.Moves.{changed, gone, read, removed, resettled}
 use Rattle.tower_pool.proofs.buffer.mailbox.Mailbox.give_up.Goals as goal
-
-pub returns-in_default : goal.returns-in_default
-returns-in_default g c = λ messages line p s.
-    let old = c.args.self.now in
-    let e : position (is_known c.args.id) old.letters.items ≡ None = cc (c.in_default.ensures, c.deref.ensures.value) in
-    (messages, line, (not_there (λ letter. letter.fate ≢ Cancelled) messages old.letters.items (is_known c.args.id) c.args.id p e (not_known c.args.id), refl), p, s)
-
-pub returns-then-is_open_at : goal.returns-then-is_open_at
-returns-then-is_open_at g c = λ messages line p s.
-    let old = c.args.self.now in
-    let e : position (is_known c.args.id) old.letters.items ≡ Some c.in-Some.place = cc (c.in-Some.ensures, c.deref.ensures.value) in
-    let t = there messages old.letters.items (is_known c.args.id) c.in-Some.place p e in
-    let w = known_tells c.args.id t.letter t.is in
-    let o = sym (c.is_open_at.ensures t.letter (rw c.deref-2.ensures.value t.item)) ∙ c.if-is_open_at.true in
-    let now : Letter _ _ = record t.letter { fate = Cancelled } in
-    let news = c.settle.ensures.items t.letter t.item in
-    let well = changed old.next_id old.stored old.letters.items c.in-Some.place t.letter now t.item old.sent refl
-    ((holds_at (Fits old.next_id old.stored) old.letters.items c.in-Some.place t.letter old.sent t.item).0, (λ failed. absurd (cc)), (λ settled. absurd (cc))) in (
-      slice_set messages t.spot (Entry.here now),
-      line,
-      (t.spot, t.letter, t.at, w.0, inl (open_is t.letter.fate o, refl)),
-      t.changes now ∙ sym news,
-      s,
-    )
 
 pub invariant_of-self : goal.invariant_of-self
 invariant_of-self g c =
     let old = c.args.self.now in
-    let e : position (is_known c.args.id) old.letters.items ≡ Some c.in-Some.place = cc (c.in-Some.ensures, c.deref.ensures.value) in
-    let a = at_position (is_known c.args.id) old.letters.items c.in-Some.place e in
-    let now : Letter _ _ = record a.0 { fate = Cancelled } in
-    let news = c.settle.ensures.items a.0 a.1 in
-    let well = changed old.next_id old.stored old.letters.items c.in-Some.place a.0 now a.1 old.sent refl
-    ((holds_at (Fits old.next_id old.stored) old.letters.items c.in-Some.place a.0 old.sent a.1).0, (λ failed. absurd (cc)), (λ settled. absurd (cc))) in record {
-      fits = old.fits;
-      full = old.full;
+    let was : Sorted old.stored old.letters = record { differ = old.differ; linked = old.linked; sent = old.sent } in
+    let now = read old.stored old.letters c.fate_of.new.letters was c.fate_of.ensures.order c.fate_of.ensures.entries in
+    record {
+      limit = old.limit;
+      fits = omega (arith, old.fits, ap length c.fate_of.ensures.order);
+      full = λ waits. omega (arith, old.full waits, ap length c.fate_of.ensures.order);
       apart = old.apart;
       present = old.present;
       count = old.count;
       places = old.places;
-      held = omega (arith, old.held, well.queued, ap queued_letters news);
-      room = omega (arith, old.room, c.settle.ensures.len, c.settle.ensures.capacity);
-      numbers = old.numbers;
-      sent = rw news well.fit;
+      room = omega (arith, old.room, ap slab_len c.fate_of.ensures.entries, ap (λ (e : Slab (Message _ _)). e.capacity) c.fate_of.ensures.entries);
+      differ = now.differ;
+      linked = now.linked;
+      sent = now.sent;
     }
 
-pub invariant_of-self-2 : goal.invariant_of-self-2
-invariant_of-self-2 g c =
+pub invariant_of-self-in-Cancelled : goal.invariant_of-self-in-Cancelled
+invariant_of-self-in-Cancelled g c =
     let old = c.args.self.now in
-    let e : position (is_known c.args.id) old.letters.items ≡ Some c.in-Some.place = cc (c.in-Some.ensures, c.deref.ensures.value) in
-    let a = at_position (is_known c.args.id) old.letters.items c.in-Some.place e in
-    let w = known_tells c.args.id a.0 a.2 in
-    let o = sym (c.is_open_at.ensures a.0 (rw c.deref-2.ensures.value a.1)) ∙ c.if-is_open_at.false in
-    let out = (holds_at (Fits old.next_id old.stored) old.letters.items c.in-Some.place a.0 old.sent a.1).2 (settled a.0.fate o w.1) in
-    let less = fewer old.next_id old.stored old.letters.items c.in-Some.place a.0 a.1 old.sent in record {
-      fits = old.fits;
-      full = old.full;
+    let was : Sorted old.stored old.letters = record { differ = old.differ; linked = old.linked; sent = old.sent } in
+    let now = read old.stored old.letters c.fate_of.new.letters was c.fate_of.ensures.order c.fate_of.ensures.entries in
+    record {
+      limit = old.limit;
+      fits = omega (arith, old.fits, ap length c.fate_of.ensures.order);
+      full = λ waits. omega (arith, old.full waits, ap length c.fate_of.ensures.order);
       apart = old.apart;
       present = old.present;
       count = old.count;
       places = old.places;
-      held = omega (arith, old.held, less.queued, ap one_queued out, ap queued_letters c.strike.ensures.items);
-      room = omega (arith, old.room, c.strike.ensures.len, c.strike.ensures.capacity);
-      numbers = old.numbers;
-      sent = rw c.strike.ensures.items less.fit;
+      room = omega (arith, old.room, ap slab_len c.fate_of.ensures.entries, ap (λ (e : Slab (Message _ _)). e.capacity) c.fate_of.ensures.entries);
+      differ = now.differ;
+      linked = now.linked;
+      sent = now.sent;
     }
 
-pub returns : goal.returns
-returns g c = λ messages line p s.
+pub invariant_of-self-in-Open : goal.invariant_of-self-in-Open
+invariant_of-self-in-Open g c =
     let old = c.args.self.now in
-    let e : position (is_known c.args.id) old.letters.items ≡ Some c.in-Some.place = cc (c.in-Some.ensures, c.deref.ensures.value) in
-    let t = there messages old.letters.items (is_known c.args.id) c.in-Some.place p e in
-    let w = known_tells c.args.id t.letter t.is in
-    let o = sym (c.is_open_at.ensures t.letter (rw c.deref-2.ensures.value t.item)) ∙ c.if-is_open_at.false in
-    let less = fewer old.next_id old.stored old.letters.items c.in-Some.place t.letter t.item old.sent in
-    let out = (holds_at (Fits old.next_id old.stored) old.letters.items c.in-Some.place t.letter old.sent t.item).2 (settled t.letter.fate o w.1) in (
-      slice_set messages t.spot (Entry.gone t.letter.fate),
+    let was : Sorted old.stored old.letters = record { differ = old.differ; linked = old.linked; sent = old.sent } in
+    let t = fate_some (get old.letters.entries c.args.id) c.in-Some.fate (sym c.in-Some.ensures.fate) in
+    let m = t.0 in
+    let fate : m.fate ≡ Open = bare_open m.fate (t.2 ∙ c.in-Open.is) in
+    let now : Message _ _ = record m { fate = Cancelled } in
+    let d = resettled old.stored old.letters c.fate_of.new.letters c.settle.new.letters c.args.id m was t.1 c.fate_of.ensures.order c.fate_of.ensures.entries c.settle.ensures.capacity
+    now refl ((λ failed. absurd (cc)), (λ settled. absurd (cc))) (c.settle.ensures.entries m (ap (λ e. get e c.args.id) c.fate_of.ensures.entries ∙ t.1)) c.settle.ensures.order c.settle.ensures.len in
+    record {
+      limit = old.limit;
+      fits = omega (arith, old.fits, d.size);
+      full = λ waits. omega (arith, old.full waits, d.size);
+      apart = old.apart;
+      present = old.present;
+      count = old.count;
+      places = old.places;
+      room = omega (arith, old.room, d.len, d.capacity);
+      differ = d.sorted.differ;
+      linked = d.sorted.linked;
+      sent = d.sorted.sent;
+    }
+
+pub invariant_of-self-in_default-fate : goal.invariant_of-self-in_default-fate
+invariant_of-self-in_default-fate g c =
+    let old = c.args.self.now in
+    let was : Sorted old.stored old.letters = record { differ = old.differ; linked = old.linked; sent = old.sent } in
+    let t = fate_some (get old.letters.entries c.args.id) c.in-Some.fate (sym c.in-Some.ensures.fate) in
+    let m = t.0 in
+    let unopened : m.fate ≢ Open = λ e. c.in_default-fate.not-Open (sym t.2 ∙ ap bare e) in
+    let awaited : m.fate ≢ Cancelled = λ e. c.in_default-fate.not-Cancelled (sym t.2 ∙ ap bare e) in
+    let out = (old.sent c.args.id m t.1).1 (settled m.fate unopened awaited) in
+    let d = removed old.stored old.letters c.fate_of.new.letters c.remove.new.self c.args.id m was t.1 c.fate_of.ensures.order c.fate_of.ensures.entries c.remove.ensures.capacity
+    out c.remove.ensures.entries c.remove.ensures.order c.remove.result c.remove.ensures.value c.remove.ensures.len in
+    record {
+      limit = old.limit;
+      fits = omega (arith, old.fits, d.size);
+      full = λ waits. omega (arith, old.full waits, d.size);
+      apart = old.apart;
+      present = old.present;
+      count = old.count;
+      places = old.places;
+      room = omega (arith, old.room, d.len, d.capacity);
+      differ = d.sorted.differ;
+      linked = d.sorted.linked;
+      sent = d.sorted.sent;
+    }
+
+pub returns-in-Open-clause-follows : goal.returns-in-Open-clause-follows
+returns-in-Open-clause-follows g c = λ messages line h s.
+    let old = c.args.self.now in
+    let was : Sorted old.stored old.letters = record { differ = old.differ; linked = old.linked; sent = old.sent } in
+    let t = fate_some (get old.letters.entries c.args.id) c.in-Some.fate (sym c.in-Some.ensures.fate) in
+    let m = t.0 in
+    let fate : m.fate ≡ Open = bare_open m.fate (t.2 ∙ c.in-Open.is) in
+    let now : Message _ _ = record m { fate = Cancelled } in
+    let d = resettled old.stored old.letters c.fate_of.new.letters c.settle.new.letters c.args.id m was t.1 c.fate_of.ensures.order c.fate_of.ensures.entries c.settle.ensures.capacity
+    now refl ((λ failed. absurd (cc)), (λ settled. absurd (cc))) (c.settle.ensures.entries m (ap (λ e. get e c.args.id) c.fate_of.ensures.entries ∙ t.1)) c.settle.ensures.order c.settle.ensures.len in
+    let r = changed messages old.letters c.settle.new.letters c.args.id m t.1 h now refl d.updates d.ordered in (
+      slice_set messages r.place (Entry.here (known c.args.id now)),
       line,
-      (t.spot, t.letter, t.at, w.0, inr (not_open t.letter.fate o, w.1, refl)),
-      t.leaves t.letter.fate ∙ sym c.strike.ensures.items,
-      s,
+      (r.place, known c.args.id m, r.at, refl, inl (fate, refl)),
+      r.holds,
+      stands_as old.bound (old.reserved + length old.letters.order) (old.reserved + length c.settle.new.letters.order) old.granted old.waiters line (omega (arith, d.size)) s,
+    )
+
+pub returns-in_default-fate-clause-follows : goal.returns-in_default-fate-clause-follows
+returns-in_default-fate-clause-follows g c = λ messages line h s.
+    let old = c.args.self.now in
+    let was : Sorted old.stored old.letters = record { differ = old.differ; linked = old.linked; sent = old.sent } in
+    let t = fate_some (get old.letters.entries c.args.id) c.in-Some.fate (sym c.in-Some.ensures.fate) in
+    let m = t.0 in
+    let unopened : m.fate ≢ Open = λ e. c.in_default-fate.not-Open (sym t.2 ∙ ap bare e) in
+    let awaited : m.fate ≢ Cancelled = λ e. c.in_default-fate.not-Cancelled (sym t.2 ∙ ap bare e) in
+    let out = (old.sent c.args.id m t.1).1 (settled m.fate unopened awaited) in
+    let d = removed old.stored old.letters c.fate_of.new.letters c.remove.new.self c.args.id m was t.1 c.fate_of.ensures.order c.fate_of.ensures.entries c.remove.ensures.capacity
+    out c.remove.ensures.entries c.remove.ensures.order c.remove.result c.remove.ensures.value c.remove.ensures.len in
+    let r = gone messages old.letters c.remove.new.self c.args.id m t.1 h (old.linked c.args.id) out d.updates d.ordered in (
+      slice_set messages r.place (Entry.gone m.fate),
+      line,
+      (r.place, known c.args.id m, r.at, refl, inr (unopened, awaited, refl)),
+      r.holds m.fate,
+      stands_as old.bound (old.reserved + length old.letters.order) (old.reserved + length c.remove.new.self.order) old.granted old.waiters line (omega (arith, d.size)) s,
     )

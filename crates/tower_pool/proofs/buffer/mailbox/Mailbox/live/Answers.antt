@@ -1,56 +1,85 @@
-use Rattle.std.proofs.Common.{◌≡◌, ◌∙◌, None, Some, position, slice_set, refl, sym, ap, arith}
-use Rattle.tower_pool.specs.Letters.{is_taken, queued_letters}
-use Rattle.tower_pool.specs.Mail.{Entry, IsTaken}
+use Rattle.std.proofs.Common.{◌+◌, ◌∙◌, Some, length, slice_set, refl, sym, ap, arith}
+use Rattle.slab.specs.Slab.{Slab, get, slab_len}
+use Rattle.tower_pool.specs.Mail.{Entry}
+use Rattle.tower_pool.specs.Mailbox.{known}
 use Rattle.tower_pool.specs.declared.buffer.letter.Fate.TheVariants.{Cancelled}
-use Rattle.tower_pool.proofs.Moves.{there, not_there}
-use Rattle.tower_pool.proofs.Positions.{at_position, closed_now, fewer, not_taken, one_queued, open_is, taken_tells}
+use Rattle.tower_pool.specs.declared.buffer.letter.Message.{Message}
+use Rattle.tower_pool.proofs.Fates.{taken_cancelled}
+use Rattle.tower_pool.proofs.LineMoves.{stands_as}
+use Rattle.tower_pool.proofs.Messages.{Sorted}
+use Rattle.tower_pool.proofs.Moves.{gone, read, removed}
 use Rattle.tower_pool.proofs.buffer.mailbox.Mailbox.live.Goals as goal
-
-pub returns-in_default : goal.returns-in_default
-returns-in_default g c = λ messages line p s.
-    let old = c.args.self.now in
-    let e : position (is_taken c.args.id) old.letters.items ≡ None = cc (c.in_default.ensures, c.deref.ensures.value) in
-    (messages, line, (not_there IsTaken messages old.letters.items (is_taken c.args.id) c.args.id p e (not_taken c.args.id), refl), p, s)
-
-pub returns-then-is_open_at : goal.returns-then-is_open_at
-returns-then-is_open_at g c = λ messages line p s.
-    let old = c.args.self.now in
-    let e : position (is_taken c.args.id) old.letters.items ≡ Some c.in-Some.place = cc (c.in-Some.ensures, c.deref.ensures.value) in
-    let t = there messages old.letters.items (is_taken c.args.id) c.in-Some.place p e in
-    let w = taken_tells c.args.id t.letter t.is in
-    let o = sym (c.is_open_at.ensures t.letter (rw c.deref-2.ensures.value t.item)) ∙ c.if-is_open_at.true in
-    (messages, line, (t.spot, t.letter, (t.at, w.0, w.1), open_is t.letter.fate o, refl), p, s)
 
 pub invariant_of-self : goal.invariant_of-self
 invariant_of-self g c =
     let old = c.args.self.now in
-    let e : position (is_taken c.args.id) old.letters.items ≡ Some c.in-Some.place = cc (c.in-Some.ensures, c.deref.ensures.value) in
-    let a = at_position (is_taken c.args.id) old.letters.items c.in-Some.place e in
-    let w = taken_tells c.args.id a.0 a.2 in
-    let less = fewer old.next_id old.stored old.letters.items c.in-Some.place a.0 a.1 old.sent in record {
-      fits = old.fits;
-      full = old.full;
+    let was : Sorted old.stored old.letters = record { differ = old.differ; linked = old.linked; sent = old.sent } in
+    let now = read old.stored old.letters c.taken.new.letters was c.taken.ensures.order c.taken.ensures.entries in
+    record {
+      limit = old.limit;
+      fits = omega (arith, old.fits, ap length c.taken.ensures.order);
+      full = λ waits. omega (arith, old.full waits, ap length c.taken.ensures.order);
       apart = old.apart;
       present = old.present;
       count = old.count;
       places = old.places;
-      held = omega (arith, old.held, less.queued, ap one_queued w.1, ap queued_letters c.strike.ensures.items);
-      room = omega (arith, old.room, c.strike.ensures.len, c.strike.ensures.capacity);
-      numbers = old.numbers;
-      sent = rw c.strike.ensures.items less.fit;
+      room = omega (arith, old.room, ap slab_len c.taken.ensures.entries, ap (λ (e : Slab (Message _ _)). e.capacity) c.taken.ensures.entries);
+      differ = now.differ;
+      linked = now.linked;
+      sent = now.sent;
     }
 
-pub returns : goal.returns
-returns g c = λ messages line p s.
+pub invariant_of-self-then-open : goal.invariant_of-self-then-open
+invariant_of-self-then-open g c =
     let old = c.args.self.now in
-    let e : position (is_taken c.args.id) old.letters.items ≡ Some c.in-Some.place = cc (c.in-Some.ensures, c.deref.ensures.value) in
-    let t = there messages old.letters.items (is_taken c.args.id) c.in-Some.place p e in
-    let w = taken_tells c.args.id t.letter t.is in
-    let o = sym (c.is_open_at.ensures t.letter (rw c.deref-2.ensures.value t.item)) ∙ c.if-is_open_at.false in
-    let less = fewer old.next_id old.stored old.letters.items c.in-Some.place t.letter t.item old.sent in (
-      slice_set messages t.spot (Entry.gone Cancelled),
+    let was : Sorted old.stored old.letters = record { differ = old.differ; linked = old.linked; sent = old.sent } in
+    let now = read old.stored old.letters c.taken.new.letters was c.taken.ensures.order c.taken.ensures.entries in
+    record {
+      limit = old.limit;
+      fits = omega (arith, old.fits, ap length c.taken.ensures.order);
+      full = λ waits. omega (arith, old.full waits, ap length c.taken.ensures.order);
+      apart = old.apart;
+      present = old.present;
+      count = old.count;
+      places = old.places;
+      room = omega (arith, old.room, ap slab_len c.taken.ensures.entries, ap (λ (e : Slab (Message _ _)). e.capacity) c.taken.ensures.entries);
+      differ = now.differ;
+      linked = now.linked;
+      sent = now.sent;
+    }
+
+pub invariant_of-self-2 : goal.invariant_of-self-2
+invariant_of-self-2 g c =
+    let old = c.args.self.now in
+    let was : Sorted old.stored old.letters = record { differ = old.differ; linked = old.linked; sent = old.sent } in
+    let t = taken_cancelled (get old.letters.entries c.args.id) (sym c.in-Some.ensures.taken ∙ ap Some c.if-open.false) in
+    let d = removed old.stored old.letters c.taken.new.letters c.remove.new.self c.args.id t.message was t.is c.taken.ensures.order c.taken.ensures.entries c.remove.ensures.capacity
+    t.out c.remove.ensures.entries c.remove.ensures.order c.remove.result c.remove.ensures.value c.remove.ensures.len in
+    record {
+      limit = old.limit;
+      fits = omega (arith, old.fits, d.size);
+      full = λ waits. omega (arith, old.full waits, d.size);
+      apart = old.apart;
+      present = old.present;
+      count = old.count;
+      places = old.places;
+      room = omega (arith, old.room, d.len, d.capacity);
+      differ = d.sorted.differ;
+      linked = d.sorted.linked;
+      sent = d.sorted.sent;
+    }
+
+pub returns-clause-follows : goal.returns-clause-follows
+returns-clause-follows g c = λ messages line h s.
+    let old = c.args.self.now in
+    let was : Sorted old.stored old.letters = record { differ = old.differ; linked = old.linked; sent = old.sent } in
+    let t = taken_cancelled (get old.letters.entries c.args.id) (sym c.in-Some.ensures.taken ∙ ap Some c.if-open.false) in
+    let d = removed old.stored old.letters c.taken.new.letters c.remove.new.self c.args.id t.message was t.is c.taken.ensures.order c.taken.ensures.entries c.remove.ensures.capacity
+    t.out c.remove.ensures.entries c.remove.ensures.order c.remove.result c.remove.ensures.value c.remove.ensures.len in
+    let r = gone messages old.letters c.remove.new.self c.args.id t.message t.is h (old.linked c.args.id) t.out d.updates d.ordered in (
+      slice_set messages r.place (Entry.gone Cancelled),
       line,
-      (t.spot, t.letter, (t.at, w.0, w.1), closed_now t.letter.fate w.2 o, refl),
-      t.leaves Cancelled ∙ sym c.strike.ensures.items,
-      s,
+      (r.place, known c.args.id t.message, (r.at, refl, t.out), t.fate_is, refl),
+      r.holds Cancelled,
+      stands_as old.bound (old.reserved + length old.letters.order) (old.reserved + length c.remove.new.self.order) old.granted old.waiters line (omega (arith, d.size)) s,
     )

@@ -21,15 +21,16 @@ invariant_of-self g c =
     let k0 : Kept old.granted old.waiters = kept_from old.granted old.waiters old.apart old.present old.count in
     let k : Kept old.granted new = kept_grown old.granted old.waiters new k0 c.is_linked.ensures.order (λ key. ap (λ e. get e key) c.is_linked.ensures.entries) in
     record {
+      limit = old.limit;
       fits = old.fits;
       full = λ some. old.full (omega (arith, some, ap length c.is_linked.ensures.order));
       apart = kept_apart old.granted new k;
       present = kept_present old.granted new k;
       count = kept_count old.granted new k;
       places = omega (arith, ap slab_len c.is_linked.ensures.entries, ap length c.is_linked.ensures.order, old.places);
-      held = old.held;
       room = omega (arith, old.room, ap slab_len c.is_linked.ensures.entries);
-      numbers = omega (arith, old.numbers, ap slab_len c.is_linked.ensures.entries);
+      differ = old.differ;
+      linked = old.linked;
       sent = old.sent;
     }
 
@@ -44,15 +45,16 @@ invariant_of-self-in_default g c =
     let size : length new.order ≡ length old.waiters.order = ap length (c.remove.ensures.order ∙ without_lacks mid.order c.args.key lacks ∙ c.is_linked.ensures.order) in
     let k : Kept old.granted new = kept_gone old.granted mid new k1 c.args.key c.remove.ensures.entries c.remove.ensures.order (sym c.in_default.ensures.value) in
     record {
+      limit = old.limit;
       fits = old.fits;
       full = λ some. old.full (omega (arith, some, size));
       apart = kept_apart old.granted new k;
       present = kept_present old.granted new k;
       count = kept_count old.granted new k;
       places = omega (arith, ap slab_len c.in_default.ensures.absent, ap slab_len c.is_linked.ensures.entries, old.places, size);
-      held = old.held;
       room = omega (arith, old.room, ap slab_len c.in_default.ensures.absent, ap slab_len c.is_linked.ensures.entries);
-      numbers = omega (arith, old.numbers, ap slab_len c.in_default.ensures.absent, ap slab_len c.is_linked.ensures.entries);
+      differ = old.differ;
+      linked = old.linked;
       sent = old.sent;
     }
 
@@ -87,15 +89,16 @@ invariant_of-self-2 g c =
     let size : length new.order ≡ length old.waiters.order = ap length (c.remove.ensures.order ∙ without_lacks mid.order c.args.key lacks ∙ c.is_linked.ensures.order) in
     let k : Kept (old.granted - 1) new = kept_taken old.granted mid new k1 c.args.key c.remove.ensures.entries c.remove.ensures.order there lacks in
     record {
+      limit = old.limit;
       fits = omega (arith, old.fits, some);
       full = λ more. omega (arith, old.full (omega (arith, more, size)), some);
       apart = kept_apart (old.granted - 1) new k;
       present = kept_present (old.granted - 1) new k;
       count = kept_count (old.granted - 1) new k;
       places = omega (arith, c.in-Some.ensures.len, ap slab_len c.is_linked.ensures.entries, old.places, size, some);
-      held = old.held;
       room = omega (arith, old.room, c.in-Some.ensures.len, ap slab_len c.is_linked.ensures.entries);
-      numbers = omega (arith, old.numbers, c.in-Some.ensures.len, ap slab_len c.is_linked.ensures.entries);
+      differ = old.differ;
+      linked = old.linked;
       sent = old.sent;
     }
 
@@ -103,8 +106,16 @@ pub returns-clause-follows : goal.returns-clause-follows
 returns-clause-follows g c = λ messages line p s.
     let old = c.args.self.now in
     let mid = c.is_linked.new.self in
-    let grown = stands_grown old.bound (old.reserved + old.queued) old.granted old.waiters line s mid c.is_linked.ensures.order (λ key. ap (λ e. get e key) c.is_linked.ensures.entries) in
+    let grown = stands_grown old.bound (old.reserved + length old.letters.order) old.granted old.waiters line s mid c.is_linked.ensures.order (λ key. ap (λ e. get e key) c.is_linked.ensures.entries) in
     let lacks : has mid.order c.args.key ≡ false = ap (λ l. has l c.args.key) c.is_linked.ensures.order ∙ sym c.if-is_linked.ensures.linked in
     let there : is_some (get mid.entries c.args.key) ≡ true = ap is_some (sym c.in-Some.ensures.value) in
     let r = sees _ _ _ _ line grown c.remove.new.self c.args.key c.remove.ensures.entries c.remove.ensures.order there lacks old.fits in
-    (messages, r.0, (c.if-self.false, r.1, refl), p, stands_as old.bound (old.reserved + old.queued + 1) (old.reserved + 1 + old.queued) (old.granted - 1) c.remove.new.self r.0 (omega arith) r.2)
+    (messages, r.0, (c.if-self.false, r.1, refl), p, stands_as old.bound (old.reserved + length old.letters.order + 1) (old.reserved + 1 + length old.letters.order) (old.granted - 1) c.remove.new.self r.0 (omega arith) r.2)
+
+pub overflow_add-self : goal.overflow_add-self
+overflow_add-self g c =
+    let old = c.args.self.now in
+    let mid = c.is_linked.new.self in
+    let k1 : Kept old.granted mid = kept_grown old.granted old.waiters mid (kept_from old.granted old.waiters old.apart old.present old.count) c.is_linked.ensures.order (λ key. ap (λ e. get e key) c.is_linked.ensures.entries) in
+    let some = count_some old.granted mid k1 c.args.key (ap is_some (sym c.in-Some.ensures.value)) (ap (λ l. has l c.args.key) c.is_linked.ensures.order ∙ sym c.if-is_linked.ensures.linked) in
+    omega (arith, old.limit, old.fits, some)

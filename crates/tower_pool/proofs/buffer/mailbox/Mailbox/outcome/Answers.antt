@@ -1,96 +1,62 @@
-use Rattle.std.proofs.Common.{inl, inr, ◌≡◌, ◌≢◌, ◌∙◌, None, Some, position, slice_set, unwrap_or, refl, sym, ap, arith}
-use Rattle.tower_pool.specs.Letters.{Fits, is_known, queued_letters}
-use Rattle.tower_pool.specs.Mail.{Entry}
-use Rattle.tower_pool.specs.declared.buffer.letter.Fate.TheVariants.{Cancelled}
-use Rattle.tower_pool.proofs.Messages.{holds_at}
-use Rattle.tower_pool.proofs.Moves.{there, not_there}
-use Rattle.tower_pool.proofs.Positions.{at_position, failed_is, fewer, known_tells, not_failed, not_known, not_open, one_queued, open_is, settled}
+use Rattle.std.proofs.Common.{◌≡◌, ◌≢◌, ◌+◌, ◌∙◌, length, sym, ap, arith}
+use Rattle.slab.specs.Slab.{Slab, get, slab_len}
+use Rattle.tower_pool.specs.Letters.{bare}
+use Rattle.tower_pool.specs.declared.buffer.letter.Fate.TheVariants.{Cancelled, Failed, Open}
+use Rattle.tower_pool.specs.declared.buffer.letter.Message.{Message}
+use Rattle.tower_pool.proofs.Fates.{bare_failed, ended, fate_some}
+use Rattle.tower_pool.proofs.LineMoves.{stands_as}
+use Rattle.tower_pool.proofs.Messages.{Sorted, holds_as}
+use Rattle.tower_pool.proofs.Moves.{read}
 use Rattle.tower_pool.proofs.buffer.mailbox.Mailbox.outcome.Goals as goal
-
-pub returns-in_default : goal.returns-in_default
-returns-in_default g c = λ messages line p s.
-    let old = c.args.self.now in
-    let e : position (is_known c.args.id) old.letters.items ≡ None = cc (c.in_default.ensures, c.deref.ensures.value) in
-    (messages, line, (not_there (λ letter. letter.fate ≢ Cancelled) messages old.letters.items (is_known c.args.id) c.args.id p e (not_known c.args.id), refl), p, s)
-
-pub returns-then-is_open_at : goal.returns-then-is_open_at
-returns-then-is_open_at g c = λ messages line p s.
-    let old = c.args.self.now in
-    let e : position (is_known c.args.id) old.letters.items ≡ Some c.in-Some.place = cc (c.in-Some.ensures, c.deref.ensures.value) in
-    let t = there messages old.letters.items (is_known c.args.id) c.in-Some.place p e in
-    let w = known_tells c.args.id t.letter t.is in
-    let o = sym (c.is_open_at.ensures t.letter (rw c.deref-2.ensures.value t.item)) ∙ c.if-is_open_at.true in
-    (messages, line, (t.spot, t.letter, t.at, w.0, open_is t.letter.fate o, refl, refl), p, s)
-
-pub tell_failure-requires-clause-failed : goal.tell_failure-requires-clause-failed
-tell_failure-requires-clause-failed g c = λ letter at.
-    let old = c.args.self.now in
-    let e : position (is_known c.args.id) old.letters.items ≡ Some c.in-Some.place = cc (c.in-Some.ensures, c.deref.ensures.value) in
-    let a = at_position (is_known c.args.id) old.letters.items c.in-Some.place e in
-    let w = known_tells c.args.id a.0 a.2 in
-    let same : letter ≡ a.0 = ap (λ o. unwrap_or o letter) (sym at ∙ a.1) in
-    (ap (λ l. l.id) same ∙ w.0, failed_is letter.fate (sym (c.is_failed_at.ensures letter (rw c.deref-3.ensures.value at)) ∙ c.if-is_failed_at.true))
 
 pub invariant_of-self : goal.invariant_of-self
 invariant_of-self g c =
     let old = c.args.self.now in
-    let e : position (is_known c.args.id) old.letters.items ≡ Some c.in-Some.place = cc (c.in-Some.ensures, c.deref.ensures.value) in
-    let a = at_position (is_known c.args.id) old.letters.items c.in-Some.place e in
-    let w = known_tells c.args.id a.0 a.2 in
-    let o = sym (c.is_open_at.ensures a.0 (rw c.deref-2.ensures.value a.1)) ∙ c.if-is_open_at.false in
-    let out = (holds_at (Fits old.next_id old.stored) old.letters.items c.in-Some.place a.0 old.sent a.1).2 (settled a.0.fate o w.1) in
-    let less = fewer old.next_id old.stored old.letters.items c.in-Some.place a.0 a.1 old.sent in record {
-      fits = old.fits;
-      full = old.full;
+    let was : Sorted old.stored old.letters = record { differ = old.differ; linked = old.linked; sent = old.sent } in
+    let now = read old.stored old.letters c.fate_of.new.letters was c.fate_of.ensures.order c.fate_of.ensures.entries in
+    record {
+      limit = old.limit;
+      fits = omega (arith, old.fits, ap length c.fate_of.ensures.order);
+      full = λ waits. omega (arith, old.full waits, ap length c.fate_of.ensures.order);
       apart = old.apart;
       present = old.present;
       count = old.count;
       places = old.places;
-      held = omega (arith, old.held, less.queued, ap one_queued out, ap queued_letters c.strike.ensures.items);
-      room = omega (arith, old.room, c.strike.ensures.len, c.strike.ensures.capacity);
-      numbers = old.numbers;
-      sent = rw c.strike.ensures.items less.fit;
+      room = omega (arith, old.room, ap slab_len c.fate_of.ensures.entries, ap (λ (e : Slab (Message _ _)). e.capacity) c.fate_of.ensures.entries);
+      differ = now.differ;
+      linked = now.linked;
+      sent = now.sent;
     }
 
-pub unreachable-requires : goal.unreachable-requires
-unreachable-requires g c =
+pub tell_failure-requires-clause-failed : goal.tell_failure-requires-clause-failed
+tell_failure-requires-clause-failed g c =
     let old = c.args.self.now in
-    let e : position (is_known c.args.id) old.letters.items ≡ Some c.in-Some.place = cc (c.in-Some.ensures, c.deref.ensures.value) in
-    let a = at_position (is_known c.args.id) old.letters.items c.in-Some.place e in
-    let w = known_tells c.args.id a.0 a.2 in
-    let unopened = not_open a.0.fate (sym (c.is_open_at.ensures a.0 (rw c.deref-2.ensures.value a.1)) ∙ c.if-is_open_at.false) in
-    let failed = not_failed a.0.fate (sym (c.is_failed_at.ensures a.0 (rw c.deref-3.ensures.value a.1)) ∙ c.if-is_failed_at.false) in
-    let same = sym (c.strike.ensures.fate a.0 a.1) in
-    elim c.in-Open.is [ inl o ↦ unopened (same ∙ o) | inr h ↦ elim h [ inl f ↦ failed (same ∙ f) | inr c ↦ w.1 (same ∙ c) ] ]
+    let t = fate_some (get old.letters.entries c.args.id) c.in-Some.fate (sym c.in-Some.ensures.fate) in
+    let m = t.0 in
+    (m, ap (λ e. get e c.args.id) c.fate_of.ensures.entries ∙ t.1, bare_failed m.fate (t.2 ∙ c.in-Failed.is))
 
-pub returns-in-Answered : goal.returns-in-Answered
-returns-in-Answered g c = λ messages line p s.
+pub hand_out-requires : goal.hand_out-requires
+hand_out-requires g c =
     let old = c.args.self.now in
-    let e : position (is_known c.args.id) old.letters.items ≡ Some c.in-Some.place = cc (c.in-Some.ensures, c.deref.ensures.value) in
-    let t = there messages old.letters.items (is_known c.args.id) c.in-Some.place p e in
-    let w = known_tells c.args.id t.letter t.is in
-    let o = sym (c.is_open_at.ensures t.letter (rw c.deref-2.ensures.value t.item)) ∙ c.if-is_open_at.false in
-    let less = fewer old.next_id old.stored old.letters.items c.in-Some.place t.letter t.item old.sent in
-    let out = (holds_at (Fits old.next_id old.stored) old.letters.items c.in-Some.place t.letter old.sent t.item).2 (settled t.letter.fate o w.1) in (
-      slice_set messages t.spot (Entry.gone t.letter.fate),
-      line,
-      (t.spot, t.letter, t.at, w.0, sym (c.strike.ensures.fate t.letter t.item) ∙ c.in-Answered.is, refl),
-      t.leaves t.letter.fate ∙ sym c.strike.ensures.items,
-      s,
-    )
+    let t = fate_some (get old.letters.entries c.args.id) c.in-Some.fate (sym c.in-Some.ensures.fate) in
+    let m = t.0 in
+    let unopened : m.fate ≢ Open = λ e. c.in_default-fate.not-Open (sym t.2 ∙ ap bare e) in
+    let awaited : m.fate ≢ Cancelled = λ e. c.in_default-fate.not-Cancelled (sym t.2 ∙ ap bare e) in
+    let served : m.fate ≢ Failed = λ e. c.in_default-fate.not-Failed (sym t.2 ∙ ap bare e) in
+    record { ended = (m, ap (λ e. get e c.args.id) c.fate_of.ensures.entries ∙ t.1, ended m.fate unopened awaited served) }
 
-pub returns-in-Lost : goal.returns-in-Lost
-returns-in-Lost g c = λ messages line p s.
+pub returns-in-Failed-clause-follows : goal.returns-in-Failed-clause-follows
+returns-in-Failed-clause-follows g c = λ messages line h s.
     let old = c.args.self.now in
-    let e : position (is_known c.args.id) old.letters.items ≡ Some c.in-Some.place = cc (c.in-Some.ensures, c.deref.ensures.value) in
-    let t = there messages old.letters.items (is_known c.args.id) c.in-Some.place p e in
-    let w = known_tells c.args.id t.letter t.is in
-    let o = sym (c.is_open_at.ensures t.letter (rw c.deref-2.ensures.value t.item)) ∙ c.if-is_open_at.false in
-    let less = fewer old.next_id old.stored old.letters.items c.in-Some.place t.letter t.item old.sent in
-    let out = (holds_at (Fits old.next_id old.stored) old.letters.items c.in-Some.place t.letter old.sent t.item).2 (settled t.letter.fate o w.1) in (
-      slice_set messages t.spot (Entry.gone t.letter.fate),
-      line,
-      (t.spot, t.letter, t.at, w.0, sym (c.strike.ensures.fate t.letter t.item) ∙ c.in-Lost.is, refl),
-      t.leaves t.letter.fate ∙ sym c.strike.ensures.items,
-      s,
-    )
+    let mid = c.fate_of.new.letters in
+    let size : length mid.order ≡ length old.letters.order = ap length c.fate_of.ensures.order in
+    c.tell_failure.ensures.follows messages line (holds_as old.letters mid messages c.fate_of.ensures.order (λ id. ap (λ e. get e id) c.fate_of.ensures.entries) h)
+    (stands_as old.bound (old.reserved + length old.letters.order) (old.reserved + length mid.order) old.granted old.waiters line (omega (arith, size)) s)
+
+pub returns-in_default-fate-clause-follows : goal.returns-in_default-fate-clause-follows
+returns-in_default-fate-clause-follows g c = λ messages line h s.
+    let old = c.args.self.now in
+    let mid = c.fate_of.new.letters in
+    let size : length mid.order ≡ length old.letters.order = ap length c.fate_of.ensures.order in
+    c.hand_out.ensures.follows messages line (holds_as old.letters mid messages c.fate_of.ensures.order (λ id. ap (λ e. get e id) c.fate_of.ensures.entries) h)
+    (stands_as old.bound (old.reserved + length old.letters.order) (old.reserved + length mid.order) old.granted old.waiters line (omega (arith, size)) s)

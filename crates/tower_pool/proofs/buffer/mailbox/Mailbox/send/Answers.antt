@@ -1,37 +1,42 @@
-use Rattle.std.proofs.Common.{◌≡◌, ◌<◌, ◌-◌, ◌+◌, ◌++◌, ◌∷◌, [], ◌∙◌, Some, refl, sym, ap, arith}
-use Rattle.tower_pool.specs.Letters.{queued_letters}
+use Rattle.std.proofs.Common.{◌≡◌, ◌<◌, ◌-◌, ◌+◌, ◌++◌, ◌∷◌, [], ◌∙◌, Some, length, length-append, refl, sym, ap, arith}
 use Rattle.tower_pool.specs.Mail.{Entry}
 use Rattle.tower_pool.specs.declared.buffer.letter.Fate.TheVariants.{Open}
+use Rattle.tower_pool.proofs.Fates.{not_none}
 use Rattle.tower_pool.proofs.LineMoves.{stands_as}
-use Rattle.tower_pool.proofs.Messages.{none_given, present_last, queued_last}
-use Rattle.tower_pool.proofs.Positions.{one_more}
+use Rattle.tower_pool.proofs.Messages.{Sorted, holds_pushed, none_with, sorted_pushed}
 use Rattle.tower_pool.proofs.buffer.mailbox.Mailbox.send.Goals as goal
 
-pub returns : goal.returns
-returns g c = λ messages line p s.
+pub returns-clause-follows : goal.returns-clause-follows
+returns-clause-follows g c = λ messages line h s.
     let old = c.args.self.now in
-    let some : 0 < old.reserved = omega (arith, c.if-self-eq0.false) in (
-      messages ++ Entry.here (record { id = old.next_id; request = Some c.args.request; fate = Open }) ∷ [],
+    let id = c.push_back-id.result in
+    let some : 0 < old.reserved = omega (arith, c.if-self-eq0.false) in
+    let more : old.reserved + length old.letters.order ≡ old.reserved - 1 + length c.push_back-id.new.self.order = omega (arith, ap length c.push_back-id.ensures.order, length-append old.letters.order (id ∷ []), some) in (
+      messages ++ Entry.here (record { id = id; request = Some c.args.request; fate = Open }) ∷ [],
       line,
-      (some, c.if-not-self.false, none_given messages old.letters.items old.next_id old.stored p old.sent, refl),
-      present_last messages _ ∙ ap (λ letters. letters ++ record { id = old.next_id; request = Some c.args.request; fate = Open } ∷ []) p ∙ sym c.push_reserved.ensures.items,
-      stands_as old.bound (old.reserved + old.queued) (old.reserved - 1 + (old.queued + 1)) old.granted old.waiters line (omega (arith, some)) s,
+      (some, c.if-not-self.false, none_with old.letters messages id (λ letter. Unit {0}) h (λ letter there _. not_none _ (sym there ∙ c.push_back-id.ensures.was_vacant)), refl),
+      holds_pushed old.letters c.push_back-id.new.self messages h id c.args.request c.push_back-id.ensures.was_vacant c.push_back-id.ensures.entries c.push_back-id.ensures.order,
+      stands_as old.bound (old.reserved + length old.letters.order) (old.reserved - 1 + length c.push_back-id.new.self.order) old.granted old.waiters line more s,
     )
 
 pub invariant_of-self : goal.invariant_of-self
 invariant_of-self g c =
     let old = c.args.self.now in
+    let id = c.push_back-id.result in
     let some : 0 < old.reserved = omega (arith, c.if-self-eq0.false) in
-    let more : queued_letters c.push_reserved.new.self.items ≡ queued_letters old.letters.items + 1 =
-    ap queued_letters c.push_reserved.ensures.items ∙ queued_last old.letters.items old.next_id c.args.request Open in record {
-      fits = omega (arith, old.fits, some);
-      full = λ waits. omega (arith, old.full waits, some);
+    let more : length c.push_back-id.new.self.order ≡ length old.letters.order + 1 = omega (arith, ap length c.push_back-id.ensures.order, length-append old.letters.order (id ∷ [])) in
+    let was : Sorted old.stored old.letters = record { differ = old.differ; linked = old.linked; sent = old.sent } in
+    let now = sorted_pushed old.stored old.letters c.push_back-id.new.self was id c.args.request c.push_back-id.ensures.was_vacant c.push_back-id.ensures.entries c.push_back-id.ensures.order in
+    record {
+      limit = old.limit;
+      fits = omega (arith, old.fits, some, more);
+      full = λ waits. omega (arith, old.full waits, some, more);
       apart = old.apart;
       present = old.present;
       count = old.count;
       places = old.places;
-      held = omega (arith, old.held, more);
-      room = omega (arith, old.room, some, c.push_reserved.ensures.len, c.push_reserved.ensures.capacity);
-      numbers = omega (arith, old.numbers, some);
-      sent = rw c.push_reserved.ensures.items (one_more old.next_id old.stored old.letters.items c.args.request old.sent);
+      room = omega (arith, old.room, some, c.push_back-id.ensures.len, c.push_back-id.ensures.capacity);
+      differ = now.differ;
+      linked = now.linked;
+      sent = now.sent;
     }

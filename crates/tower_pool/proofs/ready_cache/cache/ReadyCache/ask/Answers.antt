@@ -1,84 +1,133 @@
-use Rattle.std.proofs.Common.{rules, ◌≡◌, ◌<◌, ◌∙◌, Ok, Err, false, ap, sym, subst, length, refl, arith}
+use Rattle.std.proofs.Common.{rules, ◌≡◌, ◌∙◌, [], ◌∷◌, ◌++◌, Ok, Err, ◌&&◌, ◌||◌, not, is_some, cond, Some, true, false, ap, sym, refl}
+use Rattle.std.specs.Map.{lookup}
+use Rattle.std.specs.Option.{option_map_or}
 use Rattle.futures.specs.declared.task.Poll.TheVariants.{Ready}
+use Rattle.tower_pool.specs.declared.ready_cache.error.Error.TheVariants.{Failed}
 use Rattle.indexmap.specs.IndexMap.{insert_entry}
-use Rattle.tower_pool.proofs.AskLemmas.{asked_failed, asked_ready, asked_waits, kept_gone, kept_waits, length-as, length-inserted, one_item, remove_set, sound_gone, sound_ready, sound_waits, taken_set, when_ok}
+use Rattle.tower_pool.specs.ReadyCache.{awaited}
+use Rattle.tower_pool.specs.Waiters.{cache_of, entry_of, knows}
+use Rattle.tower_pool.proofs.AskLemmas.{asked_by, sound_first, sound_gone, sound_last, sound_ready, when_ok}
+use Rattle.tower_pool.proofs.CacheLemmas.{same_view}
+use Rattle.tower_pool.proofs.KeptLemmas.{kept_dropped, kept_failed, kept_inserted, kept_last}
 use Rattle.tower_pool.proofs.ready_cache.cache.ReadyCache.ask.Goals as goal
 
-pub invariant_of-self : goal.invariant_of-self
-invariant_of-self g c =
-    let below : c.args.index < length c.self.inside.pending.items = search rules in
-    let es = c.self.inside.ready.entries in
-    kept_gone g.K.PartialEq.eq g.K.Clone.is_clone es es c.self.inside.pending.items c.remove.new.self.items _ _ c.args.index
-    (omega arith) below c.remove.ensures.items c.remove.ensures.capacity c.self.invariant
+pub returns-then-is_cancelled-clause-held : goal.returns-then-is_cancelled-clause-held
+returns-then-is_cancelled-clause-held g c =
+    let q = entry_of c.unwrap-key.result in
+    let mid = c.take_first.new.self.items in
+    let take = c.take_first.ensures.items ∙ ap (λ r. option_map_or (λ e. entry_of e ∷ c.take_first.new.self.items) r []) c.unwrap-key.ensures in
+    let gone : q.cancelled ≡ true = search rules in
+    kept_dropped g.K.PartialEq.eq g.met.K.Eq.laws g.K.Clone.is_clone c.args.ready.now.entries c.args.pending.now.items (knows g.K.PartialEq.eq c.args.pending.now) c.args.pending.now.room c.requires.held q mid take
+    c.args.ready.now.entries mid (knows g.K.PartialEq.eq c.take_first.new.self) c.take_first.new.self.room c.take_first.ensures.room gone refl refl c.take_first.ensures.knows
+
+pub returns-then-is_err-clause-held : goal.returns-then-is_err-clause-held
+returns-then-is_err-clause-held g c =
+    let q = entry_of c.unwrap-key.result in
+    let mid = c.take_first.new.self.items in
+    let take = c.take_first.ensures.items ∙ ap (λ r. option_map_or (λ e. entry_of e ∷ c.take_first.new.self.items) r []) c.unwrap-key.ensures in
+    let alive : q.cancelled ≡ false = search rules in
+    kept_last g.K.PartialEq.eq g.met.K.Eq.laws g.K.Clone.is_clone c.args.ready.now.entries c.args.pending.now.items (knows g.K.PartialEq.eq c.args.pending.now) c.args.pending.now.room c.requires.held q mid take
+    c.reserve.new.self.entries c.append.new.self.items (knows g.K.PartialEq.eq c.append.new.self) c.append.new.self.room (c.append.ensures.room ∙ c.take_first.ensures.room)
+    (entry_of (q.key, q.service, false)) refl (sym alive) c.reserve.ensures.entries c.append.ensures.items (λ k. c.append.ensures.knows k ∙ c.take_first.ensures.knows k)
+
+pub returns-in-Pending-clause-held : goal.returns-in-Pending-clause-held
+returns-in-Pending-clause-held g c =
+    let q = entry_of c.unwrap-key.result in
+    let mid = c.take_first.new.self.items in
+    let take = c.take_first.ensures.items ∙ ap (λ r. option_map_or (λ e. entry_of e ∷ c.take_first.new.self.items) r []) c.unwrap-key.ensures in
+    let alive : q.cancelled ≡ false = search rules in
+    kept_last g.K.PartialEq.eq g.met.K.Eq.laws g.K.Clone.is_clone c.args.ready.now.entries c.args.pending.now.items (knows g.K.PartialEq.eq c.args.pending.now) c.args.pending.now.room c.requires.held q mid take
+    c.reserve.new.self.entries c.append-in-Pending.new.self.items (knows g.K.PartialEq.eq c.append-in-Pending.new.self) c.append-in-Pending.new.self.room (c.append-in-Pending.ensures.room ∙ c.take_first.ensures.room)
+    (entry_of (q.key, c.poll_ready.new.self, false)) refl (sym alive) c.reserve.ensures.entries c.append-in-Pending.ensures.items (λ k. c.append-in-Pending.ensures.knows k ∙ c.take_first.ensures.knows k)
+
+pub returns-in-Ready-Ok-clause-held : goal.returns-in-Ready-Ok-clause-held
+returns-in-Ready-Ok-clause-held g c =
+    let q = entry_of c.unwrap-key.result in
+    let mid = c.take_first.new.self.items in
+    let take = c.take_first.ensures.items ∙ ap (λ r. option_map_or (λ e. entry_of e ∷ c.take_first.new.self.items) r []) c.unwrap-key.ensures in
+    let alive : q.cancelled ≡ false = search rules in
+    let eq = g.K.PartialEq.eq in
+    let entries = when_ok c.insert.result c.unwrap.result _ c.unwrap.ensures c.insert.ensures.entries in
+    let put = when_ok c.insert.result c.unwrap.result _ c.unwrap.ensures c.insert.ensures.updates in
+    kept_inserted g.K.PartialEq.eq g.met.K.Eq.laws g.K.Clone.is_clone c.args.ready.now.entries c.args.pending.now.items (knows g.K.PartialEq.eq c.args.pending.now) c.args.pending.now.room c.requires.held q mid take
+    c.insert.new.self.entries mid (knows eq c.take_first.new.self) c.take_first.new.self.room c.take_first.ensures.room alive c.poll_ready.new.self
+    (entries ∙ (λ j. insert_entry eq (c.reserve.ensures.entries j) q.key c.poll_ready.new.self)) (λ k. put.0 k ∙ (λ j. cond (eq q.key k) (Some c.poll_ready.new.self) (lookup (eq k) (c.reserve.ensures.entries j)))) refl c.take_first.ensures.knows
+
+pub returns-in-Ready-Err-clause-held : goal.returns-in-Ready-Err-clause-held
+returns-in-Ready-Err-clause-held g c =
+    let q = entry_of c.unwrap-key.result in
+    let mid = c.take_first.new.self.items in
+    let take = c.take_first.ensures.items ∙ ap (λ r. option_map_or (λ e. entry_of e ∷ c.take_first.new.self.items) r []) c.unwrap-key.ensures in
+    let alive : q.cancelled ≡ false = search rules in
+    let eq = g.K.PartialEq.eq in
+    kept_failed g.K.PartialEq.eq g.met.K.Eq.laws g.K.Clone.is_clone c.args.ready.now.entries c.args.pending.now.items (knows g.K.PartialEq.eq c.args.pending.now) c.args.pending.now.room c.requires.held q mid take
+    c.reserve.new.self.entries c.let_go.new.self.items (knows eq c.let_go.new.self) c.let_go.new.self.room (c.let_go.ensures.room ∙ c.take_first.ensures.room) alive c.contains_key.result
+    (c.contains_key.ensures ∙ (λ j. is_some (lookup (eq q.key) (c.reserve.ensures.entries j)))) c.reserve.ensures.entries c.let_go.ensures.items
+    (λ k. c.let_go.ensures.knows k ∙ (λ j. c.take_first.ensures.knows k j && not (eq q.key k && not (c.contains_key.result || awaited eq q.key mid))))
 
 pub returns-then-is_cancelled-clause-sound : goal.returns-then-is_cancelled-clause-sound
 returns-then-is_cancelled-clause-sound g c =
-    sound_gone g.K.PartialEq.eq g.S.Service.sound _ _ c.self.view_is c.requires.sound c.self.inside.ready.entries c.remove.new.self.items c.args.index refl c.remove.ensures.items
+    let q = entry_of c.unwrap-key.result in
+    let mid = c.take_first.new.self.items in
+    let take = c.take_first.ensures.items ∙ ap (λ r. option_map_or (λ e. entry_of e ∷ c.take_first.new.self.items) r []) c.unwrap-key.ensures in
+    sound_gone g.K.PartialEq.eq g.S.Service.sound _ _ refl c.requires.sound q mid take c.args.ready.now.entries mid refl refl
 
-pub invariant_of-self-in-Pending : goal.invariant_of-self-in-Pending
-invariant_of-self-in-Pending g c =
-    kept_waits g.K.PartialEq.eq g.K.Clone.is_clone c.self.inside.ready.entries c.reserve.new.self.entries c.self.inside.pending.items c.self.inside.pending.cap c.args.index c.index_mut.result.now
-    c.poll.new.self c.reserve.ensures.entries c.index_mut.ensures.value c.poll.ensures.same c.self.invariant
-
-pub invariant_of-self-in-Ready-Ok : goal.invariant_of-self-in-Ready-Ok
-invariant_of-self-in-Ready-Ok g c =
-    let below : c.args.index < length c.self.inside.pending.items = search rules in
-    let entries = when_ok c.insert.result c.unwrap.result _ c.unwrap.ensures c.insert.ensures.entries in
-    kept_gone g.K.PartialEq.eq g.K.Clone.is_clone c.self.inside.ready.entries c.insert.new.self.entries c.self.inside.pending.items c.remove-in-Ready-Ok.new.self.items c.self.inside.pending.cap _ c.args.index
-    (length-inserted g.K.PartialEq.eq g.K.Clone.is_clone _ _ _ _ _ entries c.reserve.ensures.entries) below
-    (c.remove-in-Ready-Ok.ensures.items ∙ remove_set c.self.inside.pending.items c.args.index c.poll.new.self) c.remove-in-Ready-Ok.ensures.capacity c.self.invariant
-
-pub invariant_of-self-in-Ready-Err : goal.invariant_of-self-in-Ready-Err
-invariant_of-self-in-Ready-Err g c =
-    let below : c.args.index < length c.self.inside.pending.items = search rules in
-    kept_gone g.K.PartialEq.eq g.K.Clone.is_clone c.self.inside.ready.entries c.reserve.new.self.entries c.self.inside.pending.items c.remove-in-Ready-Err.new.self.items c.self.inside.pending.cap _ c.args.index
-    (length-as g.K.PartialEq.eq g.K.Clone.is_clone _ _ c.reserve.ensures.entries) below
-    (c.remove-in-Ready-Err.ensures.items ∙ remove_set c.self.inside.pending.items c.args.index c.poll.new.self) c.remove-in-Ready-Err.ensures.capacity c.self.invariant
-
-pub returns-in-Pending-clause-asked : goal.returns-in-Pending-clause-asked
-returns-in-Pending-clause-asked g c =
-    let below : c.args.index < length c.self.inside.pending.items = search rules in
-    let q = c.index_mut.result.now in
-    let alive : q.cancelled ≡ false = ap (λ p. p.cancelled) (one_item c.self.inside.pending.items c.args.index q c.index.result.now below c.index_mut.ensures.value c.index.ensures) ∙ sym c.is_cancelled.ensures ∙ c.if-is_cancelled.false in
-    asked_waits g.K.PartialEq.eq g.S.Service (record { ready = c.self.inside.ready.entries; pending = c.self.inside.pending.items }) c.args.self.now c.self.view_is c.args.index q c.index_mut.ensures.value alive
-    c.reserve.new.self.entries c.poll.new.self c.reserve.ensures.entries c.poll.ensures.same c.in-Pending.ensures.polled
+pub returns-then-is_err-clause-sound : goal.returns-then-is_err-clause-sound
+returns-then-is_err-clause-sound g c =
+    let q = entry_of c.unwrap-key.result in
+    let mid = c.take_first.new.self.items in
+    let take = c.take_first.ensures.items ∙ ap (λ r. option_map_or (λ e. entry_of e ∷ c.take_first.new.self.items) r []) c.unwrap-key.ensures in
+    sound_last g.K.PartialEq.eq g.S.Service.sound _ _ refl c.requires.sound q mid take c.reserve.new.self.entries c.append.new.self.items (entry_of (q.key, q.service, false)) c.reserve.ensures.entries (sound_first g.K.PartialEq.eq g.S.Service.sound _ _ refl c.requires.sound q mid take) c.append.ensures.items
 
 pub returns-in-Pending-clause-sound : goal.returns-in-Pending-clause-sound
 returns-in-Pending-clause-sound g c =
-    sound_waits g.K.PartialEq.eq g.S.Service.sound _ _ c.self.view_is c.requires.sound c.reserve.new.self.entries c.args.index c.poll.new.self c.reserve.ensures.entries c.poll.ensures.sound
-
-pub returns-in-Ready-Ok-clause-asked : goal.returns-in-Ready-Ok-clause-asked
-returns-in-Ready-Ok-clause-asked g c =
-    let below : c.args.index < length c.self.inside.pending.items = search rules in
-    let q = c.index_mut.result.now in
-    let alive : q.cancelled ≡ false = ap (λ p. p.cancelled) (one_item c.self.inside.pending.items c.args.index q c.index.result.now below c.index_mut.ensures.value c.index.ensures) ∙ sym c.is_cancelled.ensures ∙ c.if-is_cancelled.false in
-    let entries = when_ok c.insert.result c.unwrap.result _ c.unwrap.ensures c.insert.ensures.entries in
-    let polled : g.S.Service.polled q.service (Ready (Ok tt)) c.poll.new.self.service = search rules in
-    asked_ready g.K.PartialEq.eq g.S.Service (record { ready = c.self.inside.ready.entries; pending = c.self.inside.pending.items }) c.args.self.now c.self.view_is c.args.index q c.index_mut.ensures.value alive
-    c.insert.new.self.entries c.remove-in-Ready-Ok.new.self.items c.poll.new.self c.remove-in-Ready-Ok.result c.into_parts-key.result below c.poll.ensures.same polled c.remove-in-Ready-Ok.ensures.value c.into_parts-key.ensures
-    (entries ∙ ap (λ es. insert_entry g.K.PartialEq.eq es c.into_parts-key.result.0 c.into_parts-key.result.1) c.reserve.ensures.entries) c.remove-in-Ready-Ok.ensures.items
+    let q = entry_of c.unwrap-key.result in
+    let mid = c.take_first.new.self.items in
+    let take = c.take_first.ensures.items ∙ ap (λ r. option_map_or (λ e. entry_of e ∷ c.take_first.new.self.items) r []) c.unwrap-key.ensures in
+    sound_last g.K.PartialEq.eq g.S.Service.sound _ _ refl c.requires.sound q mid take c.reserve.new.self.entries c.append-in-Pending.new.self.items (entry_of (q.key, c.poll_ready.new.self, false)) c.reserve.ensures.entries c.poll_ready.ensures.sound c.append-in-Pending.ensures.items
 
 pub returns-in-Ready-Ok-clause-sound : goal.returns-in-Ready-Ok-clause-sound
 returns-in-Ready-Ok-clause-sound g c =
-    let below : c.args.index < length c.self.inside.pending.items = search rules in
+    let q = entry_of c.unwrap-key.result in
+    let mid = c.take_first.new.self.items in
+    let take = c.take_first.ensures.items ∙ ap (λ r. option_map_or (λ e. entry_of e ∷ c.take_first.new.self.items) r []) c.unwrap-key.ensures in
     let entries = when_ok c.insert.result c.unwrap.result _ c.unwrap.ensures c.insert.ensures.entries in
-    let last = c.remove-in-Ready-Ok.ensures.value ∙ taken_set c.self.inside.pending.items c.args.index c.poll.new.self c.remove-in-Ready-Ok.result below in
-    sound_ready g.K.PartialEq.eq g.S.Service.sound _ _ c.self.view_is c.requires.sound c.insert.new.self.entries c.remove-in-Ready-Ok.new.self.items c.args.index c.into_parts-key.result.0 c.into_parts-key.result.1
-    (subst g.S.Service.sound (sym (ap (λ x. x.1) c.into_parts-key.ensures ∙ ap (λ p. p.service) last)) c.poll.ensures.sound)
-    (entries ∙ ap (λ es. insert_entry g.K.PartialEq.eq es c.into_parts-key.result.0 c.into_parts-key.result.1) c.reserve.ensures.entries)
-    (c.remove-in-Ready-Ok.ensures.items ∙ remove_set c.self.inside.pending.items c.args.index c.poll.new.self)
-
-pub returns-in-Ready-Err-clause-asked : goal.returns-in-Ready-Err-clause-asked
-returns-in-Ready-Err-clause-asked g c =
-    let below : c.args.index < length c.self.inside.pending.items = search rules in
-    let q = c.index_mut.result.now in
-    let alive : q.cancelled ≡ false = ap (λ p. p.cancelled) (one_item c.self.inside.pending.items c.args.index q c.index.result.now below c.index_mut.ensures.value c.index.ensures) ∙ sym c.is_cancelled.ensures ∙ c.if-is_cancelled.false in
-    let polled : g.S.Service.polled q.service (Ready (Err c.in-Ready-Err.error)) c.poll.new.self.service = search rules in
-    asked_failed g.K.PartialEq.eq g.S.Service (record { ready = c.self.inside.ready.entries; pending = c.self.inside.pending.items }) c.args.self.now c.self.view_is c.args.index q c.index_mut.ensures.value alive
-    c.in-Ready-Err.error c.reserve.new.self.entries c.remove-in-Ready-Err.new.self.items c.poll.new.self c.remove-in-Ready-Err.result c.into_parts-key-in-Ready-Err.result below c.poll.ensures.same polled
-    c.remove-in-Ready-Err.ensures.value c.into_parts-key-in-Ready-Err.ensures c.reserve.ensures.entries c.remove-in-Ready-Err.ensures.items
+    sound_ready g.K.PartialEq.eq g.S.Service.sound _ _ refl c.requires.sound q mid take c.insert.new.self.entries mid q.key c.poll_ready.new.self c.poll_ready.ensures.sound
+    (entries ∙ ap (λ es. insert_entry g.K.PartialEq.eq es q.key c.poll_ready.new.self) c.reserve.ensures.entries) refl
 
 pub returns-in-Ready-Err-clause-sound : goal.returns-in-Ready-Err-clause-sound
 returns-in-Ready-Err-clause-sound g c =
-    sound_gone g.K.PartialEq.eq g.S.Service.sound _ _ c.self.view_is c.requires.sound c.reserve.new.self.entries c.remove-in-Ready-Err.new.self.items c.args.index c.reserve.ensures.entries
-    (c.remove-in-Ready-Err.ensures.items ∙ remove_set c.self.inside.pending.items c.args.index c.poll.new.self)
+    let q = entry_of c.unwrap-key.result in
+    let mid = c.take_first.new.self.items in
+    let take = c.take_first.ensures.items ∙ ap (λ r. option_map_or (λ e. entry_of e ∷ c.take_first.new.self.items) r []) c.unwrap-key.ensures in
+    sound_gone g.K.PartialEq.eq g.S.Service.sound _ _ refl c.requires.sound q mid take c.reserve.new.self.entries c.let_go.new.self.items c.reserve.ensures.entries c.let_go.ensures.items
+
+pub poll_ready-requires : goal.poll_ready-requires
+poll_ready-requires g c =
+    let q = entry_of c.unwrap-key.result in
+    let mid = c.take_first.new.self.items in
+    let take = c.take_first.ensures.items ∙ ap (λ r. option_map_or (λ e. entry_of e ∷ c.take_first.new.self.items) r []) c.unwrap-key.ensures in
+    sound_first g.K.PartialEq.eq g.S.Service.sound _ _ refl c.requires.sound q mid take
+
+pub returns-in-Pending-clause-asked : goal.returns-in-Pending-clause-asked
+returns-in-Pending-clause-asked g c =
+    let q = entry_of c.unwrap-key.result in
+    let mid = c.take_first.new.self.items in
+    let take = c.take_first.ensures.items ∙ ap (λ r. option_map_or (λ e. entry_of e ∷ c.take_first.new.self.items) r []) c.unwrap-key.ensures in
+    let alive : q.cancelled ≡ false = search rules in
+    let w = c.poll_ready.new.self in
+    let was = cache_of c.args.ready.now.entries c.args.pending.now in
+    asked_by g.K.PartialEq.eq g.S.Service was was refl q mid take (Ok true) (cache_of c.reserve.new.self.entries c.append-in-Pending.new.self)
+    (alive, (w, c.in-Pending.ensures.polled, same_view _ _ _ _ c.reserve.ensures.entries (c.append-in-Pending.ensures.items ∙ (λ j. mid ++ entry_of (q.key, w, sym alive j) ∷ []))))
+
+pub returns-in-Ready-Err-clause-asked : goal.returns-in-Ready-Err-clause-asked
+returns-in-Ready-Err-clause-asked g c =
+    let q = entry_of c.unwrap-key.result in
+    let mid = c.take_first.new.self.items in
+    let take = c.take_first.ensures.items ∙ ap (λ r. option_map_or (λ e. entry_of e ∷ c.take_first.new.self.items) r []) c.unwrap-key.ensures in
+    let alive : q.cancelled ≡ false = search rules in
+    let w = c.poll_ready.new.self in
+    let was = cache_of c.args.ready.now.entries c.args.pending.now in
+    let came : g.S.Service.polled q.service (Ready (Err c.in-Ready-Err.error)) w = search rules in
+    asked_by g.K.PartialEq.eq g.S.Service was was refl q mid take (Err (Failed q.key c.in-Ready-Err.error)) (cache_of c.reserve.new.self.entries c.let_go.new.self)
+    (alive, refl, (w, came, same_view _ _ _ _ c.reserve.ensures.entries c.let_go.ensures.items))

@@ -1,14 +1,25 @@
-use Rattle.std.proofs.Common.{All, sym, subst, ◌∙◌}
-use Rattle.tower_pool.specs.ReadyCache.{At, Sound}
-use Rattle.tower_pool.proofs.CacheLemmas.{called_of, kept_back, same_view}
+use Rattle.std.proofs.Common.{All, ◌||◌, sym, subst, ◌∙◌}
+use Rattle.tower_pool.specs.ReadyCache.{At, Sound, awaited}
+use Rattle.tower_pool.specs.Waiters.{knows}
+use Rattle.tower_pool.proofs.CacheLemmas.{called_of, same_view}
+use Rattle.tower_pool.proofs.KeptLemmas.{kept_back, known_at}
 use Rattle.tower_pool.proofs.PlaceLemmas.{All-swap_remove, for_some, inside, one_less, taken}
 use Rattle.tower_pool.proofs.PendingLemmas.{All-put_back}
 use Rattle.tower_pool.proofs.ready_cache.cache.ReadyCache.call_ready_index.Goals as goal
 
+pub put_back-requires-clause-known : goal.put_back-requires-clause-known
+put_back-requires-clause-known g c =
+    let u = c.unwrap-key.result in
+    c.self.invariant.known u.0 ∙ (λ j. known_at g.K.PartialEq.eq g.met.K.Eq.laws c.self.inside.ready.entries c.args.index u.0 u.1 (sym c.swap_remove_index.ensures.entry ∙ c.unwrap-key.ensures) j || awaited g.K.PartialEq.eq u.0 c.self.inside.pending.items)
+
 pub invariant_of-self : goal.invariant_of-self
 invariant_of-self g c =
-    kept_back g.K.PartialEq.eq g.K.Clone.is_clone g.met.K.Eq.laws _ _ _ _ _ _ _ _
-    (one_less _ _ _ _ c.unwrap-key.ensures c.swap_remove_index.ensures.len) c.put_back.ensures.items c.put_back.ensures.capacity c.self.invariant
+    let u = c.unwrap-key.result in
+    kept_back g.K.PartialEq.eq g.met.K.Eq.laws g.K.Clone.is_clone c.self.inside.ready.entries c.self.inside.pending.items (knows g.K.PartialEq.eq c.self.inside.pending) c.self.inside.pending.room c.self.invariant u.0
+    c.swap_remove_index.new.self.entries (for_some _ u _ c.unwrap-key.ensures c.swap_remove_index.ensures.updates).0 c.put_back.new.self.items (knows g.K.PartialEq.eq c.put_back.new.self) c.put_back.new.self.room c.put_back.ensures.room
+    c.call-future.new.self (one_less _ _ _ _ c.unwrap-key.ensures c.swap_remove_index.ensures.len)
+    (known_at g.K.PartialEq.eq g.met.K.Eq.laws c.self.inside.ready.entries c.args.index u.0 u.1 (sym c.swap_remove_index.ensures.entry ∙ c.unwrap-key.ensures))
+    c.put_back.ensures.items c.put_back.ensures.knows
 
 pub returns-clause-called : goal.returns-clause-called
 returns-clause-called g c =

@@ -1,13 +1,16 @@
-use Rattle.std.proofs.Common.{All, rules, Err, is_some, refl, sym, ap, subst, ◌∙◌, arith}
+use Rattle.std.proofs.Common.{All, rules, ◌||◌, Err, is_some, refl, sym, ap, subst, ◌∙◌, arith}
 use Rattle.futures.specs.declared.task.Poll.TheVariants.{Ready}
-use Rattle.tower_pool.specs.ReadyCache.{Sound, put_back}
-use Rattle.tower_pool.proofs.CacheLemmas.{checked_of, kept_back, kept_ready, same_view}
-use Rattle.tower_pool.proofs.PlaceLemmas.{All-swap_remove, All-written, as_long, at_written, for_some, inside, one_less, swap_written, taken, within}
+use Rattle.tower_pool.specs.ReadyCache.{Sound, awaited, put_back}
+use Rattle.tower_pool.specs.Waiters.{knows}
+use Rattle.indexmap.specs.IndexMap.{set_value_at}
+use Rattle.tower_pool.proofs.CacheLemmas.{checked_of, same_view}
+use Rattle.tower_pool.proofs.KeptLemmas.{kept_back, kept_left, kept_lent, known_at, known_written}
+use Rattle.tower_pool.proofs.PlaceLemmas.{All-swap_remove, All-written, at_written, for_some, inside, one_less, swap_written, taken, within}
 use Rattle.tower_pool.proofs.PendingLemmas.{All-put_back}
 use Rattle.tower_pool.proofs.ready_cache.cache.ReadyCache.check_ready_index.Goals as goal
 
 pub invariant_of-self : goal.invariant_of-self
-invariant_of-self g c = kept_ready _ _ _ _ _ _ (omega (arith, as_long c.self.inside.ready.entries c.args.index c.poll_ready.new.self)) c.self.invariant
+invariant_of-self g c = kept_lent g.K.PartialEq.eq g.met.K.Eq.laws g.K.Clone.is_clone c.self.inside.ready.entries c.self.inside.pending.items (knows g.K.PartialEq.eq c.self.inside.pending) c.self.inside.pending.room c.self.invariant c.args.index c.poll_ready.new.self
 
 pub unwrap-key-requires : goal.unwrap-key-requires
 unwrap-key-requires g c =
@@ -15,17 +18,32 @@ unwrap-key-requires g c =
 
 pub invariant_of-self-in-Ready-Err : goal.invariant_of-self-in-Ready-Err
 invariant_of-self-in-Ready-Err g c =
-    kept_ready _ _ _ _ _ _ (omega (arith, as_long c.self.inside.ready.entries c.args.index c.poll_ready.new.self, one_less _ _ _ _ c.unwrap-key.ensures c.swap_remove_index.ensures.len)) c.self.invariant
+    let u = c.unwrap-key.result in
+    kept_left g.K.PartialEq.eq g.met.K.Eq.laws g.K.Clone.is_clone (set_value_at c.self.inside.ready.entries c.args.index c.poll_ready.new.self) c.self.inside.pending.items (knows g.K.PartialEq.eq c.self.inside.pending) c.self.inside.pending.room
+    (kept_lent g.K.PartialEq.eq g.met.K.Eq.laws g.K.Clone.is_clone c.self.inside.ready.entries c.self.inside.pending.items (knows g.K.PartialEq.eq c.self.inside.pending) c.self.inside.pending.room c.self.invariant c.args.index c.poll_ready.new.self) u.0
+    c.swap_remove_index.new.self.entries (for_some _ u _ c.unwrap-key.ensures c.swap_remove_index.ensures.updates).0 c.let_go.new.self.items (knows g.K.PartialEq.eq c.let_go.new.self) c.let_go.new.self.room c.let_go.ensures.room
+    (omega (arith, one_less _ _ _ _ c.unwrap-key.ensures c.swap_remove_index.ensures.len)) c.let_go.ensures.items c.let_go.ensures.knows
 
 pub unwrap-key-requires-in-Pending : goal.unwrap-key-requires-in-Pending
 unwrap-key-requires-in-Pending g c =
     ap is_some (c.swap_remove_index-in-Pending.ensures.entry ∙ at_written _ c.args.index _ _ c.poll_ready.new.self c.pair_mut-service.ensures.value)
 
+pub put_back-requires-clause-known : goal.put_back-requires-clause-known
+put_back-requires-clause-known g c =
+    let u = c.unwrap-key-in-Pending.result in
+    let there = sym c.swap_remove_index-in-Pending.ensures.entry ∙ c.unwrap-key-in-Pending.ensures in
+    c.self.invariant.known u.0 ∙ (λ j. (sym (known_written (g.K.PartialEq.eq u.0) c.self.inside.ready.entries c.args.index c.poll_ready.new.self) ∙ known_at g.K.PartialEq.eq g.met.K.Eq.laws _ c.args.index u.0 u.1 there) j || awaited g.K.PartialEq.eq u.0 c.self.inside.pending.items)
+
 pub invariant_of-self-in-Pending : goal.invariant_of-self-in-Pending
 invariant_of-self-in-Pending g c =
-    kept_back g.K.PartialEq.eq g.K.Clone.is_clone g.met.K.Eq.laws _ _ _ _ _ _ _ _
-    (one_less _ _ _ _ c.unwrap-key-in-Pending.ensures c.swap_remove_index-in-Pending.ensures.len ∙ as_long c.self.inside.ready.entries c.args.index c.poll_ready.new.self)
-    c.put_back.ensures.items c.put_back.ensures.capacity c.self.invariant
+    let u = c.unwrap-key-in-Pending.result in
+    let there = sym c.swap_remove_index-in-Pending.ensures.entry ∙ c.unwrap-key-in-Pending.ensures in
+    kept_back g.K.PartialEq.eq g.met.K.Eq.laws g.K.Clone.is_clone (set_value_at c.self.inside.ready.entries c.args.index c.poll_ready.new.self) c.self.inside.pending.items (knows g.K.PartialEq.eq c.self.inside.pending) c.self.inside.pending.room
+    (kept_lent g.K.PartialEq.eq g.met.K.Eq.laws g.K.Clone.is_clone c.self.inside.ready.entries c.self.inside.pending.items (knows g.K.PartialEq.eq c.self.inside.pending) c.self.inside.pending.room c.self.invariant c.args.index c.poll_ready.new.self) u.0
+    c.swap_remove_index-in-Pending.new.self.entries (for_some _ u _ c.unwrap-key-in-Pending.ensures c.swap_remove_index-in-Pending.ensures.updates).0 c.put_back.new.self.items (knows g.K.PartialEq.eq c.put_back.new.self) c.put_back.new.self.room c.put_back.ensures.room
+    u.1 (one_less _ _ _ _ c.unwrap-key-in-Pending.ensures c.swap_remove_index-in-Pending.ensures.len)
+    (known_at g.K.PartialEq.eq g.met.K.Eq.laws _ c.args.index u.0 u.1 there)
+    c.put_back.ensures.items c.put_back.ensures.knows
 
 pub returns-in-Ready-Ok-clause-checked : goal.returns-in-Ready-Ok-clause-checked
 returns-in-Ready-Ok-clause-checked g c =
@@ -54,7 +72,7 @@ returns-in-Ready-Err-clause-checked g c =
     let is = taken _ c.args.index _ c.unwrap-key.result (at_written es c.args.index k v w at) there in
     let out = for_some _ c.unwrap-key.result _ c.unwrap-key.ensures c.swap_remove_index.ensures.entries in
     (checked_of g.K.PartialEq.eq g.S.Service _ _ c.self.view_is c.args.index _ _ (k, v) _ w at came
-    ((λ j. Err (record { 0 = (is j).0; 1 = c.in-Ready-Err.error })), same_view _ _ _ _ (out ∙ swap_written es c.args.index w _ (k, v) (within es c.args.index _ at)) refl))
+    ((λ j. Err (record { 0 = (is j).0; 1 = c.in-Ready-Err.error })), same_view _ _ _ _ (out ∙ swap_written es c.args.index w _ (k, v) (within es c.args.index _ at)) c.let_go.ensures.items))
 
 pub returns-in-Ready-Err-clause-sound : goal.returns-in-Ready-Err-clause-sound
 returns-in-Ready-Err-clause-sound g c =
@@ -63,7 +81,7 @@ returns-in-Ready-Err-clause-sound g c =
     record {
       ready = subst (All (λ e. g.S.Service.sound e.1)) (sym (for_some _ c.unwrap-key.result _ c.unwrap-key.ensures c.swap_remove_index.ensures.entries))
           (All-swap_remove (λ e. g.S.Service.sound e.1) _ _ _ (inside _ _ _ there) (All-written g.S.Service.sound _ _ _ c.poll_ready.ensures.sound s.ready));
-      pending = s.pending;
+      pending = subst (All (λ p. g.S.Service.sound p.service)) (sym c.let_go.ensures.items) s.pending;
     }
 
 pub returns-in-Pending-clause-checked : goal.returns-in-Pending-clause-checked

@@ -1,11 +1,12 @@
 use Rattle.std.proofs.Common.{◌∙◌, ap, slice_get}
 use Rattle.std.specs.Option.{option_map}
-use Rattle.tower_pool.proofs.CacheLemmas.{kept_lent}
+use Rattle.tower_pool.specs.Waiters.{knows}
+use Rattle.tower_pool.proofs.KeptLemmas.{kept_lent}
 use Rattle.tower_pool.proofs.PlaceLemmas.{value_there}
 use Rattle.tower_pool.proofs.ready_cache.cache.ReadyCache.get_ready_index_mut.Goals as goal
 
 pub invariant_of-self-lent : goal.invariant_of-self-lent
-invariant_of-self-lent g c = λ _. (λ w. kept_lent g.K.PartialEq.eq g.K.Clone.is_clone _ _ _ c.args.index w c.self.invariant, c.self.invariant)
+invariant_of-self-lent g c = λ _. (λ w. kept_lent g.K.PartialEq.eq g.met.K.Eq.laws g.K.Clone.is_clone c.self.inside.ready.entries c.self.inside.pending.items (knows g.K.PartialEq.eq c.self.inside.pending) c.self.inside.pending.room c.self.invariant c.args.index w, c.self.invariant)
 
 pub returns : goal.returns
 returns g c = (

@@ -1,0 +1,92 @@
+//! Waiters whose slab can't grow: a line of permits, and mail.
+ghost use Rattle.std.specs.Prelude.{◌<◌};
+
+use std::alloc::Global;
+use std::test::Fail;
+use tower::buffer::{MailCore, MailReply, MailStep};
+use tower::latch::Core;
+use tower::limit::concurrency::{LineCore, LineReply, LineStep};
+
+// Nine wait for a line's permit, where nobody has one. A refused one isn't in the line, all others are as before, and at its
+// second try it gets the key that it would have had.
+fn nine_join(alloc: Global, again: bool) -> Result<(), Fail> {
+    let mut line = LineCore::new(alloc, 0);
+    for key in 0..9u64 {
+        let mut reply = line.step(LineStep::Join);
+        if again && reply == LineReply::Memory {
+            if line.step(LineStep::Look(key)) != LineReply::Unknown {
+                return Err("a refused one waits".into());
+            }
+            for earlier in 0..key {
+                if line.step(LineStep::Look(earlier)) != LineReply::Waiting(earlier) {
+                    return Err("one that waits is lost".into());
+                }
+            }
+            reply = line.step(LineStep::Join);
+        }
+        if reply != LineReply::Waiting(key) {
+            return Err("not waiting".into());
+        }
+    }
+    Ok(())
+}
+
+#[test]
+fn refused_join_leaves_the_line(rt: HostRuntime) -> Result<(), Fail> {
+    nine_join(rt.alloc(), true)
+}
+
+#[test]
+fn ample_joins(rt: HostRuntime) -> Result<(), Fail> {
+    nine_join(rt.alloc(), false)
+}
+
+type Step = MailStep<u8, u8, u8>;
+
+// Whether a reply is that of the nth one who asks for a place, where there is one place.
+fn is_nth(reply: &MailReply<u8, u8, u8>, nth: u64) -> bool {
+    match reply {
+        MailReply::Place => nth == 0,
+        MailReply::Waiting(key) => key.checked_add(1) == Some(nth),
+        _ => false,
+    }
+}
+
+// Nine ask for mail's one place. A refused one neither has it nor waits, and all others are as before.
+fn nine_ask(mut mail: MailCore<u8, u8, u8>, again: bool) -> Result<(), Fail> {
+    for nth in 0..9u64 {
+        let mut reply = mail.step(Step::Reserve);
+        if again && matches!(reply, MailReply::Memory) {
+            if nth == 0 && !matches!(mail.step(Step::Unreserve), MailReply::Unknown) {
+                return Err("a refused one has a place".into());
+            }
+            for key in 0..nth {
+                let is_known = matches!(mail.step(Step::Look(key)), MailReply::Waiting(_));
+                if is_known != (key + 1 < nth) {
+                    return Err("who waits isn't as before".into());
+                }
+            }
+            reply = mail.step(Step::Reserve);
+        }
+        if !is_nth(&reply, nth) {
+            return Err("neither a place nor waiting".into());
+        }
+    }
+    Ok(())
+}
+
+fn mail(alloc: Global, bound: usize) -> MailCore<u8, u8, u8>
+    requires { 0 < bound }
+{
+    MailCore::new(alloc, bound)
+}
+
+#[test]
+fn refused_place_leaves_the_mail(rt: HostRuntime) -> Result<(), Fail> {
+    nine_ask(mail(rt.alloc(), 1), true)
+}
+
+#[test]
+fn ample_places(rt: HostRuntime) -> Result<(), Fail> {
+    nine_ask(mail(rt.alloc(), 1), false)
+}
