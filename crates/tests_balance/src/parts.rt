@@ -9,7 +9,7 @@ use std::cmp::Ordering;
 use std::fmt::{self, Display, Write};
 use std::test::Fail;
 use tests_support::log::Log;
-use tests_support::run::{awaited, polled, task};
+use tests_support::run::{awaited, polled, readiness, task};
 use tests_support::script::{Mood, Script};
 use tests_support::service::Scripted;
 use tower::balance::Error;
@@ -284,7 +284,7 @@ where
     requires { B.sound balance.old }
     ensures sound { B.sound balance.new }
 {
-    match polled(solo, balance) {
+    match readiness(solo, balance) {
         Poll::Ready(Ok(())) => {
             let future = balance.call(request);
             match awaited(solo, future) {

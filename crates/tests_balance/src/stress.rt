@@ -8,7 +8,7 @@ use std::cell::Cell;
 use std::convert::Infallible;
 use std::test::Fail;
 use tests_support::checks::Checks;
-use tests_support::run::{polled, task};
+use tests_support::run::{readiness, task};
 use tower::balance::p2c::Balance;
 use tower_base::service::Service;
 use tower_base::util::rng::Rng;
@@ -220,7 +220,7 @@ where
     requires { B.sound balance.old }
     ensures { B.sound balance.new }
 {
-    match polled(solo, balance) {
+    match readiness(solo, balance) {
         Poll::Ready(Ok(())) => {
             if field.find(State::Willing, 0).is_none() {
                 field.fault();

@@ -11,7 +11,7 @@ use std::random::RandomSource;
 use std::sync::Wait;
 use std::test::Fail;
 use tests_support::log::Log;
-use tests_support::run::{polled, stepped, task};
+use tests_support::run::{readiness, stepped, task};
 use tests_support::script::{Mood, Script};
 use tests_support::service::Scripted;
 use tower::spawn_ready::{SlotCore, SpawnReady};
@@ -162,7 +162,7 @@ where
             return;
         };
         let mut handle = viewed.into_inner();
-        match polled(&self.solo, &mut handle) {
+        match readiness(&self.solo, &mut handle) {
             Poll::Pending => self.script.log.note("= pending"),
             Poll::Ready(Err(error)) => self.script.log.note(format_args!("= {error}")),
             Poll::Ready(Ok(())) => {

@@ -18,8 +18,8 @@ pub fn task<R: RandomSource + AllocGlobal>(rt: &R) -> io::Result<Solo> {
     Solo::new(rt, Doorbell::spinning())
 }
 
-// One poll of readiness, with what the service means by its answer.
-fn readiness<Request, S: Service<Request>>(
+/// One poll of readiness, with what the service means by its answer: a call may follow.
+pub fn readiness<Request, S: Service<Request>>(
     solo: &Solo,
     service: &mut S,
 ) -> Poll<Result<(), S::Error>>
