@@ -1,5 +1,5 @@
 //! A second future for each result.
-ghost use Rattle.std.specs.Prelude.{◌≡◌};
+ghost use Rattle.std.specs.Prelude.{◌≡◌, Result};
 ghost use Rattle.futures.specs.Poll.{IfReady, OnPending};
 ghost use Rattle.futures.specs.Task.{Covers, Keeps};
 ghost use Rattle.tower_base.specs.Gives.{MayGive};
@@ -47,13 +47,13 @@ impl<S, F> Then<S, F> {
     }
 }
 
-impl<S, F, Request, A, E, T, U, Fut> Service<Request> for Then<S, F>
+impl<S, F, Request, Fut, T, U> Service<Request> for Then<S, F>
 where
-    S: Service<Request, Response = A, Error = E>,
-    F: Fn(Result<A, E>) -> Fut + Copy,
+    S: Service<Request>,
+    F: Fn(Result<S::Response, S::Error>) -> Fut + Copy,
     Fut: Steps<Output = Result<T, U>>,
     T: Drop,
-    U: From<E> + Drop,
+    U: From<S::Error> + Drop,
 {
     type Response = T;
 
@@ -98,16 +98,16 @@ impl<F1, F2, N> Model for ThenFuture<F1, F2, N> {
     ghost view = { λ t. t.state };
 }
 
-impl<F1, F2, N, A> Future for ThenFuture<F1, F2, N>
+impl<F1, F2, N, A, E, T, U> Future for ThenFuture<F1, F2, N>
 where
-    F1: Steps<Output = A>,
-    F2: Steps,
-    N: Fn(A) -> F2 + Copy,
+    F1: Steps<Output = Result<A, E>>,
+    F2: Steps<Output = Result<T, U>>,
+    N: Fn(Result<A, E>) -> F2 + Copy,
 {
-    type Output = F2::Output;
+    type Output = Result<T, U>;
 
     ghost can_poll = { elim [
-      | First inner f ↦ F1.can_poll inner × N.IsAlwaysCallable f × ((x : A) (second : F2) → N.post f x second → F2.can_poll second)
+      | First inner f ↦ F1.can_poll inner × N.IsAlwaysCallable f × ((x : Result A E) (second : F2) → N.post f x second → F2.can_poll second)
       | Second inner ↦ F2.can_poll inner
     ] };
 
@@ -116,7 +116,7 @@ where
     ghost needs = { elim [ First inner f ↦ F1.needs inner | Second inner ↦ F2.needs inner ] };
 
     #[tactic(auto, using(tower_base::specs::GivesLemmas::gives_value, tower_base::specs::GivesLemmas::gives_same))]
-    fn poll(&mut self, cx: &mut Context<'_>) -> Poll<F2::Output>
+    fn poll(&mut self, cx: &mut Context<'_>) -> Poll<Result<T, U>>
         requires { ⟦<ThenFuture<F1, F2, N> as Future>⟧.can_poll self.old }
         ensures step { ThenStepped F1.stepped N.post F2.stepped self.old result self.new }
         ensures value { IfReady result (⟦<ThenFuture<F1, F2, N> as Future>⟧.gives self.old) }
@@ -129,15 +129,15 @@ where
     }
 }
 
-impl<F1, F2, N, A> Steps for ThenFuture<F1, F2, N>
+impl<F1, F2, N, A, E, T, U> Steps for ThenFuture<F1, F2, N>
 where
-    F1: Steps<Output = A>,
-    F2: Steps,
-    N: Fn(A) -> F2 + Copy,
+    F1: Steps<Output = Result<A, E>>,
+    F2: Steps<Output = Result<T, U>>,
+    N: Fn(Result<A, E>) -> F2 + Copy,
 {
     ghost stepped = { ThenStepped F1.stepped N.post F2.stepped };
 
-    fn step(&mut self, cx: &mut Context<'_>) -> Poll<F2::Output> {
+    fn step(&mut self, cx: &mut Context<'_>) -> Poll<Result<T, U>> {
         if let Chain::First(first, f) = &mut self.state {
             let result = ready!(first.step(cx));
             self.state = Chain::Second(f(result));
