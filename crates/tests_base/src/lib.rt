@@ -6,6 +6,8 @@ mod drive;
 #[cfg(test)]
 mod layer;
 #[cfg(test)]
+mod links;
+#[cfg(test)]
 mod rng;
 #[cfg(test)]
 mod service;

@@ -129,6 +129,7 @@ fn each_call_is_one_reading_and_one_step(rt: HostRuntime) -> Result<(), Fail> {
     let mut clone = histogram.clone()?;
     checks.same(&clone.points(), &4);
     checks.same(&clone.quantile(Fraction::new(3, 4)), &1);
+    histogram.seed(7);
     histogram.seed_all(&[5, 6]);
     checks.same(&clone.quantile(Fraction::new(1, 1)), &1001);
     checks.told(
@@ -136,6 +137,7 @@ fn each_call_is_one_reading_and_one_step(rt: HostRuntime) -> Result<(), Fail> {
         "clock read 1019;latch stepped Points(1019);latch shared;clock shared;\
          clock read 1020;latch stepped Points(1020);\
          clock read 1020;latch stepped Quantile(1020, Fraction { numerator: 3, divisor: 4 });\
+         clock read 1020;latch stepped Seed(1020, 7);\
          clock read 1020;latch stepped Seed(1020, 5);clock read 1020;latch stepped Seed(1020, 6);\
          clock read 1020;latch stepped Quantile(1020, Fraction { numerator: 1, divisor: 1 });",
     );
