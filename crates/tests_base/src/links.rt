@@ -57,8 +57,14 @@ fn one_taken_out_of_the_order_keeps_its_key(rt: HostRuntime) -> Result<(), Fail>
     push(&mut list, 50)?;
     let middle = push(&mut list, 60)?;
     push(&mut list, 70)?;
-    checks.same(&(list.is_linked(middle), list.unlink(middle)), &(true, true));
-    checks.same(&(list.is_linked(middle), list.unlink(middle)), &(false, false));
+    checks.same(
+        &(list.is_linked(middle), list.unlink(middle)),
+        &(true, true),
+    );
+    checks.same(
+        &(list.is_linked(middle), list.unlink(middle)),
+        &(false, false),
+    );
     checks.same(&list.len(), &3);
     push(&mut list, 80)?;
     checks.same(&leaving(&mut list), &[40, 50, 70, 80, 0, 0]);
