@@ -1,4 +1,4 @@
-//! `tower::balance::p2c` over many endpoints: how many are there, asked and drawn.
+//! `tower::balance::p2c` over many endpoints: how many are there, asked and drawn. Its own service is counted with all others.
 ghost use Rattle.std.specs.Prelude.{⊤, ◌≡◌, Ok, true, refl};
 ghost use Rattle.futures.specs.declared.task.Poll.TheVariants.{Ready};
 
@@ -256,7 +256,7 @@ fn poll_of_64_changes_wakes_its_task(rt: HostRuntime) -> Result<(), Fail> {
 
 // The one that is called waits again, so fifty are ready and none is kept.
 #[test]
-fn fifty_that_turn_busy_are_asked_once_each(rt: HostRuntime) -> Result<(), Fail> {
+fn fifty_that_get_busy_are_asked_once_each(rt: HostRuntime) -> Result<(), Fail> {
     let checks = Checks::new(rt.alloc());
     let hall = Hall::new(true);
     let turns = Turns {

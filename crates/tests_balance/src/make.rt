@@ -1,4 +1,4 @@
-//! `tower::balance::p2c::MakeBalance`: its calls, the balancers that it makes, its layer and its clones.
+//! `tower::balance::p2c::MakeBalance`: calls, the balancers that it makes, layer and clones. Its own service makes discoveries.
 ghost use Rattle.std.specs.Prelude.{◌≡◌, Ok, true, refl, IsSome};
 ghost use Rattle.futures.specs.declared.task.Poll.TheVariants.{Ready};
 

@@ -1,4 +1,4 @@
-//! Endpoints with loads, a discovery of them, words to draw by, and runs of a balancer.
+//! Endpoints with loads, a discovery of them, words to draw by, and runs of a balancer. Its own service is one that has a load.
 ghost use Rattle.std.specs.Prelude.{⊤, None, false, refl};
 ghost use Rattle.std.specs.Cmp.Rules.{comparing};
 ghost use Rattle.std.proofs.Common.{rules};

@@ -1,4 +1,4 @@
-//! A balancer whose endpoints come, go, fail and get ready in an order that a generator draws.
+//! A balancer whose endpoints come, go, fail and get ready as a generator draws. Its own service is such an endpoint, unscripted.
 ghost use Rattle.std.specs.Prelude.{⊤, ◌≡◌, Ok, true, refl};
 ghost use Rattle.futures.specs.declared.task.Poll.TheVariants.{Ready};
 

@@ -1,4 +1,4 @@
-//! A `Buffer` round another middleware, under `drive`.
+//! A `Buffer` round another middleware, under `drive`. Its own services are layers: errors that have clones, a worker that is polled.
 ghost use Rattle.std.specs.Prelude.{◌≡◌, Ok, refl};
 ghost use Rattle.futures.specs.declared.task.Poll.TheVariants.{Ready};
 

@@ -1,4 +1,4 @@
-//! Constructors, layers and texts.
+//! Constructors, layers and texts. Its own service has no lifetime: the kit's borrow checker covers no `Buffer` whose futures have one.
 ghost use Rattle.std.specs.Prelude.{◌≡◌, IfOk, IfSome};
 
 use futures::future::{Future, Ready, ready};

@@ -1,4 +1,4 @@
-//! Requests of which is known how many are alive, and the service that opens them.
+//! Requests of which is known how many are alive, and a service of its own that opens them, round a scripted one.
 ghost use Rattle.std.specs.Prelude.{ℕ};
 
 use futures::task::{Context, Poll};

@@ -1,4 +1,4 @@
-//! `ServiceExt`: its methods that wrap.
+//! `ServiceExt`: its methods that wrap. Its own service has a future whose type a closure's parameter can name.
 ghost use Rattle.std.specs.Prelude.{IfSome};
 
 use futures::future::{Ready, ready};

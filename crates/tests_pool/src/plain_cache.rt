@@ -1,4 +1,4 @@
-//! A cache by its definition: a list of ready endpoints and one of pending ones. Each call walks through them.
+//! A cache by its definition: lists of ready and of pending endpoints. Its own service can be compared, and draws what it answers.
 
 use futures::future::{Ready, ok};
 use futures::task::{Context, Poll};

@@ -1,4 +1,4 @@
-//! A task in one thread, and its handle in another.
+//! A task in one thread, and its handle in another. Its own service can go to another thread, which a scripted one can't.
 
 use futures::future::{Future, Ready, ready};
 use futures::task::{Context, Poll, Solo};

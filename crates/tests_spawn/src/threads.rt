@@ -1,4 +1,4 @@
-//! Two threads over a slot under `Logged`.
+//! Two threads over a slot under `Logged`. Its own service can go to another thread, which a scripted one can't.
 ghost use Rattle.std.specs.Prelude.{◌≡◌, Some};
 ghost use Rattle.tower.specs.declared.spawn_ready.slot_core.Slot.{Slot as Kept};
 

@@ -1,4 +1,4 @@
-//! `tower::spawn_ready` at concrete types: whole runs, the layer, and an executor that polls each task at once.
+//! `tower::spawn_ready` at concrete types: runs, layer, executors. Its own services are pending by turns for ever, or have no lifetime.
 
 use crate::parts::{AtOnce, Spawner, Tasks};
 use futures::future::{Ready, ready};

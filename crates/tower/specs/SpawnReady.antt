@@ -61,15 +61,15 @@ tells _ = false
 
 module _ {S E L : Type 0} (l : LatchOf L (Slot S E) (SlotStep S E) (SlotReply S E)) where
   -- this step is made there
-  abbrev pub Makes : L → SlotStep S E → Type 0
-  Makes latch step = (reply : SlotReply S E) × l.gave latch step reply
+  abbrev pub StepMade : L → SlotStep S E → Type 0
+  StepMade latch step = (reply : SlotReply S E) × l.gave latch step reply
 
   module _ {Q A F : Type 0} (s : ServiceOf S Q A E F) where
     -- after the service's poll: one that is ready, or its error, goes into the slot, and the task has neither any more
     abbrev pub AfterReadiness : Held S L → S → Poll (Result (Unit {0}) E) → Poll (Unit {0}) → Option (Held S L) → Type 0
     AfterReadiness old left Pending answer new = (answer ≡ Pending) × (new ≡ Some (record { service = left; latch = old.latch }))
-    AfterReadiness old left (Ready (Ok x)) answer new = Makes old.latch (Put left) × (answer ≡ Ready tt) × (new ≡ None)
-    AfterReadiness old left (Ready (Err e)) answer new = Makes old.latch (PutError e) × (answer ≡ Ready tt) × (new ≡ None)
+    AfterReadiness old left (Ready (Ok x)) answer new = StepMade old.latch (Put left) × (answer ≡ Ready tt) × (new ≡ None)
+    AfterReadiness old left (Ready (Err e)) answer new = StepMade old.latch (PutError e) × (answer ≡ Ready tt) × (new ≡ None)
 
     -- once it is aborted the task is done, and else the service is polled once
     abbrev pub Drives : Bool → Held S L → Poll (Unit {0}) → Option (Held S L) → Type 0
@@ -101,7 +101,7 @@ module _ {S Q A E F L X : Type 0} (s : ServiceOf S Q A E F) (l : LatchOf L (Slot
   -- the slot begins to run, unless it runs already
   abbrev pub Starts : Bool → L → Type 0
   Starts true latch = Unit {0}
-  Starts false latch = Makes l latch Start
+  Starts false latch = StepMade l latch Start
 
   -- a task that is given back has the service still
   abbrev pub AfterSpawn : SpawnReadyView S X L → S → Result (Unit {0}) (ReadyTask S Q E L A F) → Answer → SpawnReadyView S X L → Type 0

@@ -6,7 +6,7 @@ use Rattle.std.specs.Map.{keys_of, lookup}
 use Rattle.std.proofs.lemmas.List.Folds.{list_any-append}
 use Rattle.std.proofs.lemmas.Map.Made.{is_some-lookup}
 use Rattle.indexmap.specs.IndexMap.{insert_entry, set_value_at}
-use Rattle.tower_pool.specs.ReadyCache.{Apart, Kept, PendingView, awaited, cancel, put_back, waiting, waits}
+use Rattle.tower_pool.specs.ReadyCache.{Apart, CacheInvariant, PendingView, awaited, cancel, put_back, waiting, waits}
 use Rattle.tower_pool.specs.ReadyCachePoll.{rotated}
 use Rattle.tower_pool.proofs.AskLemmas.{length-insert_entry}
 use Rattle.tower_pool.proofs.PendingLemmas.{alike, apart_back, apart_cancel, apart_new, apart_push, length-cancel, length-put_back, none_after}
@@ -124,18 +124,18 @@ module _ {K S : Type 0} (eq : K → K → Bool) (laws : IsEquivalence eq) where
       by true c = silent c ps h.1
       by false c = apart_push eq laws ps p (h.0 c) h.1
 
-  module _ (is_clone : K → K → Type 0) (ready : List (K × S)) (ps : List (PendingView K S)) (knows : K → Bool) (room : ℕ) (h : Kept eq is_clone ready ps knows room) where
+  module _ (is_clone : K → K → Type 0) (ready : List (K × S)) (ps : List (PendingView K S)) (knows : K → Bool) (room : ℕ) (h : CacheInvariant eq is_clone ready ps knows room) where
     -- ready services change, and keys stay
-    pub kept_written : (new : List (K × S)) → length new ≤ length ready → ((k : K) → is_some (lookup (eq k) new) ≡ is_some (lookup (eq k) ready)) → Kept eq is_clone new ps knows room
+    pub kept_written : (new : List (K × S)) → length new ≤ length ready → ((k : K) → is_some (lookup (eq k) new) ≡ is_some (lookup (eq k) ready)) → CacheInvariant eq is_clone new ps knows room
     kept_written new fewer same = record { clones = h.clones; apart = h.apart; known = λ k. h.known k ∙ ap (λ b. b || awaited eq k ps) (sym (same k)); fits = omega (arith, fewer, h.fits) }
 
     -- whatever is written at an index
-    pub kept_lent : (index : ℕ) (w : S) → Kept eq is_clone (set_value_at ready index w) ps knows room
+    pub kept_lent : (index : ℕ) (w : S) → CacheInvariant eq is_clone (set_value_at ready index w) ps knows room
     kept_lent index w = kept_written (set_value_at ready index w) (omega (arith, as_long ready index w)) (λ k. known_written (eq k) ready index w)
 
     module _ (key : K) (less : List (K × S)) (gone : (q : K) → lookup (eq q) less ≡ cond (eq key q) None (lookup (eq q) ready)) (now : List (PendingView K S)) (knows' : K → Bool) (wide : ℕ) (same : wide ≡ room) where
       -- a ready endpoint leaves
-      pub kept_left : length less ≤ length ready → now ≡ ps → ((k : K) → knows' k ≡ (knows k && not (eq key k && not (awaited eq key ps)))) → Kept eq is_clone less now knows' wide
+      pub kept_left : length less ≤ length ready → now ≡ ps → ((k : K) → knows' k ≡ (knows k && not (eq key k && not (awaited eq key ps)))) → CacheInvariant eq is_clone less now knows' wide
       kept_left fewer is told = record {
         clones = h.clones;
         apart = subst (Apart eq) (sym is) h.apart;
@@ -146,7 +146,7 @@ module _ {K S : Type 0} (eq : K → K → Bool) (laws : IsEquivalence eq) where
       }
 
       -- both endpoints of a key leave
-      pub kept_evicted : length less ≤ length ready → now ≡ cancel eq key ps → ((k : K) → knows' k ≡ (knows k && not (eq key k))) → Kept eq is_clone less now knows' wide
+      pub kept_evicted : length less ≤ length ready → now ≡ cancel eq key ps → ((k : K) → knows' k ≡ (knows k && not (eq key k))) → CacheInvariant eq is_clone less now knows' wide
       kept_evicted fewer is told = record {
         clones = h.clones;
         apart = subst (Apart eq) (sym is) (apart_cancel eq key ps h.apart);
@@ -157,7 +157,7 @@ module _ {K S : Type 0} (eq : K → K → Bool) (laws : IsEquivalence eq) where
       }
 
       -- a ready endpoint comes back
-      pub kept_back : (s : S) → length less + 1 ≡ length ready → is_some (lookup (eq key) ready) ≡ true → now ≡ put_back eq key s ps → ((k : K) → knows' k ≡ knows k) → Kept eq is_clone less now knows' wide
+      pub kept_back : (s : S) → length less + 1 ≡ length ready → is_some (lookup (eq key) ready) ≡ true → now ≡ put_back eq key s ps → ((k : K) → knows' k ≡ knows k) → CacheInvariant eq is_clone less now knows' wide
       kept_back s fewer there is told = record {
         clones = h.clones;
         apart = subst (Apart eq) (sym is) (apart_back eq laws key s ps h.apart);
@@ -183,7 +183,7 @@ module _ {K S : Type 0} (eq : K → K → Bool) (laws : IsEquivalence eq) where
 
     -- a new endpoint
     pub kept_pushed : (key : K) (s : S) (now : List (PendingView K S)) (knows' : K → Bool) (wide : ℕ) → now ≡ cancel eq key ps ++ waiting key s ∷ [] → ((k : K) → knows' k ≡ (knows k || eq key k))
-        → length ps + (length ready + 1) ≤ wide → Kept eq is_clone ready now knows' wide
+        → length ps + (length ready + 1) ≤ wide → CacheInvariant eq is_clone ready now knows' wide
     kept_pushed key s now knows' wide is told fits = record {
       clones = h.clones;
       apart = subst (Apart eq) (sym is) (apart_new eq laws key s ps h.apart);
@@ -195,7 +195,7 @@ module _ {K S : Type 0} (eq : K → K → Bool) (laws : IsEquivalence eq) where
     }
 
     -- nothing but room
-    pub kept_as : (now : List (PendingView K S)) (knows' : K → Bool) (wide : ℕ) → now ≡ ps → ((k : K) → knows' k ≡ knows k) → room ≤ wide → Kept eq is_clone ready now knows' wide
+    pub kept_as : (now : List (PendingView K S)) (knows' : K → Bool) (wide : ℕ) → now ≡ ps → ((k : K) → knows' k ≡ knows k) → room ≤ wide → CacheInvariant eq is_clone ready now knows' wide
     kept_as now knows' wide is told more = record {
       clones = h.clones;
       apart = subst (Apart eq) (sym is) h.apart;
@@ -205,7 +205,7 @@ module _ {K S : Type 0} (eq : K → K → Bool) (laws : IsEquivalence eq) where
 
     -- a push, by its answer
     pub kept_push : {X E : Type 0} (r : Result X E) (key : K) (v : S) (now : List (PendingView K S)) (knows' : K → Bool) (wide more : ℕ) → OnOk r (now ≡ cancel eq key ps ++ waiting key v ∷ []) → OnOk r ((k : K) → knows' k ≡ (knows k || eq key k))
-        → OnOk r (length ps + more ≤ wide) → more ≡ length ready + 1 → room ≤ wide → OnErr r (now ≡ ps) → OnErr r ((k : K) → knows' k ≡ knows k) → Kept eq is_clone ready now knows' wide
+        → OnOk r (length ps + more ≤ wide) → more ≡ length ready + 1 → room ≤ wide → OnErr r (now ≡ ps) → OnErr r ((k : K) → knows' k ≡ knows k) → CacheInvariant eq is_clone ready now knows' wide
     kept_push (Ok x) key v now knows' wide more is told fits n wider same told_as = kept_pushed key v now knows' wide is told (omega (arith, n, fits))
     kept_push (Err e) key v now knows' wide more is told fits n wider same told_as = kept_as now knows' wide same told_as wider
 
@@ -218,7 +218,7 @@ module _ {K S : Type 0} (eq : K → K → Bool) (laws : IsEquivalence eq) where
       known_first k = h.known k ∙ ap (λ l. is_some (lookup (eq k) ready) || awaited eq k l) is
 
       -- a cancelled one
-      pub kept_dropped : p.cancelled ≡ true → es ≡ ready → now ≡ rest → ((k : K) → knows' k ≡ knows k) → Kept eq is_clone es now knows' wide
+      pub kept_dropped : p.cancelled ≡ true → es ≡ ready → now ≡ rest → ((k : K) → knows' k ≡ knows k) → CacheInvariant eq is_clone es now knows' wide
       kept_dropped c e left told = record {
         clones = h.clones;
         apart = subst (Apart eq) (sym left) both.1;
@@ -227,7 +227,7 @@ module _ {K S : Type 0} (eq : K → K → Bool) (laws : IsEquivalence eq) where
       }
 
       -- one that goes last
-      pub kept_last : (q : PendingView K S) → q.key ≡ p.key → q.cancelled ≡ p.cancelled → es ≡ ready → now ≡ rest ++ q ∷ [] → ((k : K) → knows' k ≡ knows k) → Kept eq is_clone es now knows' wide
+      pub kept_last : (q : PendingView K S) → q.key ≡ p.key → q.cancelled ≡ p.cancelled → es ≡ ready → now ≡ rest ++ q ∷ [] → ((k : K) → knows' k ≡ knows k) → CacheInvariant eq is_clone es now knows' wide
       kept_last q key c e left told = record {
         clones = h.clones;
         apart = subst (Apart eq) (sym left) (apart_last q rest ((λ alive. ap (λ k. awaited eq k rest) key ∙ both.0 (sym c ∙ alive)), both.1));
@@ -245,7 +245,7 @@ module _ {K S : Type 0} (eq : K → K → Bool) (laws : IsEquivalence eq) where
         known_alive k = known_first k ∙ (λ j. is_some (lookup (eq k) ready) || ((not (alive j) && laws.symm k p.key j) || awaited eq k rest))
 
         -- one that is ready
-        pub kept_inserted : (v : S) → es ≡ insert_entry eq ready p.key v → ((k : K) → lookup (eq k) es ≡ cond (eq p.key k) (Some v) (lookup (eq k) ready)) → now ≡ rest → ((k : K) → knows' k ≡ knows k) → Kept eq is_clone es now knows' wide
+        pub kept_inserted : (v : S) → es ≡ insert_entry eq ready p.key v → ((k : K) → lookup (eq k) es ≡ cond (eq p.key k) (Some v) (lookup (eq k) ready)) → now ≡ rest → ((k : K) → knows' k ≡ knows k) → CacheInvariant eq is_clone es now knows' wide
         kept_inserted v e put left told = record {
           clones = h.clones;
           apart = subst (Apart eq) (sym left) both.1;
@@ -255,7 +255,7 @@ module _ {K S : Type 0} (eq : K → K → Bool) (laws : IsEquivalence eq) where
 
         -- one that failed
         pub kept_failed : (stays : Bool) → stays ≡ is_some (lookup (eq p.key) ready) → es ≡ ready → now ≡ rest → ((k : K) → knows' k ≡ (knows k && not (eq p.key k && not (stays || awaited eq p.key rest))))
-            → Kept eq is_clone es now knows' wide
+            → CacheInvariant eq is_clone es now knows' wide
         kept_failed stays there e left told = record {
           clones = h.clones;
           apart = subst (Apart eq) (sym left) both.1;
@@ -266,11 +266,11 @@ module _ {K S : Type 0} (eq : K → K → Bool) (laws : IsEquivalence eq) where
         }
 
   -- the first ones go last
-  pub kept_rotated : (is_clone : K → K → Type 0) (ready : List (K × S)) (ps : List (PendingView K S)) (knows : K → Bool) (room : ℕ) → Kept eq is_clone ready ps knows room → (n : ℕ) (now : List (PendingView K S)) (knows' : K → Bool) (wide : ℕ)
-      → now ≡ rotated n ps → ((k : K) → knows' k ≡ knows k) → wide ≡ room → Kept eq is_clone ready now knows' wide
+  pub kept_rotated : (is_clone : K → K → Type 0) (ready : List (K × S)) (ps : List (PendingView K S)) (knows : K → Bool) (room : ℕ) → CacheInvariant eq is_clone ready ps knows room → (n : ℕ) (now : List (PendingView K S)) (knows' : K → Bool) (wide : ℕ)
+      → now ≡ rotated n ps → ((k : K) → knows' k ≡ knows k) → wide ≡ room → CacheInvariant eq is_clone ready now knows' wide
   kept_rotated is_clone ready ps knows room h n now knows' wide is told same = kept_as is_clone ready (rotated n ps) knows room (by n ps h) now knows' wide is told (omega (arith, same))
     where
-      by : (n : ℕ) (ps : List (PendingView K S)) → Kept eq is_clone ready ps knows room → Kept eq is_clone ready (rotated n ps) knows room
+      by : (n : ℕ) (ps : List (PendingView K S)) → CacheInvariant eq is_clone ready ps knows room → CacheInvariant eq is_clone ready (rotated n ps) knows room
       by zero ps h = h
       by (suc n) [] h = by n [] h
       by (suc n) (p ∷ ps) h = by n (ps ++ p ∷ []) (kept_last is_clone ready (p ∷ ps) knows room h p ps refl ready (ps ++ p ∷ []) knows room refl p refl refl refl refl (λ k. refl))

@@ -53,7 +53,7 @@ module _ {K S : Type 0} (eq : K → K → Bool) where
 
   -- What each cache keeps: clones of keys equal what was cloned, pending keys are distinct, keys have a place as long as they are ready, or
   -- pending and not cancelled, and ready endpoints have room to come back.
-  pub record Kept (is_clone : K → K → Type 0) (ready : List (K × S)) (pending : List (PendingView K S)) (knows : K → Bool) (room : ℕ) : Type 0 where
+  pub record CacheInvariant (is_clone : K → K → Type 0) (ready : List (K × S)) (pending : List (PendingView K S)) (knows : K → Bool) (room : ℕ) : Type 0 where
     pub clones : (x y : K) → is_clone x y → y ≡ x
     pub apart : Apart pending
     pub known : (k : K) → knows k ≡ (is_some (lookup (eq k) ready) || awaited k pending)

@@ -5,7 +5,7 @@ use Rattle.std.specs.Map.{lookup}
 use Rattle.slab.specs.Slab.{get, slab_len}
 use Rattle.tower_base.specs.Links.{LinksView}
 use Rattle.tower_base.specs.Order.{Apart, has}
-use Rattle.tower_pool.specs.ReadyCache.{Kept, PendingView, ReadyCacheView}
+use Rattle.tower_pool.specs.ReadyCache.{CacheInvariant, PendingView, ReadyCacheView}
 
 -- what contracts see: the pending endpoints, longest waiting first, the keys' places, how many endpoints there is room for, and how many entries
 -- of the slab were reached so far
@@ -29,7 +29,7 @@ cache_of ready v = record { ready = ready; pending = v.items }
 
 -- they keep what each cache keeps
 abbrev pub Holds : {K S : Type 0} → (K → K → Bool) → (K → K → Type 0) → List (K × S) → WaitersView K S → Type 0
-Holds eq is_clone ready v = Kept eq is_clone ready v.items (knows eq v) v.room
+Holds eq is_clone ready v = CacheInvariant eq is_clone ready v.items (knows eq v) v.room
 
 -- how many fit into the slab and beside it, as far as a `usize` can count them
 abbrev pub room_of : ℕ → ℕ

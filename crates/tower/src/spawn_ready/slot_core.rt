@@ -1,6 +1,6 @@
 //! The core of a `SpawnReady` and its tasks.
 ghost use Rattle.std.specs.Prelude.{◌≡◌};
-ghost use Rattle.tower.specs.Slot.{SlotSteps, is_waiting, slot_turn};
+ghost use Rattle.tower.specs.Slot.{SlotSteps, is_waiting, slot_step};
 
 use std::marker::Model;
 use std::mem;
@@ -109,7 +109,7 @@ impl<S: Drop, E: Drop> Core for SlotCore<S, E> {
 
 // The reply to a step, and the slot after it.
 fn turn<S: Drop, E: Drop>(old: Slot<S, E>, step: SlotStep<S, E>) -> (SlotReply<S, E>, Slot<S, E>)
-    ensures { result ≡ slot_turn old step }
+    ensures { result ≡ slot_step old step }
 {
     match (old, step) {
         (Slot::Idle, SlotStep::Start) => (SlotReply::Done, Slot::Running),

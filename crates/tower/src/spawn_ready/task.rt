@@ -3,7 +3,7 @@ ghost use Rattle.std.specs.Prelude.{◌≡◌, IfSome, IsSome, Some};
 ghost use Rattle.futures.specs.Poll.{IfReady, OnPending};
 ghost use Rattle.futures.specs.Task.{Covers, Keeps};
 ghost use Rattle.tower_base.specs.Gives.{IsStep, MayGive};
-ghost use Rattle.tower.specs.SpawnReady.{CanPoll, Makes, TaskStepped, held_of, tells};
+ghost use Rattle.tower.specs.SpawnReady.{CanPoll, StepMade, TaskStepped, held_of, tells};
 ghost use Rattle.tower.specs.declared.spawn_ready.slot_core.SlotStep.{SlotStep as Step};
 
 use crate::spawn_ready::slot_core::{SlotCore, SlotReply, SlotStep};
@@ -75,7 +75,7 @@ where
     }
 
     fn tell(latch: &L, outcome: SlotStep<Viewed<S, Request>, E>)
-        ensures { Makes L.Latch latch.now outcome }
+        ensures { StepMade L.Latch latch.now outcome }
     {
         latch.step(outcome);
     }

@@ -37,14 +37,14 @@ pub struct ReadyCache<K: Eq + Hash + Clone, S, Req> {
 }
 
 impl<K: Eq + Hash + Clone, S, Req> Model for ReadyCache<K, S, Req> {
-    ghost use Rattle.tower_pool.specs.ReadyCache.{Kept, ReadyCacheView};
+    ghost use Rattle.tower_pool.specs.ReadyCache.{CacheInvariant, ReadyCacheView};
     ghost use Rattle.tower_pool.specs.Waiters.{knows};
 
     ghost Value = { ReadyCacheView K S };
 
     ghost view = { λ c. record { ready = c.ready.entries; pending = c.pending.items } };
 
-    ghost invariant = { λ c. Kept K.eq K.is_clone c.ready.entries c.pending.items (knows K.eq c.pending) c.pending.room };
+    ghost invariant = { λ c. CacheInvariant K.eq K.is_clone c.ready.entries c.pending.items (knows K.eq c.pending) c.pending.room };
 }
 
 impl<K: Eq + Hash + Clone + Drop, S: Service<Req>, Req> ReadyCache<K, S, Req> {
