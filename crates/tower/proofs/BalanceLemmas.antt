@@ -16,7 +16,7 @@ use Rattle.tower_base.specs.PassesLemmas.{goes_more, goes_start}
 use Rattle.tower_base.specs.declared.service.Service.{Ghosts as ServiceOf}
 use Rattle.tower_limit.specs.Discover.{Found, MayInsert, inserted}
 use Rattle.tower_limit.specs.DiscoverLemmas.{inserts_later, inserts_now}
-use Rattle.tower.specs.Balance.{AfterCheck, BalanceView, Chooses, Chosen, IsLighter, Pass, PassAt, Picked, PickedOf, Promotes, Reads, ReadsAll, Turn, answer_of, asked_at}
+use Rattle.tower.specs.Balance.{AfterCheck, BalanceView, Chooses, Chosen, IsLighter, Pass, PassAt, Picked, PickedOf, Promotes, Reads, ReadsAll, CountedPass, answer_of, asked_at}
 use Rattle.tower_pool.specs.ReadyCache.{Checked, PendingView, ReadyCacheView, Settles}
 use Rattle.tower_pool.specs.ReadyCachePoll.{ByAnswer, ByTest, EachAsked, Ends, PendingPolled}
 use Rattle.tower.specs.declared.balance.error.Error.{Error}
@@ -194,7 +194,7 @@ module _ {K S Q A E G : Type 0} (eq : K → K → Bool) (s : ServiceOf S Q A E G
       by (Some u) e h = settled u h.0 h.1 e h.3
 
 module _ {K S : Type 0} where
-  -- the last turn asks one at most of those that are ready
+  -- the last pass asks one at most of those that are ready
   asked_last : (kept : Option ℕ) (ready : List (K × S)) → (rest : List (K × S)) × IsPermutation ready (asked_at kept ready ++ rest)
   asked_last None ready = (ready, IsPermutation-refl ready)
   asked_last (Some i) ready = by (slice_get ready i) refl
@@ -254,7 +254,7 @@ module _ {D R K S Q A E G M : Type 0} (X : Type 0) (eq : K → K → Bool) (s : 
   pub record Settling (old now : BalanceView D R K S) : Type 0 where
     pub count : ℕ
     pub asked : List (K × S)
-    pub went : Goes (Turn {X = X} eq s loaded cmp drew) count (old, []) (now, asked)
+    pub went : Goes (CountedPass {X = X} eq s loaded cmp drew) count (old, []) (now, asked)
     pub left : count + turns now ≤ length old.services.ready + 1
     pub once : IsPermutation old.services.ready (asked ++ now.services.ready)
 
@@ -262,7 +262,7 @@ module _ {D R K S Q A E G M : Type 0} (X : Type 0) (eq : K → K → Bool) (s : 
   settling_begins old = record {
     count = 0;
     asked = [];
-    went = goes_start (Turn {X = X} eq s loaded cmp drew) (old, []);
+    went = goes_start (CountedPass {X = X} eq s loaded cmp drew) (old, []);
     left = omega (arith, at_most_left old.kept (length old.services.ready));
     once = IsPermutation-refl old.services.ready;
   }
@@ -271,7 +271,7 @@ module _ {D R K S Q A E G M : Type 0} (X : Type 0) (eq : K → K → Bool) (s : 
   settling_goes old was now pass h = record {
     count = h.count + 1;
     asked = h.asked ++ asked_at was.kept was.services.ready;
-    went = goes_more (Turn {X = X} eq s loaded cmp drew) h.count (old, []) (was, h.asked) (now, h.asked ++ asked_at was.kept was.services.ready) h.went (pass, refl);
+    went = goes_more (CountedPass {X = X} eq s loaded cmp drew) h.count (old, []) (was, h.asked) (now, h.asked ++ asked_at was.kept was.services.ready) h.went (pass, refl);
     left = omega (arith, h.left, pass_less was was.kept refl now pass);
     once = asked_more h.asked old.services.ready was.services.ready (asked_at was.kept was.services.ready) now.services.ready h.once (pass_asks was was.kept now pass);
   }

@@ -161,11 +161,11 @@ module _ {D R K S Q A E G X M : Type 0} (eq : K → K → Bool) (s : ServiceOf S
   abbrev pub Pass : BalanceView D R K S → Option (Poll (Result (Unit {0}) (Error E X))) → BalanceView D R K S → Type 0
   Pass old answer new = PassAt old.kept old answer new
 
-  -- a turn: a pass, and the endpoints that were asked so far
-  abbrev pub Turn : BalanceView D R K S × List (K × S) → Option (Poll (Result (Unit {0}) (Error E X))) → BalanceView D R K S × List (K × S) → Type 0
-  Turn old answer new = Pass old.0 answer new.0 × (new.1 ≡ old.1 ++ asked_at old.0.kept old.0.services.ready)
+  -- a pass, and the endpoints that were asked so far
+  abbrev pub CountedPass : BalanceView D R K S × List (K × S) → Option (Poll (Result (Unit {0}) (Error E X))) → BalanceView D R K S × List (K × S) → Type 0
+  CountedPass old answer new = Pass old.0 answer new.0 × (new.1 ≡ old.1 ++ asked_at old.0.kept old.0.services.ready)
 
-  -- The choosing of a poll: at most one turn more than endpoints were ready as it began. Those that were ready are, in some order, those that were asked
+  -- The choosing of a poll: at most one pass more than endpoints were ready as it began. Those that were ready are, in some order, those that were asked
   -- and the rest, so that each is asked at most once.
   pub record Chosen (old : BalanceView D R K S) (answer : Poll (Result (Unit {0}) (Error E X))) (new : BalanceView D R K S) : Type 0 where
     pub count : ℕ
@@ -173,7 +173,7 @@ module _ {D R K S Q A E G X M : Type 0} (eq : K → K → Bool) (s : ServiceOf S
     pub asked : List (K × S)
     pub rest : List (K × S)
     pub within : count ≤ length old.services.ready
-    pub went : Goes Turn count (old, []) (last, asked)
+    pub went : Goes CountedPass count (old, []) (last, asked)
     pub ends : Pass last (Some answer) new
     pub once : IsPermutation old.services.ready ((asked ++ asked_at last.kept last.services.ready) ++ rest)
 

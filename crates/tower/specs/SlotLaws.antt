@@ -18,12 +18,12 @@ module _ {S E : Type 0} where
 
   -- neither does any of these
   abbrev pub GiveNone : List (SlotStep S E × SlotReply S E) → Type 0
-  GiveNone served = AllByRecursion (λ turn. GivesNone turn.1) served
+  GiveNone served = AllByRecursion (λ entry. GivesNone entry.1) served
 
   -- somewhere the service was put there, and none was given since
   abbrev pub PutBefore : S → List (SlotStep S E × SlotReply S E) → Type 0
   PutBefore service [] = ⊥
-  PutBefore service (turn ∷ rest) = ((turn.0 ≡ Put service) × (turn.1 ≡ Done) × GiveNone rest) ⊎ PutBefore service rest
+  PutBefore service (entry ∷ rest) = ((entry.0 ≡ Put service) × (entry.1 ≡ Done) × GiveNone rest) ⊎ PutBefore service rest
 
 -- whatever service comes back was put there by a task, and each that was put comes back once at most
 abbrev pub ComesFromATask : (S E : Type 0) → Type 0

@@ -97,7 +97,7 @@ impl<S: Drop, E: Drop> Core for SlotCore<S, E> {
 
     fn step(&mut self, step: SlotStep<S, E>) -> SlotReply<S, E> {
         let old = mem::replace(&mut self.slot, Slot::Idle);
-        let (reply, new) = turn(old, step);
+        let (reply, new) = transition(old, step);
         self.slot = new;
         reply
     }
@@ -108,7 +108,10 @@ impl<S: Drop, E: Drop> Core for SlotCore<S, E> {
 }
 
 // The reply to a step, and the slot after it.
-fn turn<S: Drop, E: Drop>(old: Slot<S, E>, step: SlotStep<S, E>) -> (SlotReply<S, E>, Slot<S, E>)
+fn transition<S: Drop, E: Drop>(
+    old: Slot<S, E>,
+    step: SlotStep<S, E>,
+) -> (SlotReply<S, E>, Slot<S, E>)
     ensures { result ≡ slot_step old step }
 {
     match (old, step) {
