@@ -122,12 +122,12 @@ impl<'a> Rng for Zeros<'a> {
 
 /// Inserts and removes one key for ever, or inserts so many keys and is pending then.
 #[derive(Drop)]
-struct Turns<'a> {
+struct Surge<'a> {
     hall: &'a Hall,
     most: Option<usize>,
 }
 
-impl<'a> Discover for Turns<'a> {
+impl<'a> Discover for Surge<'a> {
     type Key = usize;
 
     type Service = Quiet<'a>;
@@ -178,11 +178,11 @@ fn list_of_a_hundred_takes_two_polls(rt: HostRuntime) -> Result<(), Fail> {
 fn thousand_inserts_take_sixteen_polls(rt: HostRuntime) -> Result<(), Fail> {
     let checks = Checks::new(rt.alloc());
     let hall = Hall::new(false);
-    let turns = Turns {
+    let surge = Surge {
         hall: &hall,
         most: Some(1000),
     };
-    let mut balance = Balance::new(rt.alloc(), turns);
+    let mut balance = Balance::new(rt.alloc(), surge);
     let solo = task(&rt)?;
     assert!(rt; polled(&solo, &mut balance).is_pending());
     checks.same(&balance.len(), &64);
@@ -201,11 +201,11 @@ fn thousand_inserts_take_sixteen_polls(rt: HostRuntime) -> Result<(), Fail> {
 fn endless_changes_of_one_key_leave_nothing(rt: HostRuntime) -> Result<(), Fail> {
     let checks = Checks::new(rt.alloc());
     let hall = Hall::new(false);
-    let turns = Turns {
+    let surge = Surge {
         hall: &hall,
         most: None,
     };
-    let mut balance = Balance::new(rt.alloc(), turns);
+    let mut balance = Balance::new(rt.alloc(), surge);
     let solo = task(&rt)?;
     for _ in 0..3u8 {
         hall.found.set(0);
@@ -236,11 +236,11 @@ impl<B: Service<u8>> Future for Asked<B> {
 fn poll_of_64_changes_wakes_its_task(rt: HostRuntime) -> Result<(), Fail> {
     let checks = Checks::new(rt.alloc());
     let hall = Hall::new(false);
-    let turns = Turns {
+    let surge = Surge {
         hall: &hall,
         most: None,
     };
-    let service = Balance::new(rt.alloc(), turns);
+    let service = Balance::new(rt.alloc(), surge);
     let mut endless = Asked { service };
     let task = MockTask::new(&rt)?;
     assert!(rt; task.poll(&mut endless).is_pending());
@@ -259,12 +259,12 @@ fn poll_of_64_changes_wakes_its_task(rt: HostRuntime) -> Result<(), Fail> {
 fn fifty_that_get_busy_are_asked_once_each(rt: HostRuntime) -> Result<(), Fail> {
     let checks = Checks::new(rt.alloc());
     let hall = Hall::new(true);
-    let turns = Turns {
+    let surge = Surge {
         hall: &hall,
         most: Some(51),
     };
     let zeros = Zeros { hall: &hall };
-    let mut balance = Balance::from_rng(rt.alloc(), turns, zeros);
+    let mut balance = Balance::from_rng(rt.alloc(), surge, zeros);
     let solo = task(&rt)?;
     let future = called(&solo, &mut balance, 1).ok_or("not ready")?;
     drop(future);

@@ -8,9 +8,10 @@ use std::alloc::AllocError;
 use std::cmp::Ordering;
 use std::fmt::{self, Display, Write};
 use std::test::Fail;
+use tests_support::checks::Checks;
 use tests_support::log::Log;
 use tests_support::run::{awaited, polled, readiness, task};
-use tests_support::script::{Mood, Script};
+use tests_support::script::{Mood, Script, mood_of};
 use tests_support::service::Scripted;
 use tower::balance::Error;
 use tower_base::service::Service;
@@ -257,14 +258,25 @@ impl<'a> Clone for Words<'a> {
     }
 }
 
-/// What a test does with a balancer.
+// What a test does with a balancer.
 #[derive(Clone, Copy, Debug)]
-pub enum Act {
-    /// What the endpoint answers from now on.
+enum Act {
+    // What the endpoint answers from now on.
     Mood(char, Mood),
     Poll,
-    /// A poll, and a call where that answers `Ok`. The response is awaited and dropped.
+    // A poll, and a call where that answers `Ok`. The response is awaited and dropped.
     Call(u8),
+}
+
+fn act_of(text: &str) -> Option<Act> {
+    if text == "poll" {
+        return Some(Act::Poll);
+    }
+    let (name, rest) = text.split_once(' ')?;
+    match name {
+        "call" => Some(Act::Call(rest.parse().ok()?)),
+        _ => Some(Act::Mood(name.chars().next()?, mood_of(rest)?)),
+    }
 }
 
 // Notes the answer of a poll.
@@ -311,23 +323,27 @@ where
     }
 }
 
-/// All that was noted, the drop of the balancer too, which comes last.
-pub fn story<X, B>(
+/// This is noted, the drop of the balancer too, which comes last. Acts stand one after another with a semicolon between: `poll`, `call 7`
+/// polls and calls where that answers `Ok`, and `a busy`, `a willing`, `a broken 9` say what `a` answers from then on.
+pub fn tells<X, B>(
     rt: &HostRuntime,
     fleet: &Fleet<'_>,
     mut balance: B,
-    acts: &[Act],
-) -> Result<String, Fail>
+    acts: &str,
+    want: &str,
+) -> Result<(), Fail>
 where
     X: Display + Drop,
     B: Service<u8, Response = u8, Error = Error<u8, X>>,
     requires { B.sound balance }
 {
+    let checks = Checks::new(rt.alloc());
     let solo = task(rt)?;
-    for act in acts {
-        carry_out(&solo, fleet, &mut balance, *act);
+    for text in acts.split(';') {
+        let act = act_of(text).ok_or("not an act")?;
+        carry_out(&solo, fleet, &mut balance, act);
     }
     drop(balance);
-    let told = fleet.log.told(rt.alloc())?;
-    Ok(told)
+    checks.told(fleet.log, want);
+    checks.verdict()
 }

@@ -77,7 +77,7 @@ impl Field {
         None
     }
 
-    fn turn(&self, from: State, to: State) {
+    fn change(&self, from: State, to: State) {
         let start = self.word() as usize;
         if let Some(number) = self.find(from, start) {
             self.set(number, to);
@@ -247,11 +247,11 @@ where
 {
     for _ in 0..field.word() % 8 + 1 {
         match field.word() % 9 {
-            0..=2 => field.turn(State::Free, State::Coming),
-            3..=5 => field.turn(State::Busy, State::Willing),
-            6 => field.turn(State::Willing, State::Broken),
-            7 => field.turn(State::Busy, State::Going),
-            _ => field.turn(State::Willing, State::Going),
+            0..=2 => field.change(State::Free, State::Coming),
+            3..=5 => field.change(State::Busy, State::Willing),
+            6 => field.change(State::Willing, State::Broken),
+            7 => field.change(State::Busy, State::Going),
+            _ => field.change(State::Willing, State::Going),
         }
     }
     poll(solo, field, balance);

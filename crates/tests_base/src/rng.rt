@@ -53,13 +53,13 @@ fn a_range_takes_the_rest_of_a_word(rt: HostRuntime) {
     assert_eq!(rt; rng.next_range(3..4), 3);
 }
 
-// Gives its two words in turn.
+// Gives its two words one after the other, for ever.
 #[derive(Drop)]
-struct Turns {
+struct TwoWords {
     words: [u64; 2],
 }
 
-impl Rng for Turns {
+impl Rng for TwoWords {
     ghost drew = { λ _ _ _. ⊤ };
 
     fn next_u64(&mut self) -> u64 {
@@ -80,7 +80,7 @@ fn two_words_draw_two_indexes(rt: HostRuntime) {
         (4, [5, 6], [3, 2]),
         (u64::MAX, [u64::MAX, u64::MAX], [1, 0]),
     ] {
-        let mut rng = Turns { words };
+        let mut rng = TwoWords { words };
         assert_eq!(rt;
             sample_floyd2(&mut rng, length),
             drawn,

@@ -13,6 +13,7 @@ use std::test::Fail;
 use tests_support::log::Log;
 use tests_support::run::{called, polled, stepped, task};
 use tests_support::script::{Mood, Reply, Script};
+use tests_support::slots::{put, take};
 use tower_base::latch::held::{Pollable, Viewed};
 use tower_base::latch::{Guarded, Latch};
 use tower_base::service::{Service, Steps};
@@ -48,6 +49,50 @@ pub enum Act {
     Shares(u8),
 }
 
+// Two numbers.
+fn pair(text: &str) -> Option<(usize, u8)> {
+    let (place, number) = text.split_once(' ')?;
+    Some((place.parse().ok()?, number.parse().ok()?))
+}
+
+fn act_of(text: &str) -> Option<Act> {
+    match text {
+        "work" => return Some(Act::Work),
+        "fire" => return Some(Act::Fire),
+        "once" => return Some(Act::Once),
+        "busy" => return Some(Act::Mood(Mood::Busy)),
+        "willing" => return Some(Act::Mood(Mood::Willing)),
+        _ => {}
+    }
+    let (name, rest) = text.split_once(' ')?;
+    match name {
+        "poll" => Some(Act::Poll(rest.parse().ok()?)),
+        "call" => {
+            let (place, number) = pair(rest)?;
+            Some(Act::Call(place, number))
+        }
+        "split" => Some(Act::Split(rest.parse().ok()?)),
+        "leave" => Some(Act::Leave(rest.parse().ok()?)),
+        "ask" => Some(Act::Ask(rest.parse().ok()?)),
+        "forget" => Some(Act::Forget(rest.parse().ok()?)),
+        "broken" => Some(Act::Mood(Mood::Broken(rest.parse().ok()?))),
+        "echo" => Some(Act::Reply(Reply::Echo(rest.parse().ok()?))),
+        "fail" => Some(Act::Reply(Reply::Fail(rest.parse().ok()?))),
+        "shares" => Some(Act::Shares(rest.parse().ok()?)),
+        _ => None,
+    }
+}
+
+/// The acts of a text, one after another with a semicolon between: `poll 0`, `call 0 7`, `split 0`, `leave 0`, `work`, `fire`, `ask 0`,
+/// `forget 0`, the moods `busy`, `willing`, `once` and `broken 9`, the replies `echo 1` and `fail 0`, `shares 255`.
+pub fn acts_of(alloc: Global, text: &str) -> Result<Vec<Act>, Fail> {
+    let mut acts = Vec::new(alloc);
+    for one in text.split(';') {
+        acts.push(act_of(one).ok_or("not an act")?)?;
+    }
+    Ok(acts)
+}
+
 /// What a run looks at: the service's script, and how many shares of the latch there are; 255 is always.
 #[derive(Clone, Copy)]
 pub struct Stage<'a> {
@@ -63,20 +108,6 @@ pub struct Desk<'a, Q, P, B: Service<Q>, W: Future> {
     handles: Vec<Option<Viewed<B, Q>>>,
     responses: Vec<Option<Pollable<B::Future>>>,
     worker: Option<Pollable<W>>,
-}
-
-// What is at the place, which is empty then.
-fn take<T>(slots: &mut Vec<Option<T>>, place: usize) -> Option<T> {
-    match slots.get_mut(place) {
-        Some(slot) => slot.take(),
-        None => None,
-    }
-}
-
-fn put<T: Drop>(slots: &mut Vec<Option<T>>, place: usize, value: T) {
-    if let Some(slot) = slots.get_mut(place) {
-        *slot = Some(value);
-    }
 }
 
 impl<'a, Q, P: Drop, B: Service<Q>, W: Future> Desk<'a, Q, P, B, W> {

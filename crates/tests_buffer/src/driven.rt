@@ -8,11 +8,9 @@ use std::alloc::AllocGlobal;
 use std::random::RandomSource;
 use std::sync::Wait;
 use std::test::Fail;
-use tests_support::checks::Checks;
 use tests_support::log::Log;
 use tests_support::service::Scripted;
-use tests_support::story::{Act, Stage, Story, driven};
-use tower_base::drive::Event;
+use tests_support::story::{Stage, Story, driven};
 use tower_base::latch::Guarded;
 use tower_base::latch::held::Pollable;
 use tower_base::service::{Service, Steps};
@@ -131,7 +129,7 @@ fn with_task<R, B, W>(
     stage: &Stage<'_>,
     service: B,
     worker: W,
-    events: Vec<Event<u8, Act>>,
+    events: &str,
 ) -> Result<Story, Fail>
 where
     R: RandomSource + AllocGlobal,
@@ -147,12 +145,7 @@ where
 type Shared<F, R> = Guarded<MailCore<u8, Pollable<F>, u8>, R>;
 
 // A buffer of two places, and its worker.
-fn buffered<R, S>(
-    rt: R,
-    stage: &Stage<'_>,
-    service: S,
-    events: Vec<Event<u8, Act>>,
-) -> Result<Story, Fail>
+fn buffered<R, S>(rt: R, stage: &Stage<'_>, service: S, events: &str) -> Result<Story, Fail>
 where
     R: Wait + RandomSource + AllocGlobal + Copy,
     S: Service<u8, Response = u8, Error = u8>,
@@ -167,30 +160,18 @@ where
 
 #[test]
 fn a_buffer_round_a_limit(rt: HostRuntime) -> Result<(), Fail> {
-    let checks = Checks::new(rt.alloc());
     let alloc = rt.alloc();
     let log = Log::new(alloc)?;
     let stage = Stage::new(&log);
     let limit = ConcurrencyLimit::new(rt, alloc, Scripted::new(&stage.script, 's'), 1)?;
-    let events = vec![in alloc;
-        Event::Poll,
-        Event::Call(7),
-        Event::Poll,
-        Event::Call(8),
-        Event::Future(0),
-        Event::Future(1),
-        Event::Drop(0),
-        Event::Poll,
-        Event::Future(1),
-    ]?;
-    let story = buffered(rt, &stage, Flat { inner: limit }, events)?;
-    checks.same(
-        &story.entries.as_str(),
-        &"ready;call 0;ready;call 1;0 ok 7;1 pending;drop 0;ready;1 ok 8;",
-    );
-    checks.same(
-        &story.told.as_str(),
-        &"s ready;s called 7;s(7) ready;s(7) dropped;s ready;s called 8;s(8) ready;s dropped;s(8) dropped;",
-    );
-    checks.verdict()
+    buffered(
+        rt,
+        &stage,
+        Flat { inner: limit },
+        "poll;call 7;poll;call 8;future 0;future 1;drop 0;poll;future 1",
+    )?
+    .tells(
+        "ready;call 0;ready;call 1;0 ok 7;1 pending;drop 0;ready;1 ok 8;",
+        "s ready;s called 7;s(7) ready;s(7) dropped;s ready;s called 8;s(8) ready;s dropped;s(8) dropped;",
+    )
 }

@@ -8,11 +8,10 @@ use tests_support::log::Log;
 use tests_support::script::Mood::{Broken, Busy, Willing};
 use tests_support::script::Reply;
 use tests_support::service::Scripted;
-use tests_support::story::{Act, Stage, Story, driven};
-use tower_base::drive::Event;
+use tests_support::story::{Stage, Story, driven};
 use tower_retry::hedge::delay::{Delay, Error};
 
-fn run(rt: &HostRuntime, stage: &Stage<'_>, events: Vec<Event<u8, Act>>) -> Result<Story, Fail> {
+fn run(rt: &HostRuntime, stage: &Stage<'_>, events: &str) -> Result<Story, Fail> {
     let clock = Hand::new(stage.log, &stage.moment);
     let policy = Twice::new(stage.log);
     let delay = Delay::new(policy, Scripted::new(&stage.script, 's'), clock);
@@ -22,34 +21,21 @@ fn run(rt: &HostRuntime, stage: &Stage<'_>, events: Vec<Event<u8, Act>>) -> Resu
 // Nothing inside is asked before the delay is over, and it is always ready.
 #[test]
 fn clone_is_asked_after_the_delay(rt: HostRuntime) -> Result<(), Fail> {
-    let checks = Checks::new(rt.alloc());
     let log = Log::new(rt.alloc())?;
     let stage = Stage::new(&log);
     stage.script.moods(&[Busy, Willing]);
     stage.script.replies(&[Reply::Echo(1)]);
-    let events = vec![in rt.alloc();
-        Event::Turn(Act::At(3)),
-        Event::Poll,
-        Event::Call(7),
-        Event::Turn(Act::At(9)),
-        Event::Future(0),
-        Event::Turn(Act::At(10)),
-        Event::Future(0),
-        Event::Future(0),
-        Event::Future(0),
-    ]?;
-    let story = run(&rt, &stage, events)?;
-    checks.same(
-        &story.entries.as_str(),
-        &"at 3;ready;call 0;at 9;0 pending;at 10;0 pending;0 pending;0 ok 7;",
-    );
-    checks.same(
-        &story.told.as_str(),
-        &"delay 7;clock shared;clock read 3;s cloned s1;clock read 9;clock read 10;clock dropped;s1 pending;\
+    run(
+        &rt,
+        &stage,
+        "at 3;poll;call 7;at 9;future 0;at 10;future 0;future 0;future 0",
+    )?
+    .tells(
+        "at 3;ready;call 0;at 9;0 pending;at 10;0 pending;0 pending;0 ok 7;",
+        "delay 7;clock shared;clock read 3;s cloned s1;clock read 9;clock read 10;clock dropped;s1 pending;\
          s1 ready;s1 called 7;s1(7) pending;s1 dropped;s1(7) ready;s1(7) dropped;\
          p dropped;s dropped;clock dropped;",
-    );
-    checks.verdict()
+    )
 }
 
 #[test]
@@ -58,61 +44,32 @@ fn errors_are_the_services(rt: HostRuntime) -> Result<(), Fail> {
     let stage = Stage::new(&log);
     stage.script.moods(&[Broken(5), Willing]);
     stage.script.replies(&[Reply::Fail(0)]);
-    let events = vec![in rt.alloc();
-        Event::Poll,
-        Event::Call(0),
-        Event::Future(0),
-        Event::Poll,
-        Event::Call(0),
-        Event::Future(1),
-    ]?;
-    let story = run(&rt, &stage, events)?;
-    assert_eq!(rt;
-        story.entries.as_str(),
-        "ready;call 0;0 error 5;ready;call 1;1 error 0;"
-    );
-    Ok(())
+    run(&rt, &stage, "poll;call 0;future 0;poll;call 0;future 1")?.enters(
+        "ready;call 0;0 error 5;ready;call 1;1 error 0;",
+    )
 }
 
 #[test]
 fn refused_clone_is_the_answer_and_nothing_is_called(rt: HostRuntime) -> Result<(), Fail> {
-    let checks = Checks::new(rt.alloc());
     let log = Log::new(rt.alloc())?;
     let stage = Stage::new(&log);
     stage.script.clones(0);
-    let events = vec![in rt.alloc(); Event::Poll, Event::Call(7), Event::Future(0)]?;
-    let story = run(&rt, &stage, events)?;
-    checks.same(
-        &story.entries.as_str(),
-        &"ready;call 0;0 error out of memory;",
-    );
-    checks.same(
-        &story.told.as_str(),
-        &"delay 7;clock shared;clock read 0;s refused;clock dropped;p dropped;s dropped;clock dropped;",
-    );
-    checks.verdict()
+    run(&rt, &stage, "poll;call 7;future 0")?.tells(
+        "ready;call 0;0 error out of memory;",
+        "delay 7;clock shared;clock read 0;s refused;clock dropped;p dropped;s dropped;clock dropped;",
+    )
 }
 
 // The clone that waits is dropped with its future.
 #[test]
 fn waiting_call_is_dropped(rt: HostRuntime) -> Result<(), Fail> {
-    let checks = Checks::new(rt.alloc());
     let log = Log::new(rt.alloc())?;
     let stage = Stage::new(&log);
-    let events = vec![in rt.alloc();
-        Event::Poll,
-        Event::Call(7),
-        Event::Future(0),
-        Event::Drop(0),
-    ]?;
-    let story = run(&rt, &stage, events)?;
-    checks.same(&story.entries.as_str(), &"ready;call 0;0 pending;drop 0;");
-    checks.same(
-        &story.told.as_str(),
-        &"delay 7;clock shared;clock read 0;s cloned s1;clock read 0;clock dropped;s1 dropped;\
+    run(&rt, &stage, "poll;call 7;future 0;drop 0")?.tells(
+        "ready;call 0;0 pending;drop 0;",
+        "delay 7;clock shared;clock read 0;s cloned s1;clock read 0;clock dropped;s1 dropped;\
          p dropped;s dropped;clock dropped;",
-    );
-    checks.verdict()
+    )
 }
 
 #[test]

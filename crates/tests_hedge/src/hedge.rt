@@ -1,7 +1,7 @@
 //! `tower::hedge`: when there is a second request, and what both ask.
 
 use crate::nest::of_hedge;
-use crate::parts::{NO_COPY, ONCE, Twice};
+use crate::parts::Twice;
 use std::alloc::AllocGlobal;
 use std::cell::Cell;
 use std::random::RandomSource;
@@ -14,8 +14,7 @@ use tests_support::log::Log;
 use tests_support::script::Mood::{Broken, Busy, Willing};
 use tests_support::script::Reply;
 use tests_support::service::Scripted;
-use tests_support::story::{Act, Stage, Story};
-use tower_base::drive::Event;
+use tests_support::story::{Stage, Story};
 use tower_base::latch::Guarded;
 use tower_base::service::Fraction;
 use tower_retry::hedge::Hedge;
@@ -31,7 +30,7 @@ fn run<R: Wait + RandomSource + AllocGlobal + Copy>(
     rt: R,
     stage: &Stage<'_>,
     points: u64,
-    events: Vec<Event<u8, Act>>,
+    events: &str,
 ) -> Result<Story, Fail> {
     let alloc = rt.alloc();
     let shares = Cell::new(u8::MAX);
@@ -50,18 +49,7 @@ fn run<R: Wait + RandomSource + AllocGlobal + Copy>(
 }
 
 // A call at 0 and polls of its future at 0, at a nanosecond before ten milliseconds, and at ten.
-fn one_call(rt: &HostRuntime, request: u8) -> Result<Vec<Event<u8, Act>>, Fail> {
-    let events = vec![in rt.alloc();
-        Event::Poll,
-        Event::Call(request),
-        Event::Future(0),
-        Event::Turn(Act::At(9_999_999)),
-        Event::Future(0),
-        Event::Turn(Act::At(10_000_000)),
-        Event::Future(0),
-    ]?;
-    Ok(events)
-}
+const CALL_OF_7: &str = "poll;call 7;future 0;at 9999999;future 0;at 10000000;future 0";
 
 // What is told after the making, which ends with the drop of its clock.
 fn told_of(story: &Story) -> &str {
@@ -82,7 +70,7 @@ fn second_call_comes_after_the_time_of_nine_of_ten(rt: HostRuntime) -> Result<()
     let log = Log::new(rt.alloc())?;
     let stage = Stage::new(&log);
     stage.script.replies(&[Reply::Never, Reply::Give(0, Ok(2))]);
-    let story = run(rt, &stage, 10, one_call(&rt, 7)?)?;
+    let story = run(rt, &stage, 10, CALL_OF_7)?;
     checks.same(
         &story.entries.as_str(),
         &"ready;call 0;0 pending;at 9999999;0 pending;at 10000000;0 ok 2;",
@@ -107,13 +95,19 @@ fn second_call_comes_after_the_time_of_nine_of_ten(rt: HostRuntime) -> Result<()
     checks.verdict()
 }
 
+// 91 may not be made again.
 #[test]
 fn request_that_may_not_be_repeated_is_called_once(rt: HostRuntime) -> Result<(), Fail> {
     let checks = Checks::new(rt.alloc());
     let log = Log::new(rt.alloc())?;
     let stage = Stage::new(&log);
     stage.script.replies(&[Reply::Never]);
-    let story = run(rt, &stage, 10, one_call(&rt, ONCE)?)?;
+    let story = run(
+        rt,
+        &stage,
+        10,
+        "poll;call 91;future 0;at 9999999;future 0;at 10000000;future 0",
+    )?;
     checks.same(
         &story.entries.as_str(),
         &"ready;call 0;0 pending;at 9999999;0 pending;at 10000000;0 pending;",
@@ -123,14 +117,19 @@ fn request_that_may_not_be_repeated_is_called_once(rt: HostRuntime) -> Result<()
     checks.verdict()
 }
 
-// The service isn't cloned for a second call, and the clock isn't asked how many points there are.
+// The service isn't cloned for a second call, and the clock isn't asked how many points there are. 90 has no copy.
 #[test]
 fn request_without_a_copy_is_called_once(rt: HostRuntime) -> Result<(), Fail> {
     let checks = Checks::new(rt.alloc());
     let log = Log::new(rt.alloc())?;
     let stage = Stage::new(&log);
     stage.script.replies(&[Reply::Give(2, Ok(4))]);
-    let story = run(rt, &stage, 10, one_call(&rt, NO_COPY)?)?;
+    let story = run(
+        rt,
+        &stage,
+        10,
+        "poll;call 90;future 0;at 9999999;future 0;at 10000000;future 0",
+    )?;
     checks.same(
         &story.entries.as_str(),
         &"ready;call 0;0 pending;at 9999999;0 pending;at 10000000;0 ok 4;",
@@ -155,7 +154,7 @@ fn too_few_points_give_one_call(rt: HostRuntime) -> Result<(), Fail> {
     let log = Log::new(rt.alloc())?;
     let stage = Stage::new(&log);
     stage.script.replies(&[Reply::Never]);
-    let story = run(rt, &stage, 11, one_call(&rt, 7)?)?;
+    let story = run(rt, &stage, 11, CALL_OF_7)?;
     checks.same(
         &story.entries.as_str(),
         &"ready;call 0;0 pending;at 9999999;0 pending;at 10000000;0 pending;",
@@ -179,14 +178,7 @@ fn first_answer_before_the_delay(rt: HostRuntime) -> Result<(), Fail> {
     let log = Log::new(rt.alloc())?;
     let stage = Stage::new(&log);
     stage.script.replies(&[Reply::Give(1, Ok(3))]);
-    let events = vec![in rt.alloc();
-        Event::Poll,
-        Event::Call(7),
-        Event::Future(0),
-        Event::Turn(Act::At(9_000_000)),
-        Event::Future(0),
-    ]?;
-    let story = run(rt, &stage, 10, events)?;
+    let story = run(rt, &stage, 10, "poll;call 7;future 0;at 9000000;future 0")?;
     checks.same(
         &story.entries.as_str(),
         &"ready;call 0;0 pending;at 9000000;0 ok 3;",
@@ -203,15 +195,12 @@ fn first_answer_after_the_second_call(rt: HostRuntime) -> Result<(), Fail> {
     let log = Log::new(rt.alloc())?;
     let stage = Stage::new(&log);
     stage.script.replies(&[Reply::Gated(Ok(1)), Reply::Never]);
-    let events = vec![in rt.alloc();
-        Event::Poll,
-        Event::Call(7),
-        Event::Turn(Act::At(11_000_000)),
-        Event::Future(0),
-        Event::Turn(Act::Open(0)),
-        Event::Future(0),
-    ]?;
-    let story = run(rt, &stage, 10, events)?;
+    let story = run(
+        rt,
+        &stage,
+        10,
+        "poll;call 7;at 11000000;future 0;open 0;future 0",
+    )?;
     checks.same(
         &story.entries.as_str(),
         &"ready;call 0;at 11000000;0 pending;at 11000000;0 ok 1;",
@@ -240,28 +229,16 @@ fn errors_of_both_calls(rt: HostRuntime) -> Result<(), Fail> {
         Reply::Give(0, Err(2)),
         Reply::Never,
     ]);
-    let events = vec![in rt.alloc();
-        Event::Poll,
-        Event::Poll,
-        Event::Poll,
-        Event::Call(7),
-        Event::Future(0),
-        Event::Poll,
-        Event::Call(8),
-        Event::Turn(Act::At(10_000_000)),
-        Event::Future(1),
-        Event::Turn(Act::Clones(0)),
-        Event::Poll,
-        Event::Call(9),
-        Event::Future(2),
-    ]?;
-    let story = run(rt, &stage, 10, events)?;
-    assert_eq!(rt;
-        story.entries.as_str(),
+    run(
+        rt,
+        &stage,
+        10,
+        "poll;poll;poll;call 7;future 0;poll;call 8;at 10000000;future 1;clones 0;poll;call 9;future 2",
+    )?
+    .enters(
         "pending;error 6;ready;call 0;0 error 1;ready;call 1;at 10000000;1 error 2;\
-         at 10000000;ready;call 2;2 error out of memory;"
-    );
-    Ok(())
+         at 10000000;ready;call 2;2 error out of memory;",
+    )
 }
 
 #[test]
@@ -270,9 +247,8 @@ fn making_shares_one_histogram(rt: HostRuntime) -> Result<(), Fail> {
     let log = Log::new(rt.alloc())?;
     let stage = Stage::new(&log);
     stage.moment.set(3);
-    let events = Vec::new(rt.alloc());
-    let story = run(rt, &stage, 10, events)?;
-    checks.same(&story.entries.as_str(), &"");
+    let story = run(rt, &stage, 10, "drop 0")?;
+    checks.same(&story.entries.as_str(), &"skipped;");
     let seeds = "clock read 3;latch stepped Seed(3, 1);clock read 3;latch stepped Seed(3, 1);\
          clock read 3;latch stepped Seed(3, 1);clock read 3;latch stepped Seed(3, 1);\
          clock read 3;latch stepped Seed(3, 1);clock read 3;latch stepped Seed(3, 1);\

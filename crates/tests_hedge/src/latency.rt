@@ -8,129 +8,81 @@ use tests_support::log::Log;
 use tests_support::script::Mood::{Broken, Busy, Willing};
 use tests_support::script::Reply;
 use tests_support::service::Scripted;
-use tests_support::story::{Act, Stage, Story, driven};
-use tower_base::drive::Event;
+use tests_support::story::{Stage, Story, driven};
 use tower_retry::hedge::latency::Latency;
 
-fn run(
-    rt: &HostRuntime,
-    stage: &Stage<'_>,
-    noted: Noted<'_>,
-    events: Vec<Event<u8, Act>>,
-) -> Result<Story, Fail> {
+fn run(rt: &HostRuntime, stage: &Stage<'_>, noted: Noted<'_>, events: &str) -> Result<Story, Fail> {
     let clock = Hand::new(stage.log, &stage.moment);
     let latency = Latency::new(noted, Scripted::new(&stage.script, 's'), clock);
     driven(rt, stage, latency, events)
 }
 
 // A call of 7 at 5, and a poll at 8, which is pending, and one at 12.
-fn one_call(rt: &HostRuntime) -> Result<Vec<Event<u8, Act>>, Fail> {
-    let events = vec![in rt.alloc();
-        Event::Poll,
-        Event::Turn(Act::At(5)),
-        Event::Call(7),
-        Event::Turn(Act::At(8)),
-        Event::Future(0),
-        Event::Turn(Act::At(12)),
-        Event::Future(0),
-    ]?;
-    Ok(events)
-}
+const ONE_CALL: &str = "poll;at 5;call 7;at 8;future 0;at 12;future 0";
 
 #[test]
 fn response_is_recorded_once(rt: HostRuntime) -> Result<(), Fail> {
-    let checks = Checks::new(rt.alloc());
     let log = Log::new(rt.alloc())?;
     let stage = Stage::new(&log);
     stage.script.replies(&[Reply::Echo(1)]);
-    let story = run(&rt, &stage, Noted::new(&log), one_call(&rt)?)?;
-    checks.same(
-        &story.entries.as_str(),
-        &"ready;at 5;call 0;at 8;0 pending;at 12;0 ok 7;",
-    );
-    checks.same(
-        &story.told.as_str(),
-        &"s ready;clock read 5;n cloned n1;s called 7;clock shared;s(7) pending;s(7) ready;\
+    run(&rt, &stage, Noted::new(&log), ONE_CALL)?.tells(
+        "ready;at 5;call 0;at 8;0 pending;at 12;0 ok 7;",
+        "s ready;clock read 5;n cloned n1;s called 7;clock shared;s(7) pending;s(7) ready;\
          clock read 12;recorded 7;n dropped;s dropped;clock dropped;n1 dropped;s(7) dropped;clock dropped;",
-    );
-    checks.verdict()
+    )
 }
 
 #[test]
 fn error_is_not_recorded(rt: HostRuntime) -> Result<(), Fail> {
-    let checks = Checks::new(rt.alloc());
     let log = Log::new(rt.alloc())?;
     let stage = Stage::new(&log);
     stage.script.replies(&[Reply::Fail(1)]);
-    let story = run(&rt, &stage, Noted::new(&log), one_call(&rt)?)?;
-    checks.same(
-        &story.entries.as_str(),
-        &"ready;at 5;call 0;at 8;0 pending;at 12;0 error 7;",
-    );
-    checks.same(
-        &story.told.as_str(),
-        &"s ready;clock read 5;n cloned n1;s called 7;clock shared;s(7) pending;s(7) ready;\
+    run(&rt, &stage, Noted::new(&log), ONE_CALL)?.tells(
+        "ready;at 5;call 0;at 8;0 pending;at 12;0 error 7;",
+        "s ready;clock read 5;n cloned n1;s called 7;clock shared;s(7) pending;s(7) ready;\
          n dropped;s dropped;clock dropped;n1 dropped;s(7) dropped;clock dropped;",
-    );
-    checks.verdict()
+    )
 }
 
 // No reading is made for what isn't recorded, and the answer is the response all the same.
 #[test]
 fn refused_recorder_hides_no_response(rt: HostRuntime) -> Result<(), Fail> {
-    let checks = Checks::new(rt.alloc());
     let log = Log::new(rt.alloc())?;
     let stage = Stage::new(&log);
     stage.script.replies(&[Reply::Echo(1)]);
-    let story = run(&rt, &stage, Noted::refusing(&log), one_call(&rt)?)?;
-    checks.same(
-        &story.entries.as_str(),
-        &"ready;at 5;call 0;at 8;0 pending;at 12;0 ok 7;",
-    );
-    checks.same(
-        &story.told.as_str(),
-        &"s ready;clock read 5;n refused;s called 7;clock shared;s(7) pending;s(7) ready;\
+    run(&rt, &stage, Noted::refusing(&log), ONE_CALL)?.tells(
+        "ready;at 5;call 0;at 8;0 pending;at 12;0 ok 7;",
+        "s ready;clock read 5;n refused;s called 7;clock shared;s(7) pending;s(7) ready;\
          n dropped;s dropped;clock dropped;s(7) dropped;clock dropped;",
-    );
-    checks.verdict()
+    )
 }
 
 #[test]
 fn readiness_is_passed_on_without_a_reading(rt: HostRuntime) -> Result<(), Fail> {
-    let checks = Checks::new(rt.alloc());
     let log = Log::new(rt.alloc())?;
     let stage = Stage::new(&log);
     stage.script.moods(&[Busy, Broken(3), Willing]);
-    let events = vec![in rt.alloc(); Event::Poll, Event::Poll, Event::Poll]?;
-    let story = run(&rt, &stage, Noted::new(&log), events)?;
-    checks.same(&story.entries.as_str(), &"pending;error 3;ready;");
-    checks.same(
-        &story.told.as_str(),
-        &"s pending;s error 3;s ready;n dropped;s dropped;clock dropped;",
-    );
-    checks.verdict()
+    run(&rt, &stage, Noted::new(&log), "poll;poll;poll")?.tells(
+        "pending;error 3;ready;",
+        "s pending;s error 3;s ready;n dropped;s dropped;clock dropped;",
+    )
 }
 
 #[test]
 fn clock_that_goes_back_gives_no_time(rt: HostRuntime) -> Result<(), Fail> {
-    let checks = Checks::new(rt.alloc());
     let log = Log::new(rt.alloc())?;
     let stage = Stage::new(&log);
-    let events = vec![in rt.alloc();
-        Event::Turn(Act::At(50)),
-        Event::Poll,
-        Event::Call(7),
-        Event::Turn(Act::At(49)),
-        Event::Future(0),
-    ]?;
-    let story = run(&rt, &stage, Noted::new(&log), events)?;
-    checks.same(&story.entries.as_str(), &"at 50;ready;call 0;at 49;0 ok 7;");
-    checks.same(
-        &story.told.as_str(),
-        &"s ready;clock read 50;n cloned n1;s called 7;clock shared;s(7) ready;clock read 49;recorded 0;\
+    run(
+        &rt,
+        &stage,
+        Noted::new(&log),
+        "at 50;poll;call 7;at 49;future 0",
+    )?
+    .tells(
+        "at 50;ready;call 0;at 49;0 ok 7;",
+        "s ready;clock read 50;n cloned n1;s called 7;clock shared;s(7) ready;clock read 49;recorded 0;\
          n dropped;s dropped;clock dropped;n1 dropped;s(7) dropped;clock dropped;",
-    );
-    checks.verdict()
+    )
 }
 
 #[test]

@@ -13,8 +13,7 @@ use tests_support::latch::Noting;
 use tests_support::log::Log;
 use tests_support::script::Reply;
 use tests_support::service::Scripted;
-use tests_support::story::{Act, Stage, Story};
-use tower_base::drive::Event;
+use tests_support::story::{Stage, Story};
 use tower_base::latch::Guarded;
 use tower_base::service::Fraction;
 use tower_retry::hedge::Hedge;
@@ -24,7 +23,7 @@ use tower_retry::hedge::rotating_histogram::HistoCore;
 fn own<R: Wait + RandomSource + AllocGlobal + Copy>(
     rt: R,
     stage: &Stage<'_>,
-    events: Vec<Event<u8, Act>>,
+    events: &str,
 ) -> Result<Story, Fail> {
     let hedge = Hedge::new(
         rt,
@@ -52,25 +51,11 @@ fn latency_counts_from_the_next_period_on(rt: HostRuntime) -> Result<(), Fail> {
         Reply::Never,
         Reply::Give(0, Ok(2)),
     ]);
-    let events = vec![in rt.alloc();
-        Event::Poll,
-        Event::Call(7),
-        Event::Turn(Act::At(8)),
-        Event::Future(0),
-        Event::Turn(Act::At(104)),
-        Event::Poll,
-        Event::Call(8),
-        Event::Turn(Act::At(105)),
-        Event::Poll,
-        Event::Call(9),
-        Event::Turn(Act::At(1_000_104)),
-        Event::Future(1),
-        Event::Future(2),
-        Event::Turn(Act::At(1_000_105)),
-        Event::Future(1),
-        Event::Future(2),
-    ]?;
-    let story = own(rt, &stage, events)?;
+    let story = own(
+        rt,
+        &stage,
+        "poll;call 7;at 8;future 0;at 104;poll;call 8;at 105;poll;call 9;at 1000104;future 1;future 2;at 1000105;future 1;future 2",
+    )?;
     checks.same(
         &story.entries.as_str(),
         &"ready;call 0;at 8;0 ok 7;at 104;ready;call 1;at 105;ready;call 2;at 1000104;1 pending;2 pending;\
@@ -89,14 +74,6 @@ fn mock_latencies_are_known_at_once(rt: HostRuntime) -> Result<(), Fail> {
     let stage = Stage::new(&log);
     stage.moment.set(40);
     stage.script.replies(&[Reply::Never, Reply::Give(0, Ok(2))]);
-    let events = vec![in rt.alloc();
-        Event::Poll,
-        Event::Call(7),
-        Event::Turn(Act::At(3_000_039)),
-        Event::Future(0),
-        Event::Turn(Act::At(3_000_040)),
-        Event::Future(0),
-    ]?;
     let hedge = Hedge::new_with_mock_latencies(
         rt,
         rt.alloc(),
@@ -110,7 +87,12 @@ fn mock_latencies_are_known_at_once(rt: HostRuntime) -> Result<(), Fail> {
     )?;
     let made = log.told(rt.alloc())?;
     checks.same(&made.as_str().split("clock read 40;").count(), &4);
-    let story = of_hedge(&rt, &stage, hedge, events)?;
+    let story = of_hedge(
+        &rt,
+        &stage,
+        hedge,
+        "poll;call 7;at 3000039;future 0;at 3000040;future 0",
+    )?;
     checks.same(
         &story.entries.as_str(),
         &"ready;call 0;at 3000039;0 pending;at 3000040;0 ok 2;",
@@ -118,9 +100,15 @@ fn mock_latencies_are_known_at_once(rt: HostRuntime) -> Result<(), Fail> {
     checks.verdict()
 }
 
+// Whether there is none. What there is goes.
+fn is_refused<T: Drop, E: Drop>(made: Result<T, E>) -> bool {
+    made.is_err()
+}
+
 // Three shares are asked for, the latch itself is the fourth handle.
 #[test]
 fn refused_share_makes_no_hedge(rt: HostRuntime) -> Result<(), Fail> {
+    let checks = Checks::new(rt.alloc());
     let alloc = rt.alloc();
     let log = Log::new(alloc)?;
     let stage = Stage::new(&log);
@@ -135,9 +123,9 @@ fn refused_share_makes_no_hedge(rt: HostRuntime) -> Result<(), Fail> {
             Fraction::new(1, 2),
             Hand::new(&log, &stage.moment),
         );
-        assert_eq!(rt; hedge.is_ok(), shares == 3);
+        checks.same(&is_refused(hedge), &(shares < 3));
     }
-    Ok(())
+    checks.verdict()
 }
 
 // A service and a policy that can't be cloned make none either.
@@ -148,7 +136,7 @@ fn refused_clone_makes_no_hedge(rt: HostRuntime) -> Result<(), Fail> {
     let log = Log::new(alloc)?;
     let stage = Stage::new(&log);
     stage.script.clones(0);
-    let hedge = Hedge::new(
+    checks.holds(is_refused(Hedge::new(
         rt,
         alloc,
         Scripted::new(&stage.script, 's'),
@@ -157,8 +145,7 @@ fn refused_clone_makes_no_hedge(rt: HostRuntime) -> Result<(), Fail> {
         Fraction::new(1, 2),
         100,
         Hand::new(&log, &stage.moment),
-    );
-    checks.holds(hedge.is_err());
+    )));
     checks.told(
         &log,
         "clock read 0;clock shared;clock shared;s refused;clock dropped;clock dropped;p dropped;s dropped;clock dropped;",

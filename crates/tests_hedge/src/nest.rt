@@ -4,8 +4,7 @@ use std::alloc::AllocGlobal;
 use std::convert::Infallible;
 use std::random::RandomSource;
 use std::test::Fail;
-use tests_support::story::{Act, Stage, Story, driven};
-use tower_base::drive::Event;
+use tests_support::story::{Stage, Story, driven};
 use tower_base::latch::Latch;
 use tower_base::service::{Clock, Service};
 use tower_retry::hedge::delay::{self, Delay};
@@ -15,14 +14,12 @@ use tower_retry::hedge::select::{self, Select};
 use tower_retry::hedge::{DelayPolicy, Flat, Hedge, Policy, PolicyPredicate, SelectPolicy};
 use tower_ware::filter::{self, AsyncFilter, AsyncPredicate};
 
-type Events = Vec<Event<u8, Act>>;
-
 // Two sides.
 fn of_sides<R, P, A, B>(
     rt: &R,
     stage: &Stage<'_>,
     hedge: Flat<Select<P, A, B>>,
-    events: Events,
+    events: &str,
 ) -> Result<Story, Fail>
 where
     R: RandomSource + AllocGlobal,
@@ -41,7 +38,7 @@ fn of_delay<R, P, A, D, F, C>(
     rt: &R,
     stage: &Stage<'_>,
     hedge: Flat<Select<P, A, Delay<D, F, C>>>,
-    events: Events,
+    events: &str,
 ) -> Result<Story, Fail>
 where
     R: RandomSource + AllocGlobal,
@@ -64,7 +61,7 @@ fn of_filter<R, P, A, D, I, Q, C>(
     rt: &R,
     stage: &Stage<'_>,
     hedge: Flat<Select<P, A, Delay<D, AsyncFilter<I, Q>, C>>>,
-    events: Events,
+    events: &str,
 ) -> Result<Story, Fail>
 where
     R: RandomSource + AllocGlobal,
@@ -90,7 +87,7 @@ fn of_latency<R, P, N, S, D, Q, C>(
     rt: &R,
     stage: &Stage<'_>,
     hedge: Flat<Select<P, Latency<N, S, C>, Delay<D, AsyncFilter<Latency<N, S, C>, Q>, C>>>,
-    events: Events,
+    events: &str,
 ) -> Result<Story, Fail>
 where
     R: RandomSource + AllocGlobal,
@@ -119,7 +116,7 @@ pub fn of_hedge<R, S, P, L, C>(
     rt: &R,
     stage: &Stage<'_>,
     hedge: Hedge<S, P, L, C>,
-    events: Events,
+    events: &str,
 ) -> Result<Story, Fail>
 where
     R: RandomSource + AllocGlobal,

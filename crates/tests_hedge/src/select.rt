@@ -1,6 +1,6 @@
 //! `tower::hedge::select`: two services, and which of them answers.
 
-use crate::parts::{NO_COPY, Twice};
+use crate::parts::Twice;
 use futures::task::Poll;
 use std::test::Fail;
 use tests_support::checks::Checks;
@@ -9,12 +9,11 @@ use tests_support::run::{polled, task};
 use tests_support::script::Mood::{Broken, Busy, Willing};
 use tests_support::script::Reply;
 use tests_support::service::Scripted;
-use tests_support::story::{Act, Stage, Story, driven};
-use tower_base::drive::Event;
+use tests_support::story::{Stage, Story, driven};
 use tower_retry::hedge::select::{Error, Select};
 
 // The first follows the stage's script, and the second that of what is made.
-fn run(rt: &HostRuntime, stage: &Stage<'_>, events: Vec<Event<u8, Act>>) -> Result<Story, Fail> {
+fn run(rt: &HostRuntime, stage: &Stage<'_>, events: &str) -> Result<Story, Fail> {
     let first = Scripted::new(&stage.script, 'a');
     let second = Scripted::new(&stage.made, 'b');
     driven(
@@ -25,33 +24,19 @@ fn run(rt: &HostRuntime, stage: &Stage<'_>, events: Vec<Event<u8, Act>>) -> Resu
     )
 }
 
-// One call of this request, and two polls of its future.
-fn one_call(rt: &HostRuntime, request: u8) -> Result<Vec<Event<u8, Act>>, Fail> {
-    let events = vec![in rt.alloc();
-        Event::Poll,
-        Event::Call(request),
-        Event::Future(0),
-        Event::Future(0),
-    ]?;
-    Ok(events)
-}
-
 // Readiness asks the first and then the second; a call asks the policy, and calls the second before the first.
 #[test]
 fn first_answer_counts(rt: HostRuntime) -> Result<(), Fail> {
-    let checks = Checks::new(rt.alloc());
     let log = Log::new(rt.alloc())?;
     let stage = Stage::new(&log);
     stage.script.replies(&[Reply::Give(1, Ok(1))]);
     stage.made.replies(&[Reply::Give(5, Ok(2))]);
-    let story = run(&rt, &stage, one_call(&rt, 7)?)?;
-    checks.same(&story.entries.as_str(), &"ready;call 0;0 pending;0 ok 1;");
-    checks.same(
-        &story.told.as_str(),
-        &"a ready;b ready;copied 7;b called 7;a called 7;a(7) pending;b(7) pending;a(7) ready;\
+    let story = run(&rt, &stage, "poll;call 7;future 0;future 0")?;
+    story.tells(
+        "ready;call 0;0 pending;0 ok 1;",
+        "a ready;b ready;copied 7;b called 7;a called 7;a(7) pending;b(7) pending;a(7) ready;\
          p dropped;a dropped;b dropped;a(7) dropped;b(7) dropped;",
-    );
-    checks.verdict()
+    )
 }
 
 #[test]
@@ -60,9 +45,8 @@ fn second_answer_counts_while_the_first_waits(rt: HostRuntime) -> Result<(), Fai
     let stage = Stage::new(&log);
     stage.script.replies(&[Reply::Never]);
     stage.made.replies(&[Reply::Give(1, Ok(2))]);
-    let story = run(&rt, &stage, one_call(&rt, 7)?)?;
-    assert_eq!(rt; story.entries.as_str(), "ready;call 0;0 pending;0 ok 2;");
-    Ok(())
+    let story = run(&rt, &stage, "poll;call 7;future 0;future 0")?;
+    story.enters("ready;call 0;0 pending;0 ok 2;")
 }
 
 // An error is an answer too.
@@ -74,36 +58,23 @@ fn error_of_either_call_is_its_sides(rt: HostRuntime) -> Result<(), Fail> {
         .script
         .replies(&[Reply::Never, Reply::Give(0, Err(1))]);
     stage.made.replies(&[Reply::Give(0, Err(2))]);
-    let events = vec![in rt.alloc();
-        Event::Poll,
-        Event::Call(7),
-        Event::Future(0),
-        Event::Poll,
-        Event::Call(8),
-        Event::Future(1),
-    ]?;
-    let story = run(&rt, &stage, events)?;
-    assert_eq!(rt;
-        story.entries.as_str(),
-        "ready;call 0;0 error 2;ready;call 1;1 error 1;"
-    );
-    Ok(())
+    run(&rt, &stage, "poll;call 7;future 0;poll;call 8;future 1")?.enters(
+        "ready;call 0;0 error 2;ready;call 1;1 error 1;",
+    )
 }
 
+// 90 has no copy.
 #[test]
 fn request_without_a_copy_calls_the_first_alone(rt: HostRuntime) -> Result<(), Fail> {
-    let checks = Checks::new(rt.alloc());
     let log = Log::new(rt.alloc())?;
     let stage = Stage::new(&log);
     stage.script.replies(&[Reply::Echo(1)]);
-    let story = run(&rt, &stage, one_call(&rt, NO_COPY)?)?;
-    checks.same(&story.entries.as_str(), &"ready;call 0;0 pending;0 ok 90;");
-    checks.same(
-        &story.told.as_str(),
-        &"a ready;b ready;left 90;a called 90;a(90) pending;a(90) ready;\
+    let story = run(&rt, &stage, "poll;call 90;future 0;future 0")?;
+    story.tells(
+        "ready;call 0;0 pending;0 ok 90;",
+        "a ready;b ready;left 90;a called 90;a(90) pending;a(90) ready;\
          p dropped;a dropped;b dropped;a(90) dropped;",
-    );
-    checks.verdict()
+    )
 }
 
 #[test]

@@ -1,6 +1,6 @@
 //! `tower::limit::ConcurrencyLimit` and its layers: permits, polls and drops.
 
-use futures::task::{Poll, Solo};
+use futures::task::Solo;
 use std::alloc::{AllocError, AllocGlobal};
 use std::cell::Cell;
 use std::fmt::Display;
@@ -9,14 +9,14 @@ use std::sync::Wait;
 use std::test::Fail;
 use tests_support::checks::Checks;
 use tests_support::future::After;
+use tests_support::handles::tells;
 use tests_support::latch::Noting;
 use tests_support::log::Log;
-use tests_support::run::{self, called, stepped, task};
+use tests_support::run::{self, called, task};
 use tests_support::script::Mood::{Broken, Busy, Willing};
 use tests_support::script::{Reply, Script};
 use tests_support::service::Scripted;
-use tests_support::story::{Act, Stage, Story, driven};
-use tower_base::drive::Event;
+use tests_support::story::{Stage, Story, driven};
 use tower_base::latch::{Guarded, Latch};
 use tower_base::layer::Layer;
 use tower_base::service::Service;
@@ -66,75 +66,58 @@ fn limited<L: Latch<LineCore>>(
     rt: &HostRuntime,
     stage: &Stage<'_>,
     service: ConcurrencyLimit<Scripted<'_>, L>,
-    events: Vec<Event<u8, Act>>,
+    events: &str,
 ) -> Result<Story, Fail> {
     driven(rt, stage, service, events)
 }
 
-fn waiter_is_dropped<L: Latch<LineCore>>(
+// What is told of a service `s` and its clones.
+fn handled<L: Latch<LineCore>>(
     rt: &HostRuntime,
     log: &Log,
     semaphore: Semaphore<L>,
+    acts: &str,
+    want: &str,
 ) -> Result<(), Fail> {
-    let checks = Checks::new(rt.alloc());
     let script = Script::new(log);
-    let mut s1 = ConcurrencyLimit::with_semaphore(Scripted::new(&script, 's'), semaphore);
-    let mut s2 = s1.clone()?;
-    let mut s3 = s1.clone()?;
-    let solo = task(rt)?;
-    log.told(rt.alloc())?;
-    checks.holds(is_ready(&solo, &mut s1));
-    checks.holds(!is_ready(&solo, &mut s2));
-    checks.holds(!is_ready(&solo, &mut s3));
-    checks.told(
-        log,
-        "latch shared;latch waited Join;s ready;\
-         latch shared;latch waited Join;latch dropped;latch shared;latch waited Join;latch dropped;",
-    );
-    drop(s1);
-    checks.told(
-        log,
-        "s dropped;latch dropped;latch stepped Release;latch dropped;",
-    );
-    drop(s2);
-    checks.told(log, "s1 dropped;latch stepped Cancel(0);latch dropped;");
-    checks.holds(is_ready(&solo, &mut s3));
-    checks.told(log, "latch shared;latch waited Look(1);s2 ready;");
-    checks.verdict()
+    let first = ConcurrencyLimit::with_semaphore(Scripted::new(&script, 's'), semaphore);
+    tells(rt, log, first, acts, want)
 }
 
 #[test]
 fn dropped_waiter_passes_its_grant_on(rt: HostRuntime) -> Result<(), Fail> {
     let (log, shares) = (Log::new(rt.alloc())?, Cell::new(255));
-    waiter_is_dropped(&rt, &log, noted(rt, &log, &shares, 1)?)
+    handled(
+        &rt,
+        &log,
+        noted(rt, &log, &shares, 1)?,
+        "split 0;split 0;poll 0;poll 1;poll 2;leave 0;leave 1;poll 2",
+        "s cloned s1;latch shared;s cloned s2;latch shared;\
+         latch shared;latch waited Join;s ready;0 ready;\
+         latch shared;latch waited Join;latch dropped;1 pending;\
+         latch shared;latch waited Join;latch dropped;2 pending;\
+         s dropped;latch dropped;latch stepped Release;latch dropped;\
+         s1 dropped;latch stepped Cancel(0);latch dropped;\
+         latch shared;latch waited Look(1);s2 ready;2 ready;\
+         s2 dropped;latch dropped;latch stepped Release;latch dropped;",
+    )
 }
 
-fn response_is_kept<L: Latch<LineCore>>(
-    rt: &HostRuntime,
-    log: &Log,
-    semaphore: Semaphore<L>,
-) -> Result<(), Fail> {
-    let checks = Checks::new(rt.alloc());
-    let script = Script::new(log);
-    let mut service = ConcurrencyLimit::with_semaphore(Scripted::new(&script, 's'), semaphore);
-    let mut other = service.clone()?;
-    let solo = task(rt)?;
-    let mut response = called(&solo, &mut service, 7).ok_or("not ready")?;
-    checks.holds(matches!(stepped(&solo, &mut response), Poll::Ready(Ok(7))));
-    checks.holds(!is_ready(&solo, &mut other));
-    log.told(rt.alloc())?;
-    // The inner response is dropped before the permit goes back.
-    drop(response);
-    checks.told(log, "s(7) dropped;latch stepped Release;latch dropped;");
-    checks.holds(is_ready(&solo, &mut other));
-    checks.told(log, "latch shared;latch waited Look(0);s1 ready;");
-    checks.verdict()
-}
-
+// The inner response is dropped before the permit goes back.
 #[test]
 fn kept_response_keeps_its_permit(rt: HostRuntime) -> Result<(), Fail> {
     let (log, shares) = (Log::new(rt.alloc())?, Cell::new(255));
-    response_is_kept(&rt, &log, noted(rt, &log, &shares, 1)?)
+    handled(
+        &rt,
+        &log,
+        noted(rt, &log, &shares, 1)?,
+        "split 0;call 0 7;ask 0;poll 1;forget 0;poll 1",
+        "s cloned s1;latch shared;latch shared;latch waited Join;s ready;s called 7;\
+         s(7) ready;r0 ok 7;latch shared;latch waited Join;latch dropped;1 pending;\
+         s(7) dropped;latch stepped Release;latch dropped;\
+         latch shared;latch waited Look(0);s1 ready;1 ready;\
+         s dropped;latch dropped;s1 dropped;latch dropped;latch stepped Release;latch dropped;",
+    )
 }
 
 fn permit_is_held<L: Latch<LineCore>>(
@@ -142,36 +125,24 @@ fn permit_is_held<L: Latch<LineCore>>(
     log: &Log,
     semaphore: Semaphore<L>,
 ) -> Result<(), Fail> {
-    let checks = Checks::new(rt.alloc());
     let stage = Stage::new(log);
     stage.script.moods(&[Busy, Broken(7), Willing]);
     let inner = Scripted::new(&stage.script, 's');
     let service = ConcurrencyLimit::with_semaphore(inner, semaphore);
-    let events = vec![in rt.alloc();
-        Event::Poll,
-        Event::Poll,
-        Event::Poll,
-        Event::Call(5),
-        Event::Poll,
-        Event::Future(0),
-        Event::Poll,
-        Event::Drop(0),
-        Event::Poll,
-    ]?;
-    let story = limited(rt, &stage, service, events)?;
-    checks.same(
-        &story.entries.as_str(),
-        &"pending;error 7;ready;call 0;pending;0 ok 5;pending;drop 0;ready;",
-    );
-    checks.same(
-        &story.told.as_str(),
-        &"latch shared;latch waited Join;s pending;s error 7;s ready;s called 5;\
+    limited(
+        rt,
+        &stage,
+        service,
+        "poll;poll;poll;call 5;poll;future 0;poll;drop 0;poll",
+    )?
+    .tells(
+        "pending;error 7;ready;call 0;pending;0 ok 5;pending;drop 0;ready;",
+        "latch shared;latch waited Join;s pending;s error 7;s ready;s called 5;\
          latch shared;latch waited Join;latch dropped;s(5) ready;\
          latch shared;latch waited Look(0);latch dropped;s(5) dropped;latch stepped Release;latch dropped;\
          latch shared;latch waited Look(0);s ready;\
          s dropped;latch dropped;latch stepped Release;latch dropped;",
-    );
-    checks.verdict()
+    )
 }
 
 // While the inner service waits or fails, the permit is held and no other is asked for.
@@ -191,31 +162,16 @@ fn permit_goes_with_the_call(rt: HostRuntime) -> Result<(), Fail> {
         .script
         .replies(&[Reply::Echo(1), Reply::Fail(0), Reply::Never]);
     let service = ConcurrencyLimit::new(rt, alloc, Scripted::new(&stage.script, 's'), 2)?;
-    let events = vec![in alloc;
-        Event::Poll,
-        Event::Call(1),
-        Event::Future(0),
-        Event::Poll,
-        Event::Call(2),
-        Event::Poll,
-        Event::Future(0),
-        Event::Future(1),
-        Event::Poll,
-        Event::Drop(0),
-        Event::Poll,
-        Event::Call(3),
-        Event::Poll,
-        Event::Drop(2),
-        Event::Poll,
-        Event::Drop(1),
-    ]?;
-    let story = limited(&rt, &stage, service, events)?;
-    assert_eq!(rt;
-        story.entries.as_str(),
+    limited(
+        &rt,
+        &stage,
+        service,
+        "poll;call 1;future 0;poll;call 2;poll;future 0;future 1;poll;drop 0;poll;call 3;poll;drop 2;poll;drop 1",
+    )?
+    .enters(
         "ready;call 0;0 pending;ready;call 1;pending;0 ok 1;1 error 2;pending;drop 0;ready;call 2;\
-         pending;drop 2;ready;drop 1;"
-    );
-    Ok(())
+         pending;drop 2;ready;drop 1;",
+    )
 }
 
 // How many calls are made before it isn't ready, 1001 at most, with all responses kept.
@@ -298,6 +254,15 @@ fn two_of_each<S: Drop, R: Wait + Copy>(
     Ok((layer.layer(first)?, layer.clone()?.layer(second)?))
 }
 
+// Whether each of the two is ready, the first before the second.
+fn are_ready<S: Service<u8>>(solo: &Solo, pair: (S, S)) -> (bool, bool)
+    requires { (service : S) → S.sound service }
+{
+    let (mut first, mut second) = pair;
+    let is_first = run::is_ready(solo, &mut first);
+    (is_first, run::is_ready(solo, &mut second))
+}
+
 fn services_are_counted<L: Latch<LineCore>, R: Wait + Copy>(
     rt: &HostRuntime,
     one: GlobalConcurrencyLimitLayer<L>,
@@ -307,21 +272,15 @@ fn services_are_counted<L: Latch<LineCore>, R: Wait + Copy>(
     let log = Log::new(rt.alloc())?;
     let script = Script::new(&log);
     let solo = task(rt)?;
-    let (mut a, mut b) = two_of_one(
-        &one,
-        Scripted::new(&script, 'a'),
-        Scripted::new(&script, 'b'),
-    )?;
-    checks.holds(is_ready(&solo, &mut a));
-    checks.holds(!is_ready(&solo, &mut b));
-    let (mut c, mut d) = two_of_each(
-        &each,
-        Scripted::new(&script, 'c'),
-        Scripted::new(&script, 'd'),
-    )?;
-    checks.holds(is_ready(&solo, &mut c));
-    checks.holds(is_ready(&solo, &mut d));
-    checks.told(&log, "a ready;c ready;d ready;");
+    let named = |letter: char| Scripted::new(&script, letter);
+    let of_one = two_of_one(&one, named('a'), named('b'))?;
+    checks.same(&are_ready(&solo, of_one), &(true, false));
+    let of_each = two_of_each(&each, named('c'), named('d'))?;
+    checks.same(&are_ready(&solo, of_each), &(true, true));
+    checks.told(
+        &log,
+        "a ready;b dropped;a dropped;c ready;d ready;d dropped;c dropped;",
+    );
     checks.verdict()
 }
 
@@ -332,29 +291,18 @@ fn global_limit_counts_all_services(rt: HostRuntime) -> Result<(), Fail> {
     services_are_counted(&rt, one, each)
 }
 
-fn share_is_refused<L: Latch<LineCore>>(
-    rt: &HostRuntime,
-    log: &Log,
-    semaphore: Semaphore<L>,
-) -> Result<(), Fail> {
-    let checks = Checks::new(rt.alloc());
-    let script = Script::new(log);
-    let service = ConcurrencyLimit::with_semaphore(Scripted::new(&script, 's'), semaphore);
-    let clone = service.clone()?;
-    checks.told(log, "s cloned s1;latch shared;");
-    checks.holds(service.clone().is_err());
-    checks.told(log, "s cloned s2;latch refused;s2 dropped;");
-    drop(service);
-    drop(clone);
-    checks.told(log, "s dropped;latch dropped;s1 dropped;latch dropped;");
-    checks.verdict()
-}
-
 // No further share is made, and each goes with its service.
 #[test]
 fn each_service_has_one_share(rt: HostRuntime) -> Result<(), Fail> {
     let (log, shares) = (Log::new(rt.alloc())?, Cell::new(1));
-    share_is_refused(&rt, &log, noted(rt, &log, &shares, 1)?)
+    handled(
+        &rt,
+        &log,
+        noted(rt, &log, &shares, 1)?,
+        "split 0;split 0;leave 0;leave 1",
+        "s cloned s1;latch shared;s cloned s2;latch refused;s2 dropped;0 isn't cloned;\
+         s dropped;latch dropped;s1 dropped;latch dropped;",
+    )
 }
 
 fn layer_shares_once<L: Latch<LineCore>>(
@@ -408,52 +356,24 @@ fn unseen_grant_is_not_free(rt: HostRuntime) -> Result<(), Fail> {
     waiter_is_granted(&rt, Semaphore::new(rt, rt.alloc(), 1)?)
 }
 
-fn wait_is_cancelled<L: Latch<LineCore>>(
-    rt: &HostRuntime,
-    semaphore: Semaphore<L>,
-) -> Result<(), Fail> {
-    let checks = Checks::new(rt.alloc());
-    let log = Log::new(rt.alloc())?;
-    let script = Script::new(&log);
-    let solo = task(rt)?;
-    let inner = Scripted::new(&script, 's');
-    let mut a = ConcurrencyLimit::with_semaphore(inner, semaphore.share()?);
-    let mut b = a.clone()?;
-    let mut c = a.clone()?;
-    let mut d = a.clone()?;
-    checks.holds(is_ready(&solo, &mut a) && is_ready(&solo, &mut b));
-    checks.holds(!is_ready(&solo, &mut c) && !is_ready(&solo, &mut d));
-    drop(c);
-    drop(a);
-    checks.holds(is_ready(&solo, &mut d));
-    checks.same(&semaphore.available_permits(), &0);
-    checks.verdict()
-}
-
 #[test]
 fn cancelled_wait_moves_the_last_up(rt: HostRuntime) -> Result<(), Fail> {
-    wait_is_cancelled(&rt, Semaphore::new(rt, rt.alloc(), 2)?)
-}
-
-fn third_call_waits<S: Service<u8, Response = u8>>(
-    rt: &HostRuntime,
-    mut service: S,
-) -> Result<(), Fail>
-    requires { S.sound service }
-{
-    let checks = Checks::new(rt.alloc());
-    let solo = task(rt)?;
-    let mut first = called(&solo, &mut service, 1).ok_or("not ready")?;
-    let mut second = called(&solo, &mut service, 2).ok_or("not ready")?;
-    checks.holds(!run::is_ready(&solo, &mut service));
-    checks.holds(matches!(stepped(&solo, &mut first), Poll::Ready(Ok(1))));
-    checks.holds(!run::is_ready(&solo, &mut service));
-    drop(first);
-    let mut third = called(&solo, &mut service, 3).ok_or("not ready")?;
-    checks.holds(!run::is_ready(&solo, &mut service));
-    checks.holds(matches!(stepped(&solo, &mut second), Poll::Ready(Ok(2))));
-    checks.holds(matches!(stepped(&solo, &mut third), Poll::Ready(Ok(3))));
-    checks.verdict()
+    let (log, shares) = (Log::new(rt.alloc())?, Cell::new(255));
+    handled(
+        &rt,
+        &log,
+        noted(rt, &log, &shares, 2)?,
+        "split 0;split 0;split 0;poll 0;poll 1;poll 2;poll 3;leave 2;leave 0;poll 3",
+        "s cloned s1;latch shared;s cloned s2;latch shared;s cloned s3;latch shared;\
+         latch shared;latch waited Join;s ready;0 ready;latch shared;latch waited Join;s1 ready;1 ready;\
+         latch shared;latch waited Join;latch dropped;2 pending;\
+         latch shared;latch waited Join;latch dropped;3 pending;\
+         s2 dropped;latch stepped Cancel(0);latch dropped;\
+         s dropped;latch dropped;latch stepped Release;latch dropped;\
+         latch shared;latch waited Look(1);s3 ready;3 ready;\
+         s1 dropped;latch dropped;latch stepped Release;latch dropped;\
+         s3 dropped;latch dropped;latch stepped Release;latch dropped;",
+    )
 }
 
 // The third call is woken by the first response's drop, and not by its answer.
@@ -462,7 +382,15 @@ fn two_calls_in_flight(rt: HostRuntime) -> Result<(), Fail> {
     let log = Log::new(rt.alloc())?;
     let script = Script::new(&log);
     let layer = ConcurrencyLimitLayer::new(rt, rt.alloc(), 2);
-    third_call_waits(&rt, layer.layer(Scripted::new(&script, 's'))?)
+    tells(
+        &rt,
+        &log,
+        layer.layer(Scripted::new(&script, 's'))?,
+        "call 0 1;call 0 2;poll 0;ask 0;poll 0;forget 0;call 0 3;poll 0;ask 1;ask 2",
+        "s ready;s called 1;s ready;s called 2;0 pending;s(1) ready;r0 ok 1;0 pending;s(1) dropped;\
+         s ready;s called 3;0 pending;s(2) ready;r1 ok 2;s(3) ready;r2 ok 3;\
+         s dropped;s(2) dropped;s(3) dropped;",
+    )
 }
 
 fn inner_is_lent<L: Latch<LineCore>>(
@@ -516,12 +444,7 @@ fn into_inner_leaves_the_line(rt: HostRuntime) -> Result<(), Fail> {
 }
 
 // The run of a service behind a check that waits.
-fn checked<S>(
-    rt: &HostRuntime,
-    stage: &Stage<'_>,
-    inner: S,
-    events: Vec<Event<u8, Act>>,
-) -> Result<Story, Fail>
+fn checked<S>(rt: &HostRuntime, stage: &Stage<'_>, inner: S, events: &str) -> Result<Story, Fail>
 where
     S: Service<u8> + Clone,
     S::Response: Display,
@@ -543,22 +466,13 @@ fn a_check_that_waits_holds_the_permit(rt: HostRuntime) -> Result<(), Fail> {
     let log = Log::new(rt.alloc())?;
     let stage = Stage::new(&log);
     let limit = ConcurrencyLimit::new(rt, rt.alloc(), Scripted::new(&stage.script, 's'), 1)?;
-    let events = vec![in rt.alloc();
-        Event::Poll,
-        Event::Call(7),
-        Event::Future(0),
-        Event::Poll,
-        Event::Future(0),
-        Event::Poll,
-        Event::Drop(0),
-        Event::Poll,
-    ]?;
-    let story = checked(&rt, &stage, limit, events)?;
-    assert_eq!(rt;
-        story.entries.as_str(),
-        "ready;call 0;0 pending;pending;0 ok 7;pending;drop 0;ready;"
-    );
-    Ok(())
+    checked(
+        &rt,
+        &stage,
+        limit,
+        "poll;call 7;future 0;poll;future 0;poll;drop 0;poll",
+    )?
+    .enters("ready;call 0;0 pending;pending;0 ok 7;pending;drop 0;ready;")
 }
 
 #[test]

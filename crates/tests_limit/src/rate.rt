@@ -5,11 +5,10 @@ use std::test::Fail;
 use tests_support::checks::Checks;
 use tests_support::clock::Hand;
 use tests_support::log::Log;
-use tests_support::script::Mood::{Broken, Busy, Willing};
+use tests_support::script::Mood::{self, Broken, Busy, Willing};
 use tests_support::script::Script;
 use tests_support::service::Scripted;
-use tests_support::story::{Act, Stage, Story, driven};
-use tower_base::drive::Event;
+use tests_support::story::{Stage, Story, driven};
 use tower_base::layer::Layer;
 use tower_base::service::Clock;
 use tower_limit::limit::rate::{Rate, RateCore};
@@ -20,208 +19,111 @@ fn timed<C: Clock>(
     stage: &Stage<'_>,
     rate: Rate,
     clock: C,
-    events: Vec<Event<u8, Act>>,
+    events: &str,
 ) -> Result<Story, Fail> {
     let service = RateLimit::new(Scripted::new(&stage.script, 's'), rate, clock);
     driven(rt, stage, service, events)
 }
 
-// A run made at the stage's moment.
-fn run(
-    rt: &HostRuntime,
-    stage: &Stage<'_>,
-    rate: Rate,
-    events: Vec<Event<u8, Act>>,
-) -> Result<Story, Fail> {
-    let clock = Hand::new(stage.log, &stage.moment);
-    timed(rt, stage, rate, clock, events)
+// A run that begins at 0, with these answers to polls of the inner service.
+fn run(rt: HostRuntime, rate: Rate, moods: &[Mood], events: &str) -> Result<Story, Fail> {
+    let log = Log::new(rt.alloc())?;
+    let stage = Stage::new(&log);
+    stage.script.moods(moods);
+    let clock = Hand::new(&log, &stage.moment);
+    timed(&rt, &stage, rate, clock, events)
 }
 
 #[test]
 fn full_window_is_waited_for_without_an_inner_poll(rt: HostRuntime) -> Result<(), Fail> {
-    let checks = Checks::new(rt.alloc());
-    let log = Log::new(rt.alloc())?;
-    let stage = Stage::new(&log);
-    let events = vec![in rt.alloc();
-        Event::Poll,
-        Event::Call(1),
-        Event::Poll,
-        Event::Call(2),
-        Event::Turn(Act::At(9)),
-        Event::Poll,
-        Event::Turn(Act::At(10)),
-        Event::Poll,
-    ]?;
-    let story = run(&rt, &stage, Rate::new(2, 10), events)?;
-    checks.same(
-        &story.entries.as_str(),
-        &"ready;call 0;ready;call 1;at 9;pending;at 10;ready;",
-    );
-    checks.same(
-        &story.told.as_str(),
-        &"clock read 0;s ready;clock read 0;s called 1;s ready;clock read 0;s called 2;\
+    run(
+        rt,
+        Rate::new(2, 10),
+        &[],
+        "poll;call 1;poll;call 2;at 9;poll;at 10;poll",
+    )?
+    .tells(
+        "ready;call 0;ready;call 1;at 9;pending;at 10;ready;",
+        "clock read 0;s ready;clock read 0;s called 1;s ready;clock read 0;s called 2;\
          clock read 9;clock read 10;s ready;\
          s dropped;clock dropped;s(1) dropped;s(2) dropped;",
-    );
-    checks.verdict()
+    )
 }
 
 #[test]
 fn interval_over_two_windows_holds_twice_the_number(rt: HostRuntime) -> Result<(), Fail> {
-    let log = Log::new(rt.alloc())?;
-    let stage = Stage::new(&log);
-    let events = vec![in rt.alloc();
-        Event::Poll,
-        Event::Call(1),
-        Event::Turn(Act::At(2)),
-        Event::Poll,
-        Event::Turn(Act::At(3)),
-        Event::Call(2),
-        Event::Poll,
-        Event::Turn(Act::At(4)),
-        Event::Poll,
-        Event::Call(3),
-    ]?;
-    let story = run(&rt, &stage, Rate::new(1, 2), events)?;
-    assert_eq!(rt;
-        story.entries.as_str(),
-        "ready;call 0;at 2;ready;at 3;call 1;pending;at 4;ready;call 2;"
-    );
-    Ok(())
+    run(
+        rt,
+        Rate::new(1, 2),
+        &[],
+        "poll;call 1;at 2;poll;at 3;call 2;poll;at 4;poll;call 3",
+    )?
+    .enters("ready;call 0;at 2;ready;at 3;call 1;pending;at 4;ready;call 2;")
 }
 
 #[test]
 fn call_past_the_end_opens_a_whole_window(rt: HostRuntime) -> Result<(), Fail> {
-    let log = Log::new(rt.alloc())?;
-    let stage = Stage::new(&log);
-    let events = vec![in rt.alloc();
-        Event::Poll,
-        Event::Call(1),
-        Event::Turn(Act::At(100)),
-        Event::Poll,
-        Event::Call(2),
-        Event::Poll,
-        Event::Call(3),
-        Event::Poll,
-        Event::Call(4),
-        Event::Poll,
-    ]?;
-    let story = run(&rt, &stage, Rate::new(3, 100), events)?;
-    assert_eq!(rt;
-        story.entries.as_str(),
-        "ready;call 0;at 100;ready;call 1;ready;call 2;ready;call 3;pending;"
-    );
-    Ok(())
+    run(
+        rt,
+        Rate::new(3, 100),
+        &[],
+        "poll;call 1;at 100;poll;call 2;poll;call 3;poll;call 4;poll",
+    )?
+    .enters("ready;call 0;at 100;ready;call 1;ready;call 2;ready;call 3;pending;")
 }
 
 #[test]
 fn capacity_is_reached_and_comes_back(rt: HostRuntime) -> Result<(), Fail> {
-    let checks = Checks::new(rt.alloc());
-    let log = Log::new(rt.alloc())?;
-    let stage = Stage::new(&log);
-    let events = vec![in rt.alloc();
-        Event::Poll,
-        Event::Call(1),
-        Event::Future(0),
-        Event::Poll,
-        Event::Turn(Act::At(101)),
-        Event::Poll,
-        Event::Call(2),
-        Event::Future(1),
-    ]?;
-    let story = run(&rt, &stage, Rate::new(1, 100), events)?;
-    checks.same(
-        &story.entries.as_str(),
-        &"ready;call 0;0 ok 1;pending;at 101;ready;call 1;1 ok 2;",
-    );
-    checks.same(
-        &story.told.as_str(),
-        &"clock read 0;s ready;clock read 0;s called 1;s(1) ready;clock read 0;\
+    run(
+        rt,
+        Rate::new(1, 100),
+        &[],
+        "poll;call 1;future 0;poll;at 101;poll;call 2;future 1",
+    )?
+    .tells(
+        "ready;call 0;0 ok 1;pending;at 101;ready;call 1;1 ok 2;",
+        "clock read 0;s ready;clock read 0;s called 1;s(1) ready;clock read 0;\
          clock read 101;s ready;clock read 101;s called 2;s(2) ready;\
          s dropped;clock dropped;s(1) dropped;s(2) dropped;",
-    );
-    checks.verdict()
+    )
 }
 
 #[test]
 fn remaining_calls_are_all_there_again_in_the_next_window(rt: HostRuntime) -> Result<(), Fail> {
-    let log = Log::new(rt.alloc())?;
-    let stage = Stage::new(&log);
-    let events = vec![in rt.alloc();
-        Event::Poll,
-        Event::Call(1),
-        Event::Turn(Act::At(10)),
-        Event::Poll,
-        Event::Call(2),
-        Event::Future(1),
-        Event::Poll,
-        Event::Call(3),
-        Event::Future(2),
-        Event::Turn(Act::At(19)),
-        Event::Poll,
-    ]?;
-    let story = run(&rt, &stage, Rate::new(2, 10), events)?;
-    assert_eq!(rt;
-        story.entries.as_str(),
-        "ready;call 0;at 10;ready;call 1;1 ok 2;ready;call 2;2 ok 3;at 19;pending;"
-    );
-    Ok(())
+    run(
+        rt,
+        Rate::new(2, 10),
+        &[],
+        "poll;call 1;at 10;poll;call 2;future 1;poll;call 3;future 2;at 19;poll",
+    )?
+    .enters("ready;call 0;at 10;ready;call 1;1 ok 2;ready;call 2;2 ok 3;at 19;pending;")
 }
 
 #[test]
 fn end_past_the_last_moment_never_comes(rt: HostRuntime) -> Result<(), Fail> {
-    let log = Log::new(rt.alloc())?;
-    let stage = Stage::new(&log);
-    let events = vec![in rt.alloc();
-        Event::Turn(Act::At(u64::MAX)),
-        Event::Poll,
-        Event::Call(1),
-        Event::Poll,
-        Event::Turn(Act::At(0)),
-        Event::Poll,
-    ]?;
-    let story = run(&rt, &stage, Rate::new(1, u64::MAX), events)?;
-    assert_eq!(rt;
-        story.entries.as_str(),
-        "at 18446744073709551615;ready;call 0;pending;at 0;pending;"
-    );
-    Ok(())
+    run(
+        rt,
+        Rate::new(1, u64::MAX),
+        &[],
+        "at 18446744073709551615;poll;call 1;poll;at 0;poll",
+    )?
+    .enters("at 18446744073709551615;ready;call 0;pending;at 0;pending;")
 }
 
 #[test]
 fn inner_service_that_waits_or_fails_keeps_the_window(rt: HostRuntime) -> Result<(), Fail> {
-    let checks = Checks::new(rt.alloc());
-    let log = Log::new(rt.alloc())?;
-    let stage = Stage::new(&log);
-    stage
-        .script
-        .moods(&[Busy, Broken(7), Willing, Busy, Broken(8), Willing]);
-    let events = vec![in rt.alloc();
-        Event::Poll,
-        Event::Poll,
-        Event::Poll,
-        Event::Call(1),
-        Event::Turn(Act::At(10)),
-        Event::Poll,
-        Event::Turn(Act::At(25)),
-        Event::Poll,
-        Event::Poll,
-        Event::Call(2),
-        Event::Turn(Act::At(34)),
-        Event::Poll,
-    ]?;
-    let story = run(&rt, &stage, Rate::new(1, 10), events)?;
-    checks.same(
-        &story.entries.as_str(),
-        &"pending;error 7;ready;call 0;at 10;pending;at 25;error 8;ready;call 1;at 34;pending;",
-    );
-    checks.same(
-        &story.told.as_str(),
-        &"clock read 0;s pending;s error 7;s ready;clock read 0;s called 1;\
+    run(
+        rt,
+        Rate::new(1, 10),
+        &[Busy, Broken(7), Willing, Busy, Broken(8), Willing],
+        "poll;poll;poll;call 1;at 10;poll;at 25;poll;poll;call 2;at 34;poll",
+    )?
+    .tells(
+        "pending;error 7;ready;call 0;at 10;pending;at 25;error 8;ready;call 1;at 34;pending;",
+        "clock read 0;s pending;s error 7;s ready;clock read 0;s called 1;\
          clock read 10;s pending;s error 8;s ready;clock read 25;s called 2;clock read 34;\
          s dropped;clock dropped;s(1) dropped;s(2) dropped;",
-    );
-    checks.verdict()
+    )
 }
 
 fn layer_reads_once<C: Clock>(rt: &HostRuntime, log: &Log, clock: C) -> Result<(), Fail> {

@@ -35,6 +35,14 @@ fn acquired<L: Latch<LineCore>>(
     answer
 }
 
+// Two that ask for permits.
+fn two_of<L: Latch<LineCore>>(
+    semaphore: &Semaphore<L>,
+) -> Result<(PollSemaphore<L>, PollSemaphore<L>), AllocError> {
+    let first = PollSemaphore::new(semaphore.share()?);
+    Ok((first, PollSemaphore::new(semaphore.share()?)))
+}
+
 // One permit, behind a latch whose steps are noted.
 fn noting<'a, L: Latch<LineCore>>(
     log: &'a Log,
@@ -78,10 +86,9 @@ where
     L: Latch<LineCore>,
 {
     let checks = Checks::new(rt.alloc());
-    let mut first = PollSemaphore::new(semaphore.share()?);
-    let mut second = PollSemaphore::new(semaphore.share()?);
     let solo = task(rt)?;
-    log.told(rt.alloc())?;
+    let (mut first, mut second) = two_of(&semaphore)?;
+    checks.told(log, "latch shared;latch shared;");
     shares.set(0);
     checks.holds(is_refused(&acquired(&solo, &mut first)));
     checks.holds(first.share().is_err() && semaphore.share().is_err());
@@ -123,15 +130,17 @@ where
     L: Latch<LineCore>,
 {
     let checks = Checks::new(rt.alloc());
-    let mut holder = PollSemaphore::new(semaphore.share()?);
-    let mut waiter = PollSemaphore::new(semaphore.share()?);
     let solo = task(rt)?;
+    let (mut holder, mut waiter) = two_of(&semaphore)?;
     let permit = acquired(&solo, &mut holder);
     checks.holds(is_ok(&permit));
     assert!(rt; acquired(&solo, &mut waiter).is_pending());
     // A step that no waiter makes for another.
     checks.same(&beside.step(LineStep::Cancel(0)), &LineReply::Left);
-    log.told(rt.alloc())?;
+    checks.told(
+        log,
+        "latch shared;latch shared;latch shared;latch waited Join;latch shared;latch waited Join;latch dropped;",
+    );
     for _ in 0..2u8 {
         assert!(rt; acquired(&solo, &mut waiter).is_pending());
         checks.told(log, "latch shared;latch waited Look(0);latch dropped;");
@@ -155,11 +164,9 @@ where
     L: Latch<LineCore>,
 {
     let checks = Checks::new(rt.alloc());
-    let mut holder = PollSemaphore::new(semaphore.share()?);
-    let mut first = PollSemaphore::new(semaphore.share()?);
-    let mut second = PollSemaphore::new(semaphore.share()?);
-    let one = MockTask::new(rt)?;
-    let two = MockTask::new(rt)?;
+    let (one, two) = (MockTask::new(rt)?, MockTask::new(rt)?);
+    let (mut first, mut second) = two_of(&semaphore)?;
+    let mut holder = PollSemaphore::new(semaphore);
     // Each is the only task of its executor.
     let number = one.enter(|cx: &mut Context<'_>| cx.task());
     checks.same(&two.enter(|cx: &mut Context<'_>| cx.task()), &number);

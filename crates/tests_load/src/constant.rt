@@ -12,7 +12,6 @@ use tests_support::script::Mood::{Broken, Busy, Willing};
 use tests_support::script::{Reply, Script};
 use tests_support::service::Scripted;
 use tests_support::story::{Stage, driven};
-use tower_base::drive::Event;
 use tower_limit::discover::{Change, ServiceList};
 use tower_limit::limit::rate::Rate;
 use tower_limit::limit::{ConcurrencyLimit, RateLimit};
@@ -29,28 +28,17 @@ fn load_stays_and_calls_go_inside(rt: HostRuntime) -> Result<(), Fail> {
     let service = Constant::new(Scripted::new(&stage.script, 's'), 5u32);
     checks.same(&service.load(), &5);
     checks.same(&service.load(), &5);
-    let events = vec![in alloc;
-        Event::Poll,
-        Event::Poll,
-        Event::Poll,
-        Event::Call(3),
-        Event::Future(0),
-        Event::Future(0),
-        Event::Poll,
-        Event::Call(4),
-        Event::Future(1),
-    ]?;
-    let story = driven(&rt, &stage, service, events)?;
-    checks.same(
-        &story.entries.as_str(),
-        &"pending;error 7;ready;call 0;0 pending;0 ok 3;ready;call 1;1 error 4;",
-    );
-    checks.same(
-        &story.told.as_str(),
-        &"s pending;s error 7;s ready;s called 3;s(3) pending;s(3) ready;s ready;s called 4;s(4) ready;\
+    driven(
+        &rt,
+        &stage,
+        service,
+        "poll;poll;poll;call 3;future 0;future 0;poll;call 4;future 1",
+    )?
+    .tells(
+        "pending;error 7;ready;call 0;0 pending;0 ok 3;ready;call 1;1 error 4;",
+        "s pending;s error 7;s ready;s called 3;s(3) pending;s(3) ready;s ready;s called 4;s(4) ready;\
          s dropped;s(3) dropped;s(4) dropped;",
-    );
-    checks.verdict()
+    )
 }
 
 #[test]

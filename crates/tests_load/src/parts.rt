@@ -2,12 +2,9 @@
 ghost use Rattle.std.specs.Prelude.{⊤};
 
 use futures::task::{Context, Poll, Solo};
-use std::alloc::{AllocError, Global};
-use std::fmt::Debug;
 use tests_support::script::Script;
 use tests_support::service::Scripted;
 use tower_limit::discover::{Change, Discover};
-use tower_limit::load::Load;
 
 /// What a poll finds.
 #[derive(Clone, Copy, Debug, PartialEq, Eq)]
@@ -92,13 +89,4 @@ pub fn found<D: Discover>(
     let answer = discovery.poll_discover(&mut cx);
     cx.end(&answer);
     answer
-}
-
-/// The load, as its type writes it.
-pub fn told_load<S: Load>(alloc: Global, service: &S) -> Result<String, AllocError>
-where
-    S::Metric: Debug,
-{
-    let load = service.load();
-    format!(in alloc; "{load:?}")
 }

@@ -5,42 +5,85 @@ ghost use Rattle.tower_pool.specs.ReadyCache.{Sound};
 use futures::task::{Context, Poll};
 use std::fmt::Display;
 use std::test::Fail;
+use tests_support::checks::Checks;
 use tests_support::log::Log;
 use tests_support::run::task;
-use tests_support::script::{Mood, Script};
+use tests_support::script::{Mood, Script, mood_of};
 use tests_support::service::Scripted;
 use tower_base::service::Service;
 use tower_pool::ready_cache::ReadyCache;
 use tower_pool::ready_cache::error::Error;
 
-/// One act. Services are `a`, `b` and `c`, each with moods of its own.
+// One act. Services are `a`, `b` and `c`, each with moods of its own.
 #[derive(Clone, Copy, Debug)]
-pub enum Act {
-    /// What the service answers from now on.
+enum Act {
+    // What the service answers from now on.
     Mood(char, Mood),
-    /// Pushes the service under the key.
+    // Pushes the service under the key.
     Push(u8, char),
-    /// Polls the pending ones.
+    // Polls the pending ones.
     Poll,
-    /// Checks the key's endpoint.
+    // Checks the key's endpoint.
     Check(u8),
-    /// Checks the endpoint at the index.
+    // Checks the endpoint at the index.
     CheckIndex(usize),
-    /// Checks the endpoint at the index, and calls it with this where it is ready.
+    // Checks the endpoint at the index, and calls it with this where it is ready.
     Call(usize, u8),
-    /// Checks the key's endpoint, pushes the service under the key, and calls the endpoint where it was ready.
+    // Checks the key's endpoint, pushes the service under the key, and calls the endpoint where it was ready.
     PushAndCall(u8, char),
     Evict(u8),
-    /// Looks for the key.
+    // Looks for the key.
     Find(u8),
-    /// Looks at the index.
+    // Looks at the index.
     FindIndex(usize),
-    /// Puts the service in the place of the key's ready one.
+    // Puts the service in the place of the key's ready one.
     Replace(u8, char),
-    /// Puts the service in the place of the ready one at the index.
+    // Puts the service in the place of the ready one at the index.
     ReplaceIndex(usize, char),
-    /// Looks at the ready keys in order, and at the counts.
+    // Looks at the ready keys in order, and at the counts.
     Look,
+}
+
+// A number and a letter.
+fn placed(text: &str) -> Option<(u8, char)> {
+    let (place, letter) = text.split_once(' ')?;
+    Some((place.parse().ok()?, letter.chars().next()?))
+}
+
+fn act_of(text: &str) -> Option<Act> {
+    let (name, rest) = text.split_once(' ').unwrap_or((text, ""));
+    match name {
+        "a" => Some(Act::Mood('a', mood_of(rest)?)),
+        "b" => Some(Act::Mood('b', mood_of(rest)?)),
+        "poll" => Some(Act::Poll),
+        "look" => Some(Act::Look),
+        "push" => {
+            let (key, letter) = placed(rest)?;
+            Some(Act::Push(key, letter))
+        }
+        "check" => Some(Act::Check(rest.parse().ok()?)),
+        "check_at" => Some(Act::CheckIndex(rest.parse().ok()?)),
+        "call_at" => {
+            let (index, request) = rest.split_once(' ')?;
+            Some(Act::Call(index.parse().ok()?, request.parse().ok()?))
+        }
+        "push_and_call" => {
+            let (key, letter) = placed(rest)?;
+            Some(Act::PushAndCall(key, letter))
+        }
+        "evict" => Some(Act::Evict(rest.parse().ok()?)),
+        "find" => Some(Act::Find(rest.parse().ok()?)),
+        "find_at" => Some(Act::FindIndex(rest.parse().ok()?)),
+        "replace" => {
+            let (key, letter) = placed(rest)?;
+            Some(Act::Replace(key, letter))
+        }
+        "replace_at" => {
+            let (index, letter) = placed(rest)?;
+            Some(Act::ReplaceIndex(usize::from(index), letter))
+        }
+        _ => None,
+    }
 }
 
 // The keys of the ready endpoints, and the counts.
@@ -233,8 +276,13 @@ fn carry_out<'a>(
     }
 }
 
-/// All that was noted, the drops of the services that are left too, which come last.
-pub fn story(rt: &HostRuntime, acts: &[Act]) -> Result<String, Fail> {
+/// All that was noted, the drops of the services that are left too, which come last. Acts stand one after another with a semicolon
+/// between. Services are `a`, `b` and `c`; `a busy`, `a willing` and `a broken 7` say what `a` answers from then on.
+///
+/// `push 1 a` pushes `a` under the key 1, `push_and_call 1 b` checks the key, pushes, and calls what was ready; `poll` polls the
+/// pending ones; `check 1`, `find 1`, `evict 1`, `replace 1 c` name a key, and `check_at 0`, `find_at 0`, `call_at 0 7`,
+/// `replace_at 0 c` an index; `look` notes the ready keys in order, and the counts.
+pub fn story(rt: &HostRuntime, acts: &str) -> Result<String, Fail> {
     let alloc = rt.alloc();
     let log = Log::new(alloc)?;
     let scripts = Scripts {
@@ -244,12 +292,20 @@ pub fn story(rt: &HostRuntime, acts: &[Act]) -> Result<String, Fail> {
     };
     let solo = task(rt)?;
     let mut cache = ReadyCache::new(alloc);
-    for one in acts {
+    for text in acts.split(';') {
+        let act = act_of(text).ok_or("not an act")?;
         let mut cx = solo.begin();
-        carry_out(&mut cx, &log, &scripts, &mut cache, *one);
+        carry_out(&mut cx, &log, &scripts, &mut cache, act);
         cx.cancel();
     }
     drop(cache);
     let told = log.told(alloc)?;
     Ok(told)
+}
+
+/// The story is this one.
+pub fn tells(rt: &HostRuntime, acts: &str, want: &str) -> Result<(), Fail> {
+    let checks = Checks::new(rt.alloc());
+    checks.same(&story(rt, acts)?.as_str(), &want);
+    checks.verdict()
 }

@@ -11,8 +11,7 @@ use tests_support::run::{called, task};
 use tests_support::script::Mood::{Broken, Busy, Willing};
 use tests_support::script::{Reply, Script};
 use tests_support::service::Scripted;
-use tests_support::story::{Act, Stage, Story, driven};
-use tower_base::drive::Event;
+use tests_support::story::{Stage, Story, driven};
 use tower_base::latch::Latch;
 use tower_base::layer::Layer;
 use tower_base::service::Service;
@@ -25,71 +24,53 @@ fn run_by(
     rt: &HostRuntime,
     stage: &Stage<'_>,
     rule: Rule<'_>,
-    events: Vec<Event<u8, Act>>,
+    events: &str,
 ) -> Result<Story, Fail> {
     let retry = Retry::new(rule, Scripted::new(&stage.script, 's'));
     driven(rt, stage, retry, events)
 }
 
 // A run with these words of the policy.
-fn run(
-    rt: &HostRuntime,
-    stage: &Stage<'_>,
-    words: &Words,
-    events: Vec<Event<u8, Act>>,
-) -> Result<Story, Fail> {
+fn run(rt: &HostRuntime, stage: &Stage<'_>, words: &Words, events: &str) -> Result<Story, Fail> {
     run_by(rt, stage, Rule::new(&stage.script, words, 'r'), events)
-}
-
-// One call of 7, and so many polls of its future.
-fn one_call(rt: &HostRuntime, polls: u8) -> Result<Vec<Event<u8, Act>>, Fail> {
-    let mut events = vec![in rt.alloc(); Event::Poll, Event::Call(7)]?;
-    for _ in 0..polls {
-        events.push(Event::Future(0)).map_err(|_| "no room")?;
-    }
-    Ok(events)
 }
 
 #[test]
 fn errors_are_retried(rt: HostRuntime) -> Result<(), Fail> {
-    let checks = Checks::new(rt.alloc());
     let log = Log::new(rt.alloc())?;
     let stage = Stage::new(&log);
     stage.script.replies(&[Reply::Fail(0), Reply::Echo(0)]);
     let words = Words::new(&[Word::Again(0), Word::Done]);
-    let story = run(&rt, &stage, &words, one_call(&rt, 1)?)?;
-    checks.same(&story.entries.as_str(), &"ready;call 0;0 ok 7;");
-    checks.same(
-        &story.told.as_str(),
-        &"s ready;r copied 7;s called 7;r cloned r1;s cloned s2;\
+    let story = run(&rt, &stage, &words, "poll;call 7;future 0")?;
+    story.tells(
+        "ready;call 0;0 ok 7;",
+        "s ready;r copied 7;s called 7;r cloned r1;s cloned s2;\
          s(7) ready;r1 asked Err(7);s(7) dropped;w ready;w dropped;s2 ready;r1 copied 7;s2 called 7;\
          s2(7) ready;r1 asked Ok(7);r dropped;s dropped;r1 dropped;s2 dropped;s2(7) dropped;",
-    );
-    checks.verdict()
+    )
 }
 
 // The finished response is dropped before the wait.
 #[test]
 fn each_part_may_be_pending_for_a_while(rt: HostRuntime) -> Result<(), Fail> {
-    let checks = Checks::new(rt.alloc());
     let log = Log::new(rt.alloc())?;
     let stage = Stage::new(&log);
     stage.script.moods(&[Willing, Busy, Willing]);
     stage.script.replies(&[Reply::Fail(1), Reply::Echo(1)]);
     let words = Words::new(&[Word::Again(1), Word::Done]);
-    let story = run(&rt, &stage, &words, one_call(&rt, 5)?)?;
-    checks.same(
-        &story.entries.as_str(),
-        &"ready;call 0;0 pending;0 pending;0 pending;0 pending;0 ok 7;",
-    );
-    checks.same(
-        &story.told.as_str(),
-        &"s ready;r copied 7;s called 7;r cloned r1;s cloned s2;s(7) pending;\
+    let story = run(
+        &rt,
+        &stage,
+        &words,
+        "poll;call 7;future 0;future 0;future 0;future 0;future 0",
+    )?;
+    story.tells(
+        "ready;call 0;0 pending;0 pending;0 pending;0 pending;0 ok 7;",
+        "s ready;r copied 7;s called 7;r cloned r1;s cloned s2;s(7) pending;\
          s(7) ready;r1 asked Err(7);s(7) dropped;w pending;w ready;w dropped;s2 pending;\
          s2 ready;r1 copied 7;s2 called 7;s2(7) pending;s2(7) ready;r1 asked Ok(7);\
          r dropped;s dropped;r1 dropped;s2 dropped;s2(7) dropped;",
-    );
-    checks.verdict()
+    )
 }
 
 #[test]
@@ -104,7 +85,7 @@ fn two_retries_and_no_third(rt: HostRuntime) -> Result<(), Fail> {
         Reply::Echo(0),
     ]);
     let words = Words::new(&[Word::Again(0), Word::Again(0), Word::Done]);
-    let story = run(&rt, &stage, &words, one_call(&rt, 1)?)?;
+    let story = run(&rt, &stage, &words, "poll;call 7;future 0")?;
     checks.same(&story.entries.as_str(), &"ready;call 0;0 error 3;");
     checks.same(&story.told.as_str().split("called 7;").count(), &4);
     checks.same(&story.told.as_str().split("asked Err(").count(), &4);
@@ -119,15 +100,12 @@ fn without_a_copy_there_is_one_attempt(rt: HostRuntime) -> Result<(), Fail> {
     stage.script.replies(&[Reply::Fail(0), Reply::Echo(0)]);
     let words = Words::new(&[Word::Again(0)]);
     let rule = Rule::copying_nothing(&stage.script, &words, 'r');
-    let events = vec![in rt.alloc();
-        Event::Poll,
-        Event::Call(7),
-        Event::Future(0),
-        Event::Poll,
-        Event::Call(8),
-        Event::Future(1),
-    ]?;
-    let story = run_by(&rt, &stage, rule, events)?;
+    let story = run_by(
+        &rt,
+        &stage,
+        rule,
+        "poll;call 7;future 0;poll;call 8;future 1",
+    )?;
     checks.same(
         &story.entries.as_str(),
         &"ready;call 0;0 error 7;ready;call 1;1 ok 8;",
@@ -139,19 +117,16 @@ fn without_a_copy_there_is_one_attempt(rt: HostRuntime) -> Result<(), Fail> {
 
 #[test]
 fn a_policy_may_change_request_and_result(rt: HostRuntime) -> Result<(), Fail> {
-    let checks = Checks::new(rt.alloc());
     let log = Log::new(rt.alloc())?;
     let stage = Stage::new(&log);
     let words = Words::new(&[Word::Change(9, 0), Word::Answer(Err(4))]);
-    let story = run(&rt, &stage, &words, one_call(&rt, 1)?)?;
-    checks.same(&story.entries.as_str(), &"ready;call 0;0 error 4;");
-    checks.same(
-        &story.told.as_str(),
-        &"s ready;r copied 7;s called 7;r cloned r1;s cloned s2;\
+    let story = run(&rt, &stage, &words, "poll;call 7;future 0")?;
+    story.tells(
+        "ready;call 0;0 error 4;",
+        "s ready;r copied 7;s called 7;r cloned r1;s cloned s2;\
          s(7) ready;r1 asked Ok(7);s(7) dropped;w ready;w dropped;s2 ready;r1 copied 9;s2 called 9;\
          s2(9) ready;r1 asked Ok(9);r dropped;s dropped;r1 dropped;s2 dropped;s2(9) dropped;",
-    );
-    checks.verdict()
+    )
 }
 
 #[test]
@@ -162,8 +137,7 @@ fn a_readiness_error_is_the_answer(rt: HostRuntime) -> Result<(), Fail> {
     stage.script.moods(&[Willing, Broken(5), Broken(6)]);
     stage.script.replies(&[Reply::Fail(0)]);
     let words = Words::new(&[Word::Again(0)]);
-    let events = vec![in rt.alloc(); Event::Poll, Event::Call(7), Event::Future(0), Event::Poll]?;
-    let story = run(&rt, &stage, &words, events)?;
+    let story = run(&rt, &stage, &words, "poll;call 7;future 0;poll")?;
     checks.same(&story.entries.as_str(), &"ready;call 0;0 error 5;error 6;");
     checks.same(&story.told.as_str().split("asked").count(), &2);
     checks.verdict()
@@ -228,7 +202,7 @@ fn of_limit<L: Latch<LineCore>>(
     inner: ConcurrencyLimit<Scripted<'_>, L>,
 ) -> Result<Story, Fail> {
     let retry = Retry::new(Stubborn { left: 1 }, inner);
-    driven(rt, stage, retry, one_call(rt, 1)?)
+    driven(rt, stage, retry, "poll;call 7;future 0")
 }
 
 // With one permit a second attempt waits for ever if the first one's response is kept.
@@ -238,9 +212,7 @@ fn the_permit_is_back_before_the_wait(rt: HostRuntime) -> Result<(), Fail> {
     let stage = Stage::new(&log);
     stage.script.replies(&[Reply::Fail(0), Reply::Echo(0)]);
     let inner = ConcurrencyLimit::new(rt, rt.alloc(), Scripted::new(&stage.script, 's'), 1)?;
-    let story = of_limit(&rt, &stage, inner)?;
-    assert_eq!(rt; story.entries.as_str(), "ready;call 0;0 ok 7;");
-    Ok(())
+    of_limit(&rt, &stage, inner)?.enters("ready;call 0;0 ok 7;")
 }
 
 #[test]
@@ -260,7 +232,7 @@ fn a_refused_clone_drops_the_response(rt: HostRuntime) -> Result<(), Fail> {
         ),
     ] {
         stage.script.clones(clones);
-        let story = run(&rt, &stage, &words, one_call(&rt, 1)?)?;
+        let story = run(&rt, &stage, &words, "poll;call 7;future 0")?;
         checks.same(
             &story.entries.as_str(),
             &"ready;call 0;0 error out of memory;",

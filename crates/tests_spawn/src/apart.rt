@@ -17,11 +17,11 @@ const TRIES: u32 = 10_000_000;
 
 // Pending at its first poll, and after each call.
 #[derive(Drop)]
-struct Turning {
+struct ReadyAtTheSecondPoll {
     is_ready: bool,
 }
 
-impl Service<u16> for Turning {
+impl Service<u16> for ReadyAtTheSecondPoll {
     type Response = u16;
 
     type Error = u8;
@@ -138,7 +138,7 @@ fn task_and_handle_in_two_threads(rt: HostRuntime) -> Result<(), Fail> {
         waiting: Mutex::new(None),
     };
     let sender = Sender { rt, post: &post };
-    let service = Turning { is_ready: false };
+    let service = ReadyAtTheSecondPoll { is_ready: false };
     let handle = SpawnReady::new(rt, rt.alloc(), service, sender)?;
     let (here, there) = (task(&rt)?, task(&rt)?);
     let (right, done) = thread::join(&rt, || calls(&here, handle), || drives(&rt, &there, &post));

@@ -1,6 +1,6 @@
 //! Two threads over a slot under `Logged`. Its own service can go to another thread, which a scripted one can't.
 ghost use Rattle.std.specs.Prelude.{◌≡◌, Some};
-ghost use Rattle.tower.specs.declared.spawn_ready.slot_core.Slot.{Slot as Kept};
+ghost use Rattle.tower.specs.declared.spawn_ready.slot_core.Slot.{Slot as SlotCase};
 
 use futures::future::{Ready, ready};
 use futures::task::{Context, Poll};
@@ -136,7 +136,7 @@ fn one_slot<K: Log<Slot> + Send + Sync, R: Threads + Wait + Abort + Copy + Send 
     requires name { blank.name ≡ K.name }
     requires parts { (blank.parts ≡ K.parts) × (blank.parts ≡ 2) }
     requires opening { K.opening ≡ Some slot }
-    requires opens { slot ≡ Kept.Idle }
+    requires opens { slot ≡ SlotCase.Idle }
     requires table { table ≡ K.table }
 {
     let (log, mut passes) = Logged::<Slot, K, R>::open(rt, alloc, blank, table, slot, 2)?;

@@ -14,9 +14,8 @@ use tests_support::run::{fire, polled, task};
 use tests_support::script::Mood::{Broken, Busy, Willing};
 use tests_support::script::Script;
 use tests_support::service::Scripted;
-use tests_support::story::{Act, Stage, Story, driven};
+use tests_support::story::{Stage, Story, driven};
 use tower::spawn_ready::{Error, SpawnReady, SpawnReadyLayer};
-use tower_base::drive::Event;
 use tower_base::layer::Layer;
 use tower_base::service::{Executor, Service};
 use tower_util::util::service_fn;
@@ -141,12 +140,7 @@ fn closure_is_called(rt: HostRuntime) -> Result<(), Fail> {
 }
 
 // The run of these events, by an executor that keeps its tasks.
-fn run<S, R>(
-    rt: R,
-    stage: &Stage<'_>,
-    service: S,
-    events: Vec<Event<u8, Act>>,
-) -> Result<Story, Fail>
+fn run<S, R>(rt: R, stage: &Stage<'_>, service: S, events: &str) -> Result<Story, Fail>
 where
     S: Service<u8, Response = u8, Error = u8>,
     R: Wait + RandomSource + AllocGlobal + Copy,
@@ -163,34 +157,21 @@ where
 
 #[test]
 fn calls_are_driven(rt: HostRuntime) -> Result<(), Fail> {
-    let checks = Checks::new(rt.alloc());
     let alloc = rt.alloc();
     let log = Log::new(alloc)?;
     let stage = Stage::new(&log);
     stage.script.moods(&[Willing, Broken(7), Willing, Busy]);
-    let events = vec![in alloc;
-        Event::Poll,
-        Event::Call(5),
-        Event::Future(0),
-        Event::Poll,
-        Event::Call(6),
-        Event::Poll,
-        Event::Call(6),
-        Event::Future(1),
-        Event::Poll,
-        Event::Poll,
-    ]?;
-    let story = run(rt, &stage, Scripted::new(&stage.script, 's'), events)?;
-    checks.same(
-        &story.entries.as_str(),
-        &"ready;call 0;0 ok 5;error 7;skipped;ready;call 1;1 ok 6;pending;pending;",
-    );
-    checks.same(
-        &story.told.as_str(),
-        &"s ready;s called 5;s(5) ready;s error 7;s ready;s called 6;s(6) ready;s pending;spawned;\
+    run(
+        rt,
+        &stage,
+        Scripted::new(&stage.script, 's'),
+        "poll;call 5;future 0;poll;call 6;poll;call 6;future 1;poll;poll",
+    )?
+    .tells(
+        "ready;call 0;0 ok 5;error 7;skipped;ready;call 1;1 ok 6;pending;pending;",
+        "s ready;s called 5;s(5) ready;s error 7;s ready;s called 6;s(6) ready;s pending;spawned;\
          s(5) dropped;s(6) dropped;",
-    );
-    checks.verdict()
+    )
 }
 
 // Ready always, or never. Nothing wakes its task anew.

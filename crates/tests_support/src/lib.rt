@@ -4,11 +4,13 @@
 pub mod checks;
 pub mod clock;
 pub mod future;
+pub mod handles;
 pub mod latch;
 pub mod log;
 pub mod plain;
 pub mod run;
 pub mod script;
 pub mod service;
+pub mod slots;
 pub mod story;
 pub mod stream;

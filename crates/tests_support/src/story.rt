@@ -1,9 +1,10 @@
-//! Whole runs of a service by a list of events, among which a test changes what its parts do.
+//! Whole runs of a service by a text of events, among which a test changes what its parts do.
 
+use crate::checks::Checks;
 use crate::log::Log;
 use crate::run::{task, text_of};
-use crate::script::{Mood, Reply, Script};
-use std::alloc::AllocGlobal;
+use crate::script::{Mood, Script};
+use std::alloc::{AllocGlobal, Global};
 use std::cell::Cell;
 use std::fmt::Display;
 use std::random::RandomSource;
@@ -13,19 +14,15 @@ use tower_base::service::Service;
 
 /// What a test changes between two events.
 #[derive(Clone, Copy, Debug)]
-pub enum Act {
+enum Act {
     /// The clock's moment.
     At(u64),
     /// The mood from now on.
-    Mood(Mood),
-    /// The reply from now on.
-    Reply(Reply),
+    Broken(u8),
     /// How many clones there are yet.
     Clones(u8),
     /// The gate of the call of this number.
     Open(usize),
-    /// The mood of what a maker makes, from now on.
-    Made(Mood),
 }
 
 /// What the parts of a test look at: a script for its services, one for what a maker makes, and a moment.
@@ -48,18 +45,13 @@ impl<'a> Stage<'a> {
         }
     }
 
-    /// Does it, and gives its word for the list of entries.
-    pub fn act(&self, act: Act) -> u64 {
+    // Does it, and gives its word for the list of entries.
+    fn act(&self, act: Act) -> u64 {
         match act {
-            Act::At(moment) => {
-                self.moment.set(moment);
-                return moment;
-            }
-            Act::Mood(mood) => self.script.moods(&[mood]),
-            Act::Reply(reply) => self.script.replies(&[reply]),
+            Act::At(moment) => self.moment.set(moment),
+            Act::Broken(error) => self.script.moods(&[Mood::Broken(error)]),
             Act::Clones(clones) => self.script.clones(clones),
             Act::Open(call) => self.script.open(call),
-            Act::Made(mood) => self.made.moods(&[mood]),
         }
         self.moment.get()
     }
@@ -69,17 +61,57 @@ impl<'a> Stage<'a> {
 /// futures left, too.
 #[derive(Drop)]
 pub struct Story {
+    alloc: Global,
     pub entries: String,
     pub told: String,
 }
 
-/// The run of these events.
-pub fn driven<R, S>(
-    rt: &R,
-    stage: &Stage<'_>,
-    service: S,
-    events: Vec<Event<u8, Act>>,
-) -> Result<Story, Fail>
+impl Story {
+    /// The entries of the run are these.
+    pub fn enters(&self, entries: &str) -> Result<(), Fail> {
+        let checks = Checks::new(self.alloc);
+        checks.same(&self.entries.as_str(), &entries);
+        checks.verdict()
+    }
+
+    /// The entries of the run and all that was noted are these.
+    pub fn tells(&self, entries: &str, told: &str) -> Result<(), Fail> {
+        let checks = Checks::new(self.alloc);
+        checks.same(&self.entries.as_str(), &entries);
+        checks.same(&self.told.as_str(), &told);
+        checks.verdict()
+    }
+}
+
+fn event_of(text: &str) -> Option<Event<u8, Act>> {
+    if text == "poll" {
+        return Some(Event::Poll);
+    }
+    let (word, number) = text.split_once(' ')?;
+    match word {
+        "call" => Some(Event::Call(number.parse().ok()?)),
+        "future" => Some(Event::Future(number.parse().ok()?)),
+        "drop" => Some(Event::Drop(number.parse().ok()?)),
+        "at" => Some(Event::Turn(Act::At(number.parse().ok()?))),
+        "broken" => Some(Event::Turn(Act::Broken(number.parse().ok()?))),
+        "clones" => Some(Event::Turn(Act::Clones(number.parse().ok()?))),
+        "open" => Some(Event::Turn(Act::Open(number.parse().ok()?))),
+        _ => None,
+    }
+}
+
+fn events_of(alloc: Global, text: &str) -> Result<Vec<Event<u8, Act>>, Fail> {
+    let mut events = Vec::new(alloc);
+    for word in text.split(';') {
+        events.push(event_of(word).ok_or("not an event")?)?;
+    }
+    Ok(events)
+}
+
+/// The run of these events, one after another with a semicolon between: `poll`, `call 7`, `future 0`, `drop 0`, and what
+/// a test changes: `at 10` the clock's moment, `open 0` the gate of a call, `clones 1` how many there are yet, `broken 9` each
+/// poll of readiness from then on.
+pub fn driven<R, S>(rt: &R, stage: &Stage<'_>, service: S, events: &str) -> Result<Story, Fail>
 where
     R: RandomSource + AllocGlobal,
     S: Service<u8>,
@@ -88,11 +120,16 @@ where
     requires { S.sound service }
 {
     let alloc = rt.alloc();
+    let events = events_of(alloc, events)?;
     let solo = task(rt)?;
     let mut cx = solo.begin();
     let transcript = drive(alloc, &mut cx, service, events, |act| stage.act(act));
     cx.cancel();
     let entries = text_of(alloc, &transcript?)?;
     let told = stage.log.told(alloc)?;
-    Ok(Story { entries, told })
+    Ok(Story {
+        alloc,
+        entries,
+        told,
+    })
 }

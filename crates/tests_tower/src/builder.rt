@@ -10,8 +10,9 @@ use tests_support::plain::Plain;
 use tests_support::run::{fire, task};
 use tests_support::script::{Reply, Script};
 use tests_support::service::Scripted;
+use tests_support::story::{Stage, driven};
 use tower::ServiceBuilder;
-use tower::filter::{AsyncPredicateFn, Error, PredicateFn};
+use tower::filter::{AsyncPredicateFn, PredicateFn};
 use tower::layer::Layer;
 use tower::layer::util::Identity;
 use tower::util::MapErrLayer;
@@ -57,10 +58,8 @@ fn builder_without_layers_gives_the_service(rt: HostRuntime) -> Result<(), Fail>
 
 #[test]
 fn closures_over_answers_go_from_the_inner_to_the_outer(rt: HostRuntime) -> Result<(), Fail> {
-    let checks = Checks::new(rt.alloc());
     let log = Log::new(rt.alloc())?;
-    let script = Script::new(&log);
-    let solo = task(&rt)?;
+    let stage = Stage::new(&log);
     let halved = |x: u8| {
         log.note(format_args!("response {x}"));
         x / 2
@@ -69,18 +68,17 @@ fn closures_over_answers_go_from_the_inner_to_the_outer(rt: HostRuntime) -> Resu
         log.note(format_args!("error {error}"));
         error.wrapping_add(100)
     };
-    let builder = ServiceBuilder::new().map_response(halved).map_err(raised);
-    script.replies(&[Reply::Echo(0), Reply::Fail(0)]);
-    let service = builder.service(Scripted::new(&script, 's'))?;
-    checks.same(&fire(&solo, service, 6), &Some(Ok(3)));
-    let service = builder.service(Scripted::new(&script, 't'))?;
-    checks.same(&fire(&solo, service, 6), &Some(Err(106)));
-    checks.told(
-        &log,
-        "s ready;s called 6;s(6) ready;response 6;s(6) dropped;s dropped;\
-         t ready;t called 6;t(6) ready;error 6;t(6) dropped;t dropped;",
-    );
-    checks.verdict()
+    stage.script.replies(&[Reply::Echo(0), Reply::Fail(0)]);
+    let service = ServiceBuilder::new()
+        .map_response(halved)
+        .map_err(raised)
+        .service(Scripted::new(&stage.script, 's'))?;
+    let events = "poll;call 6;future 0;drop 0;poll;call 6;future 1;drop 1";
+    driven(&rt, &stage, service, events)?.tells(
+        "ready;call 0;0 ok 3;drop 0;ready;call 1;1 error 106;drop 1;",
+        "s ready;s called 6;s(6) ready;response 6;s(6) dropped;\
+         s ready;s called 6;s(6) ready;error 6;s(6) dropped;s dropped;",
+    )
 }
 
 #[test]
@@ -138,45 +136,36 @@ fn closure_over_futures_is_given_each_once(rt: HostRuntime) -> Result<(), Fail> 
 
 #[test]
 fn predicates_keep_requests_outside(rt: HostRuntime) -> Result<(), Fail> {
-    let checks = Checks::new(rt.alloc());
     let log = Log::new(rt.alloc())?;
-    let script = Script::new(&log);
-    let solo = task(&rt)?;
+    let stage = Stage::new(&log);
     let small = |x: u8| {
         log.note(format_args!("checked {x}"));
         if x < 100 { Ok(x) } else { Err(x) }
     };
-    let builder = ServiceBuilder::new().filter(PredicateFn::new(small));
-    let service = builder.service(Scripted::new(&script, 's'))?;
-    checks.same(&fire(&solo, service, 6), &Some(Ok(6)));
-    let service = builder.service(Scripted::new(&script, 't'))?;
-    checks.holds(matches!(fire(&solo, service, 200), Some(Err(Error::Rejected(200)))));
-    checks.told(
-        &log,
-        "s ready;checked 6;s called 6;s(6) ready;s(6) dropped;s dropped;\
-         t ready;checked 200;t dropped;",
-    );
-    checks.verdict()
+    let service = ServiceBuilder::new()
+        .filter(PredicateFn::new(small))
+        .service(Scripted::new(&stage.script, 's'))?;
+    let events = "poll;call 6;future 0;drop 0;poll;call 200;future 1;drop 1";
+    driven(&rt, &stage, service, events)?.tells(
+        "ready;call 0;0 ok 6;drop 0;ready;call 1;1 error 200;drop 1;",
+        "s ready;checked 6;s called 6;s(6) ready;s(6) dropped;s ready;checked 200;s dropped;",
+    )
 }
 
 #[test]
 fn predicate_that_answers_later_is_waited_for(rt: HostRuntime) -> Result<(), Fail> {
-    let checks = Checks::new(rt.alloc());
     let log = Log::new(rt.alloc())?;
-    let script = Script::new(&log);
-    let solo = task(&rt)?;
+    let stage = Stage::new(&log);
     let small = |x: u8| After::new(&log, 'c', 1, if x < 100 { Ok(x) } else { Err(x) });
-    let builder = ServiceBuilder::new().filter_async(AsyncPredicateFn::new(small));
-    let service = builder.service(Scripted::new(&script, 's'))?;
-    checks.same(&fire(&solo, service, 6), &Some(Ok(6)));
-    checks.told(
-        &log,
+    let service = ServiceBuilder::new()
+        .filter_async(AsyncPredicateFn::new(small))
+        .service(Scripted::new(&stage.script, 's'))?;
+    let events = "poll;call 6;future 0;future 0;drop 0;poll;call 200;future 1;future 1;drop 1";
+    driven(&rt, &stage, service, events)?.tells(
+        "ready;call 0;0 pending;0 ok 6;drop 0;ready;call 1;1 pending;1 error 200;drop 1;",
         "s ready;s cloned s1;c pending;c ready;s called 6;c dropped;s dropped;s(6) ready;s(6) dropped;\
-         s1 dropped;",
-    );
-    let service = builder.service(Scripted::new(&script, 't'))?;
-    checks.holds(matches!(fire(&solo, service, 200), Some(Err(Error::Rejected(200)))));
-    checks.verdict()
+         s1 ready;s1 cloned s2;c pending;c ready;c dropped;s1 dropped;s2 dropped;",
+    )
 }
 
 #[test]

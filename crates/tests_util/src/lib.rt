@@ -28,6 +28,8 @@ mod oneshot;
 #[cfg(test)]
 mod optional;
 #[cfg(test)]
+mod parts;
+#[cfg(test)]
 mod ready;
 #[cfg(test)]
 mod shared;

@@ -1,6 +1,7 @@
 //! `MapFuture`: its closure sees each future, and no error of readiness. (The kit doesn't prove a closure whose
 //! argument borrows, so the inner futures here are those of `service_fn` and `Shared`.)
 
+use crate::parts::are_refused;
 use futures::future::{Ready, ready};
 use std::test::Fail;
 use tests_support::checks::Checks;
@@ -73,35 +74,25 @@ fn parts_are_the_ones_handed_in(rt: HostRuntime) -> Result<(), Fail> {
 
 #[test]
 fn layer_clones_its_closure_once(rt: HostRuntime) -> Result<(), Fail> {
+    let checks = Checks::new(rt.alloc());
     let log = Log::new(rt.alloc())?;
     drop(MapFutureLayer::new(Plain::new(&log, 'f')).layer(Plain::new(&log, 's'))?);
-    assert_eq!(rt;
-        log.told(rt.alloc())?.as_str(),
-        "f cloned f1;s dropped;f1 dropped;f dropped;"
-    );
-    Ok(())
+    checks.told(&log, "f cloned f1;s dropped;f1 dropped;f dropped;");
+    let refusing = MapFutureLayer::new(Plain::refusing(&log, 'r'));
+    checks.holds(refusing.layer(Plain::new(&log, 'q')).is_err());
+    checks.told(&log, "r refused;q dropped;");
+    checks.verdict()
 }
 
 #[test]
 fn refused_clones_are_handed_on(rt: HostRuntime) -> Result<(), Fail> {
-    let checks = Checks::new(rt.alloc());
     let log = Log::new(rt.alloc())?;
     let refusing = || Plain::refusing(&log, 'r');
-    checks.holds(MapFuture::new(refusing(), 0u8).clone().is_err());
-    checks.holds(
-        MapFuture::new(Plain::new(&log, 'p'), refusing())
-            .clone()
-            .is_err(),
-    );
-    checks.holds(MapFutureLayer::new(refusing()).clone().is_err());
-    checks.holds(
-        MapFutureLayer::new(refusing())
-            .layer(Plain::new(&log, 'q'))
-            .is_err(),
-    );
-    checks.told(
+    are_refused(
+        &rt,
         &log,
-        "r refused;r dropped;p cloned p1;r refused;p1 dropped;p dropped;r dropped;r refused;r dropped;r refused;q dropped;r dropped;",
-    );
-    checks.verdict()
+        MapFuture::new(refusing(), 0u8),
+        MapFuture::new(Plain::new(&log, 'p'), refusing()),
+        MapFutureLayer::new(refusing()),
+    )
 }

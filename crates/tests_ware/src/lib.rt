@@ -16,6 +16,4 @@ mod silent;
 #[cfg(test)]
 mod steer;
 #[cfg(test)]
-mod stories;
-#[cfg(test)]
 mod timeout;

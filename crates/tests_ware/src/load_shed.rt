@@ -1,6 +1,5 @@
 //! `tower::load_shed`: a call goes inside exactly after a poll that found the inner service ready.
 
-use crate::stories::is_told;
 use futures::task::Poll;
 use std::test::Fail;
 use tests_support::checks::Checks;
@@ -10,7 +9,6 @@ use tests_support::script::Mood::{Broken, Busy, Willing};
 use tests_support::script::{Reply, Script};
 use tests_support::service::{Maker, Place, Scripted};
 use tests_support::story::{Stage, driven};
-use tower_base::drive::Event;
 use tower_base::layer::Layer;
 use tower_base::service::Service;
 use tower_ware::load_shed::error::Overloaded;
@@ -24,27 +22,13 @@ fn calls_go_inside_exactly_after_ok(rt: HostRuntime) -> Result<(), Fail> {
         .script
         .moods(&[Willing, Busy, Busy, Willing, Willing, Busy]);
     let service = LoadShedLayer::new().layer(Scripted::new(&stage.script, 's'))?;
-    let events = vec![in rt.alloc();
-        Event::Call(9),
-        Event::Poll,
-        Event::Call(1),
-        Event::Future(0),
-        Event::Poll,
-        Event::Call(2),
-        Event::Future(1),
-        Event::Poll,
-        Event::Poll,
-        Event::Call(3),
-        Event::Future(2),
-        Event::Poll,
-        Event::Poll,
-        Event::Call(4),
-        Event::Future(3),
-    ]?;
-    let story = driven(&rt, &stage, service, events)?;
-    is_told(
+    driven(
         &rt,
-        &story,
+        &stage,
+        service,
+        "call 9;poll;call 1;future 0;poll;call 2;future 1;poll;poll;call 3;future 2;poll;poll;call 4;future 3",
+    )?
+    .tells(
         "skipped;ready;call 0;0 ok 1;ready;call 1;1 error service overloaded;\
          ready;ready;call 2;2 ok 3;ready;ready;call 3;3 error service overloaded;",
         "s ready;s called 1;s(1) ready;s pending;s pending;s ready;s called 3;s(3) ready;\
@@ -59,20 +43,13 @@ fn only_an_inner_error_is_not_ok(rt: HostRuntime) -> Result<(), Fail> {
     stage.script.moods(&[Broken(7), Busy, Willing]);
     stage.script.replies(&[Reply::Fail(1)]);
     let service = LoadShed::new(Scripted::new(&stage.script, 's'));
-    let events = vec![in rt.alloc();
-        Event::Poll,
-        Event::Poll,
-        Event::Poll,
-        Event::Call(1),
-        Event::Future(0),
-        Event::Future(0),
-    ]?;
-    let story = driven(&rt, &stage, service, events)?;
-    assert_eq!(rt;
-        story.entries.as_str(),
-        "error 7;ready;ready;call 0;0 pending;0 error 1;"
-    );
-    Ok(())
+    driven(
+        &rt,
+        &stage,
+        service,
+        "poll;poll;poll;call 1;future 0;future 0",
+    )?
+    .enters("error 7;ready;ready;call 0;0 pending;0 error 1;")
 }
 
 // Calls without a poll, and after one that failed.

@@ -1,15 +1,13 @@
 //! `tower::steer`: which services are asked and called, and in which order.
 ghost use Rattle.std.specs.Prelude.{◌<◌, length};
 
-use crate::stories::is_told;
 use std::fmt::Display;
 use std::test::Fail;
 use tests_support::checks::Checks;
 use tests_support::log::Log;
 use tests_support::script::Mood::{Broken, Busy, Willing};
 use tests_support::service::Scripted;
-use tests_support::story::{Act, Stage, Story, driven};
-use tower_base::drive::Event;
+use tests_support::story::{Stage, Story, driven};
 use tower_base::service::Service;
 use tower_ware::steer::{PickerFn, Steer};
 
@@ -19,7 +17,7 @@ fn run(
     stage: &Stage<'_>,
     count: u8,
     pick: usize,
-    events: Vec<Event<u8, Act>>,
+    events: &str,
 ) -> Result<Story, Fail> {
     let (alloc, log) = (rt.alloc(), stage.log);
     let mut services = vec![in alloc; Scripted::new(&stage.script, 'a')]?;
@@ -47,17 +45,7 @@ fn run(
 fn picked_service_is_called_and_asked_again(rt: HostRuntime) -> Result<(), Fail> {
     let log = Log::new(rt.alloc())?;
     let stage = Stage::new(&log);
-    let events = vec![in rt.alloc();
-        Event::Poll,
-        Event::Call(5),
-        Event::Future(0),
-        Event::Poll,
-        Event::Poll,
-    ]?;
-    let story = run(&rt, &stage, 2, 1, events)?;
-    is_told(
-        &rt,
-        &story,
+    run(&rt, &stage, 2, 1, "poll;call 5;future 0;poll;poll")?.tells(
         "ready;call 0;0 ok 5;ready;ready;",
         "a ready;b ready;picked for 5 of 2;b called 5;b(5) ready;b ready;\
          a dropped;b dropped;b(5) dropped;",
@@ -69,7 +57,7 @@ fn all_of_many_services_are_asked(rt: HostRuntime) -> Result<(), Fail> {
     let checks = Checks::new(rt.alloc());
     let log = Log::new(rt.alloc())?;
     let stage = Stage::new(&log);
-    let story = run(&rt, &stage, 65, 0, vec![in rt.alloc(); Event::Poll]?)?;
+    let story = run(&rt, &stage, 65, 0, "poll")?;
     checks.same(&story.entries.as_str(), &"ready;");
     checks.same(&story.told.as_str().split("c ready;").count(), &64);
     checks.verdict()
@@ -80,11 +68,7 @@ fn service_that_fails_stays_in_front(rt: HostRuntime) -> Result<(), Fail> {
     let log = Log::new(rt.alloc())?;
     let stage = Stage::new(&log);
     stage.made.moods(&[Broken(7), Willing]);
-    let events = vec![in rt.alloc(); Event::Poll, Event::Poll]?;
-    let story = run(&rt, &stage, 3, 0, events)?;
-    is_told(
-        &rt,
-        &story,
+    run(&rt, &stage, 3, 0, "poll;poll")?.tells(
         "error 7;ready;",
         "a ready;b error 7;b ready;c ready;a dropped;b dropped;c dropped;",
     )
@@ -95,11 +79,7 @@ fn one_service_that_waits_holds_all_up(rt: HostRuntime) -> Result<(), Fail> {
     let log = Log::new(rt.alloc())?;
     let stage = Stage::new(&log);
     stage.made.moods(&[Busy]);
-    let events = vec![in rt.alloc(); Event::Poll, Event::Call(0), Event::Poll]?;
-    let story = run(&rt, &stage, 3, 0, events)?;
-    is_told(
-        &rt,
-        &story,
+    run(&rt, &stage, 3, 0, "poll;call 0;poll")?.tells(
         "pending;skipped;pending;",
         "a ready;b pending;b pending;a dropped;b dropped;c dropped;",
     )
@@ -118,10 +98,10 @@ where
     requires clones { (x y : S) → S.is_clone x y → S.sound x → S.sound y }
 {
     let clone = service.clone()?;
-    let first = driven(rt, stage, clone, vec![in rt.alloc(); Event::Poll]?)?;
+    let first = driven(rt, stage, clone, "poll")?;
     stage.script.clones(0);
     let is_refused = service.clone().is_err();
-    let second = driven(rt, stage, service, vec![in rt.alloc(); Event::Poll]?)?;
+    let second = driven(rt, stage, service, "poll")?;
     Ok((first, second, is_refused))
 }
 

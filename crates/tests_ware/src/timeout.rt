@@ -1,6 +1,5 @@
 //! `tower::timeout`: deadlines, readings and what is passed on.
 
-use crate::stories::is_told;
 use std::test::Fail;
 use tests_support::checks::Checks;
 use tests_support::clock::Hand;
@@ -8,18 +7,12 @@ use tests_support::log::Log;
 use tests_support::script::Mood::{Broken, Busy, Willing};
 use tests_support::script::Reply;
 use tests_support::service::Scripted;
-use tests_support::story::{Act, Stage, Story, driven};
-use tower_base::drive::Event;
+use tests_support::story::{Stage, Story, driven};
 use tower_base::layer::Layer;
 use tower_ware::timeout::error::Elapsed;
 use tower_ware::timeout::{Error, Timeout, TimeoutLayer};
 
-fn run(
-    rt: &HostRuntime,
-    stage: &Stage<'_>,
-    duration: u64,
-    events: Vec<Event<u8, Act>>,
-) -> Result<Story, Fail> {
+fn run(rt: &HostRuntime, stage: &Stage<'_>, duration: u64, events: &str) -> Result<Story, Fail> {
     let inner = Scripted::new(&stage.script, 's');
     let service = Timeout::new(inner, duration, Hand::new(stage.log, &stage.moment));
     driven(rt, stage, service, events)
@@ -30,18 +23,7 @@ fn pending_before_the_deadline_and_an_error_at_it(rt: HostRuntime) -> Result<(),
     let log = Log::new(rt.alloc())?;
     let stage = Stage::new(&log);
     stage.script.replies(&[Reply::Never]);
-    let events = vec![in rt.alloc();
-        Event::Poll,
-        Event::Call(1),
-        Event::Turn(Act::At(9)),
-        Event::Future(0),
-        Event::Turn(Act::At(10)),
-        Event::Future(0),
-    ]?;
-    let story = run(&rt, &stage, 10, events)?;
-    is_told(
-        &rt,
-        &story,
+    run(&rt, &stage, 10, "poll;call 1;at 9;future 0;at 10;future 0")?.tells(
         "ready;call 0;at 9;0 pending;at 10;0 error request timed out;",
         "s ready;s called 1;clock read 0;clock shared;s(1) pending;clock read 9;\
          s(1) pending;clock read 10;s dropped;clock dropped;s(1) dropped;clock dropped;",
@@ -53,18 +35,13 @@ fn response_at_the_deadline_wins(rt: HostRuntime) -> Result<(), Fail> {
     let log = Log::new(rt.alloc())?;
     let stage = Stage::new(&log);
     stage.script.replies(&[Reply::Gated(Ok(7))]);
-    let events = vec![in rt.alloc();
-        Event::Poll,
-        Event::Call(1),
-        Event::Future(0),
-        Event::Turn(Act::At(10)),
-        Event::Turn(Act::Open(0)),
-        Event::Future(0),
-    ]?;
-    let story = run(&rt, &stage, 10, events)?;
-    is_told(
+    run(
         &rt,
-        &story,
+        &stage,
+        10,
+        "poll;call 1;future 0;at 10;open 0;future 0",
+    )?
+    .tells(
         "ready;call 0;0 pending;at 10;at 10;0 ok 7;",
         "s ready;s called 1;clock read 0;clock shared;s(1) pending;clock read 0;s(1) ready;\
          s dropped;clock dropped;s(1) dropped;clock dropped;",
@@ -76,18 +53,13 @@ fn deadline_past_the_last_moment_never_comes(rt: HostRuntime) -> Result<(), Fail
     let log = Log::new(rt.alloc())?;
     let stage = Stage::new(&log);
     stage.script.replies(&[Reply::Never]);
-    let events = vec![in rt.alloc();
-        Event::Turn(Act::At(u64::MAX)),
-        Event::Poll,
-        Event::Call(1),
-        Event::Future(0),
-    ]?;
-    let story = run(&rt, &stage, u64::MAX, events)?;
-    assert_eq!(rt;
-        story.entries.as_str(),
-        "at 18446744073709551615;ready;call 0;0 pending;"
-    );
-    Ok(())
+    run(
+        &rt,
+        &stage,
+        u64::MAX,
+        "at 18446744073709551615;poll;call 1;future 0",
+    )?
+    .enters("at 18446744073709551615;ready;call 0;0 pending;")
 }
 
 #[test]
@@ -96,17 +68,7 @@ fn readiness_and_errors_are_passed_on_without_a_reading(rt: HostRuntime) -> Resu
     let stage = Stage::new(&log);
     stage.script.moods(&[Busy, Broken(7), Willing]);
     stage.script.replies(&[Reply::Fail(0)]);
-    let events = vec![in rt.alloc();
-        Event::Poll,
-        Event::Poll,
-        Event::Poll,
-        Event::Call(1),
-        Event::Future(0),
-    ]?;
-    let story = run(&rt, &stage, 0, events)?;
-    is_told(
-        &rt,
-        &story,
+    run(&rt, &stage, 0, "poll;poll;poll;call 1;future 0")?.tells(
         "pending;error 7;ready;call 0;0 error 1;",
         "s pending;s error 7;s ready;s called 1;clock read 0;clock shared;s(1) ready;\
          s dropped;clock dropped;s(1) dropped;clock dropped;",
@@ -131,15 +93,12 @@ fn layer_and_clones_share_the_clock_and_read_nothing(rt: HostRuntime) -> Result<
     drop(service.into_inner());
     checks.told(&log, "clock dropped;s dropped;");
     stage.script.replies(&[Reply::Never]);
-    let events = vec![in alloc;
-        Event::Poll,
-        Event::Call(1),
-        Event::Turn(Act::At(4)),
-        Event::Future(0),
-        Event::Turn(Act::At(5)),
-        Event::Future(0),
-    ]?;
-    let story = driven(&rt, &stage, clone, events)?;
+    let story = driven(
+        &rt,
+        &stage,
+        clone,
+        "poll;call 1;at 4;future 0;at 5;future 0",
+    )?;
     checks.same(
         &story.entries.as_str(),
         &"ready;call 0;at 4;0 pending;at 5;0 error request timed out;",

@@ -14,21 +14,21 @@ use Rattle.tower_limit.proofs.Lines.{counted, held_last, waits_last, found, lack
 use Rattle.tower_limit.proofs.Waiters.{admitted, granted_has, grown, pushed, removed, outside_waits, waits_apart, waits_count, waits_present}
 
 -- so many were granted, and wait with those in the order
-pub record Kept (count : ℕ) (waiters : LinksView (Unit {0})) : Type 0 where
+pub record LineInvariant (count : ℕ) (waiters : LinksView (Unit {0})) : Type 0 where
   pub granted : List ℕ
   pub waits : Waits granted waiters
   pub size : length granted ≡ count
 
-pub kept_from : (count : ℕ) (waiters : LinksView (Unit {0})) → Apart waiters.order → IsPresent waiters → length (outside waiters) ≡ count → Kept count waiters
+pub kept_from : (count : ℕ) (waiters : LinksView (Unit {0})) → Apart waiters.order → IsPresent waiters → length (outside waiters) ≡ count → LineInvariant count waiters
 kept_from count waiters apart present size = record { granted = outside waiters; waits = outside_waits waiters apart present; size = size }
 
-pub kept_apart : (count : ℕ) (waiters : LinksView (Unit {0})) → Kept count waiters → Apart waiters.order
+pub kept_apart : (count : ℕ) (waiters : LinksView (Unit {0})) → LineInvariant count waiters → Apart waiters.order
 kept_apart count waiters k = waits_apart waiters k.granted k.waits
 
-pub kept_present : (count : ℕ) (waiters : LinksView (Unit {0})) → Kept count waiters → IsPresent waiters
+pub kept_present : (count : ℕ) (waiters : LinksView (Unit {0})) → LineInvariant count waiters → IsPresent waiters
 kept_present count waiters k = waits_present waiters k.granted k.waits
 
-pub kept_count : (count : ℕ) (waiters : LinksView (Unit {0})) → Kept count waiters → length (outside waiters) ≡ count
+pub kept_count : (count : ℕ) (waiters : LinksView (Unit {0})) → LineInvariant count waiters → length (outside waiters) ≡ count
 kept_count count waiters k = waits_count waiters k.granted k.waits ∙ k.size
 
 -- ---- the order
@@ -71,7 +71,7 @@ empty (x ∷ rest) a b full lt = absurd (omega (arith, full (omega arith)))
 
 -- ---- those who wait, before and after a change
 
-module _ (count : ℕ) (old new : LinksView (Unit {0})) (k : Kept count old) where
+module _ (count : ℕ) (old new : LinksView (Unit {0})) (k : LineInvariant count old) where
   abbrev whole : List ℕ
   whole = k.granted ++ old.order
 
@@ -90,35 +90,35 @@ module _ (count : ℕ) (old new : LinksView (Unit {0})) (k : Kept count old) whe
   front_has key h lacks =
       granted_has old k.granted k.waits key ∙ ap (λ b. is_some (get old.entries key) && not b) lacks ∙ ap (λ b. b && true) h
 
-  pub kept_grown : new.order ≡ old.order → ((key : ℕ) → get new.entries key ≡ get old.entries key) → Kept count new
+  pub kept_grown : new.order ≡ old.order → ((key : ℕ) → get new.entries key ≡ get old.entries key) → LineInvariant count new
   kept_grown order same = record { granted = k.granted; waits = grown k.granted old new k.waits order same; size = k.size }
 
-  pub kept_pushed : (key : ℕ) → get old.entries key ≡ None → Updates old.entries new.entries key (Some tt) → new.order ≡ old.order ++ key ∷ [] → Kept count new
+  pub kept_pushed : (key : ℕ) → get old.entries key ≡ None → Updates old.entries new.entries key (Some tt) → new.order ≡ old.order ++ key ∷ [] → LineInvariant count new
   kept_pushed key vacant updates order = record { granted = k.granted; waits = pushed k.granted old new k.waits key vacant updates order; size = k.size }
 
   module _ (key : ℕ) (updates : Updates old.entries new.entries key None) (order : new.order ≡ without old.order key) where
-    pub kept_left : has old.order key ≡ true → Kept count new
+    pub kept_left : has old.order key ≡ true → LineInvariant count new
     kept_left h = record {
       granted = without k.granted key;
       waits = removed k.granted old new k.waits key updates order;
       size = ap length (without_lacks k.granted key (front_lacks key h)) ∙ k.size;
     }
 
-    pub kept_taken : is_some (get old.entries key) ≡ true → has old.order key ≡ false → Kept (count - 1) new
+    pub kept_taken : is_some (get old.entries key) ≡ true → has old.order key ≡ false → LineInvariant (count - 1) new
     kept_taken h lacks = record {
       granted = without k.granted key;
       waits = removed k.granted old new k.waits key updates order;
       size = omega (arith, length_without k.granted key (apart_front k.granted old.order k.waits.apart) (front_has key h lacks), k.size);
     }
 
-    pub kept_gone : get old.entries key ≡ None → Kept count new
+    pub kept_gone : get old.entries key ≡ None → LineInvariant count new
     kept_gone none = record {
       granted = without k.granted key;
       waits = removed k.granted old new k.waits key updates order;
       size = ap length (without_lacks k.granted key (granted_has old k.granted k.waits key ∙ ap (λ x. is_some x && not (has old.order key)) none)) ∙ k.size;
     }
 
-  pub kept_admitted : (key : ℕ) (rest : List ℕ) → old.order ≡ key ∷ rest → new.order ≡ without old.order key → new.entries ≡ old.entries → Kept (count + 1) new
+  pub kept_admitted : (key : ℕ) (rest : List ℕ) → old.order ≡ key ∷ rest → new.order ≡ without old.order key → new.entries ≡ old.entries → LineInvariant (count + 1) new
   kept_admitted key rest is order entries = record {
     granted = k.granted ++ key ∷ [];
     waits = (admitted k.granted old new k.waits key rest is order entries).2;
@@ -128,7 +128,7 @@ module _ (count : ℕ) (old new : LinksView (Unit {0})) (k : Kept count old) whe
 -- ---- tickets
 
 -- the line stands for these
-abbrev kept_at : (max held count : ℕ) (waiters : LinksView (Unit {0})) (line : List Ticket) → StandsAt max held count waiters line → Kept count waiters
+abbrev kept_at : (max held count : ℕ) (waiters : LinksView (Unit {0})) (line : List Ticket) → StandsAt max held count waiters line → LineInvariant count waiters
 kept_at max held count waiters line s = record { granted = s.0; waits = s.1; size = s.2 }
 
 line_length : (max held count : ℕ) (waiters : LinksView (Unit {0})) (line : List Ticket) → StandsAt max held count waiters line
@@ -260,7 +260,7 @@ absent_lacks waiters key present none = elim (cases_has waiters.order key) [
   | inr lacks ↦ lacks
 ]
 
-pub count_some : (count : ℕ) (old : LinksView (Unit {0})) → Kept count old → (key : ℕ) → is_some (get old.entries key) ≡ true → has old.order key ≡ false → 1 ≤ count
+pub count_some : (count : ℕ) (old : LinksView (Unit {0})) → LineInvariant count old → (key : ℕ) → is_some (get old.entries key) ≡ true → has old.order key ≡ false → 1 ≤ count
 count_some count old k key h lacks = omega (arith, has_some k.granted key (front_has count old old k key h lacks), k.size)
 
 -- a new line

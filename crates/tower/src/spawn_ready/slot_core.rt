@@ -72,24 +72,24 @@ impl<S, E> Model for SlotCore<S, E> {
 }
 
 impl<S, E> SlotCore<S, E> {
-    ghost use Rattle.tower.specs.declared.spawn_ready.slot_core.Slot.{Slot as Kept};
+    ghost use Rattle.tower.specs.declared.spawn_ready.slot_core.Slot.{Slot as SlotCase};
 
     /// A slot without a task.
     pub fn new() -> SlotCore<S, E>
-        ensures { result ≡ Kept.Idle }
+        ensures { result ≡ SlotCase.Idle }
     {
         SlotCore { slot: Slot::Idle }
     }
 }
 
 impl<S: Drop, E: Drop> Core for SlotCore<S, E> {
-    ghost use Rattle.tower.specs.declared.spawn_ready.slot_core.Slot.{Slot as Kept};
+    ghost use Rattle.tower.specs.declared.spawn_ready.slot_core.Slot.{Slot as SlotCase};
 
     type Step = SlotStep<S, E>;
 
     type Reply = SlotReply<S, E>;
 
-    ghost opens = { λ slot. slot ≡ Kept.Idle };
+    ghost opens = { λ slot. slot ≡ SlotCase.Idle };
 
     ghost steps = { SlotSteps };
 

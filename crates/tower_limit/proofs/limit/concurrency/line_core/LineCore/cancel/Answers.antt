@@ -3,7 +3,7 @@ use Rattle.slab.specs.Slab.{get, slab_len}
 use Rattle.tower_base.specs.Order.{has}
 use Rattle.tower_limit.proofs.KeysLemmas.{length_without, without_lacks}
 use Rattle.tower_limit.proofs.Waiters.{admitted}
-use Rattle.tower_limit.proofs.LineMoves.{Kept, absent_lacks, admits_first, count_some, first_is, gives_up, has_some, kept_admitted, kept_apart, kept_count, kept_from, kept_gone, kept_left, kept_present, kept_taken, leaves_line, no_shorter, nobody_left, none_is, shorter, stands_gone}
+use Rattle.tower_limit.proofs.LineMoves.{LineInvariant, absent_lacks, admits_first, count_some, first_is, gives_up, has_some, kept_admitted, kept_apart, kept_count, kept_from, kept_gone, kept_left, kept_present, kept_taken, leaves_line, no_shorter, nobody_left, none_is, shorter, stands_gone}
 use Rattle.tower_limit.proofs.limit.concurrency.line_core.LineCore.cancel.Goals as goal
 
 pub invariant_of-self : goal.invariant_of-self
@@ -11,8 +11,8 @@ invariant_of-self c =
     let old = c.args.self.now in
     let new = c.remove.new.self in
     let none : get old.waiters.entries c.args.key ≡ None = sym c.in_default.ensures.value in
-    let k0 : Kept old.granted old.waiters = kept_from old.granted old.waiters old.apart old.present old.count in
-    let k : Kept old.granted new = kept_gone old.granted old.waiters new k0 c.args.key c.remove.ensures.entries c.remove.ensures.order none in
+    let k0 : LineInvariant old.granted old.waiters = kept_from old.granted old.waiters old.apart old.present old.count in
+    let k : LineInvariant old.granted new = kept_gone old.granted old.waiters new k0 c.args.key c.remove.ensures.entries c.remove.ensures.order none in
     let lacks : has old.waiters.order c.args.key ≡ false = absent_lacks old.waiters c.args.key old.present none in
     let size : length new.order ≡ length old.waiters.order = ap length (c.remove.ensures.order ∙ without_lacks old.waiters.order c.args.key lacks) in
     record {
@@ -40,8 +40,8 @@ invariant_of-self-then-len-waiting c =
     let old = c.args.self.now in
     let new = c.remove.new.self in
     let h : has old.waiters.order c.args.key ≡ true = shorter old.waiters.order c.args.key (omega (arith, c.if-len-waiting.true, c.len.ensures, c.len-waiting.ensures, ap length c.remove.ensures.order)) in
-    let k0 : Kept old.granted old.waiters = kept_from old.granted old.waiters old.apart old.present old.count in
-    let k : Kept old.granted new = kept_left old.granted old.waiters new k0 c.args.key c.remove.ensures.entries c.remove.ensures.order h in
+    let k0 : LineInvariant old.granted old.waiters = kept_from old.granted old.waiters old.apart old.present old.count in
+    let k : LineInvariant old.granted new = kept_left old.granted old.waiters new k0 c.args.key c.remove.ensures.entries c.remove.ensures.order h in
     record {
       fits = old.fits;
       full = λ more. old.full (has_some old.waiters.order c.args.key h);
@@ -66,7 +66,7 @@ returns-then-len-waiting c = record {
 pub overflow_sub-self : goal.overflow_sub-self
 overflow_sub-self c =
     let old = c.args.self.now in
-    let k0 : Kept old.granted old.waiters = kept_from old.granted old.waiters old.apart old.present old.count in
+    let k0 : LineInvariant old.granted old.waiters = kept_from old.granted old.waiters old.apart old.present old.count in
     let lacks : has old.waiters.order c.args.key ≡ false = no_shorter old.waiters.order c.args.key old.apart (omega (arith, c.if-len-waiting.false, c.len.ensures, c.len-waiting.ensures, ap length c.remove.ensures.order)) in
     count_some old.granted old.waiters k0 c.args.key (ap is_some (sym c.in-Some.ensures.value)) lacks
 
@@ -79,12 +79,12 @@ invariant_of-self-in-Some-front c =
     let lacks : has old.waiters.order c.args.key ≡ false = no_shorter old.waiters.order c.args.key old.apart (omega (arith, c.if-len-waiting.false, c.len.ensures, c.len-waiting.ensures, ap length c.remove.ensures.order)) in
     let there : is_some (get old.waiters.entries c.args.key) ≡ true = ap is_some (sym c.in-Some.ensures.value) in
     let size : length mid.order ≡ length old.waiters.order = ap length (c.remove.ensures.order ∙ without_lacks old.waiters.order c.args.key lacks) in
-    let k0 : Kept old.granted old.waiters = kept_from old.granted old.waiters old.apart old.present old.count in
+    let k0 : LineInvariant old.granted old.waiters = kept_from old.granted old.waiters old.apart old.present old.count in
     let some : 1 ≤ old.granted = count_some old.granted old.waiters k0 c.args.key there lacks in
-    let k1 : Kept (old.granted - 1) mid = kept_taken old.granted old.waiters mid k0 c.args.key c.remove.ensures.entries c.remove.ensures.order there lacks in
+    let k1 : LineInvariant (old.granted - 1) mid = kept_taken old.granted old.waiters mid k0 c.args.key c.remove.ensures.entries c.remove.ensures.order there lacks in
     let first = first_is mid.order key c.in-Some-front.ensures in
     let left : new.order ≡ first.0 = (admitted k1.granted mid new k1.waits key first.0 first.1 c.unlink.ensures.order c.unlink.ensures.entries).0 in
-    let k : Kept (old.granted - 1 + 1) new = kept_admitted (old.granted - 1) mid new k1 key first.0 first.1 c.unlink.ensures.order c.unlink.ensures.entries in
+    let k : LineInvariant (old.granted - 1 + 1) new = kept_admitted (old.granted - 1) mid new k1 key first.0 first.1 c.unlink.ensures.order c.unlink.ensures.entries in
     let all : old.held + old.granted ≡ old.max = old.full (omega (arith, ap length first.1, size)) in
     record {
       fits = omega (arith, old.fits, some);
@@ -102,9 +102,9 @@ invariant_of-self-in_default-front c =
     let lacks : has old.waiters.order c.args.key ≡ false = no_shorter old.waiters.order c.args.key old.apart (omega (arith, c.if-len-waiting.false, c.len.ensures, c.len-waiting.ensures, ap length c.remove.ensures.order)) in
     let there : is_some (get old.waiters.entries c.args.key) ≡ true = ap is_some (sym c.in-Some.ensures.value) in
     let size : length mid.order ≡ length old.waiters.order = ap length (c.remove.ensures.order ∙ without_lacks old.waiters.order c.args.key lacks) in
-    let k0 : Kept old.granted old.waiters = kept_from old.granted old.waiters old.apart old.present old.count in
+    let k0 : LineInvariant old.granted old.waiters = kept_from old.granted old.waiters old.apart old.present old.count in
     let some : 1 ≤ old.granted = count_some old.granted old.waiters k0 c.args.key there lacks in
-    let k : Kept (old.granted - 1) mid = kept_taken old.granted old.waiters mid k0 c.args.key c.remove.ensures.entries c.remove.ensures.order there lacks in
+    let k : LineInvariant (old.granted - 1) mid = kept_taken old.granted old.waiters mid k0 c.args.key c.remove.ensures.entries c.remove.ensures.order there lacks in
     let nobody : mid.order ≡ [] = none_is mid.order c.in_default-front.ensures in
     record {
       fits = omega (arith, old.fits, some);

@@ -1,6 +1,6 @@
 use Rattle.std.proofs.Common.{◌∷◌, [], refl, ap, arith, length, length-append}
 use Rattle.slab.specs.Slab.{get, slab_len}
-use Rattle.tower_limit.proofs.LineMoves.{Kept, free_permit, full_room, kept_apart, kept_count, kept_from, kept_grown, kept_present, kept_pushed, no_room, place, stands_grown}
+use Rattle.tower_limit.proofs.LineMoves.{LineInvariant, free_permit, full_room, kept_apart, kept_count, kept_from, kept_grown, kept_present, kept_pushed, no_room, place, stands_grown}
 use Rattle.tower_limit.proofs.limit.concurrency.line_core.LineCore.join.Goals as goal
 
 pub returns-then-self : goal.returns-then-self
@@ -24,9 +24,9 @@ returns-in_default c = record {
 pub invariant_of-self-2 : goal.invariant_of-self-2
 invariant_of-self-2 c =
     let old = c.args.self.now in
-    let first : Kept old.granted old.waiters = kept_from old.granted old.waiters old.apart old.present old.count in
-    let grown : Kept old.granted c.reserve.new.self = kept_grown old.granted old.waiters c.reserve.new.self first c.reserve.ensures.order (λ key. ap (λ e. get e key) c.reserve.ensures.rest_kept) in
-    let k : Kept old.granted c.push_back.new.self = kept_pushed old.granted c.reserve.new.self c.push_back.new.self grown c.push_back.result c.push_back.ensures.was_vacant c.push_back.ensures.entries c.push_back.ensures.order in
+    let first : LineInvariant old.granted old.waiters = kept_from old.granted old.waiters old.apart old.present old.count in
+    let grown : LineInvariant old.granted c.reserve.new.self = kept_grown old.granted old.waiters c.reserve.new.self first c.reserve.ensures.order (λ key. ap (λ e. get e key) c.reserve.ensures.rest_kept) in
+    let k : LineInvariant old.granted c.push_back.new.self = kept_pushed old.granted c.reserve.new.self c.push_back.new.self grown c.push_back.result c.push_back.ensures.was_vacant c.push_back.ensures.entries c.push_back.ensures.order in
     record {
       fits = old.fits;
       full = λ some. omega (arith, old.fits, c.if-self.false);

@@ -1,7 +1,7 @@
 use Rattle.std.proofs.Common.{◌≡◌, ◌<◌, ◌+◌, refl, ap, arith, length}
 use Rattle.slab.specs.Slab.{slab_len}
 use Rattle.tower_limit.proofs.Waiters.{admitted}
-use Rattle.tower_limit.proofs.LineMoves.{Kept, admits_first, first_is, kept_admitted, kept_apart, kept_count, kept_from, kept_present, none_held, positive, returned}
+use Rattle.tower_limit.proofs.LineMoves.{LineInvariant, admits_first, first_is, kept_admitted, kept_apart, kept_count, kept_from, kept_present, none_held, positive, returned}
 use Rattle.tower_limit.proofs.limit.concurrency.line_core.LineCore.release.Goals as goal
 
 pub returns-then-self-eq0 : goal.returns-then-self-eq0
@@ -19,9 +19,9 @@ invariant_of-self c =
     let new = c.unlink.new.self in
     let some : 0 < old.held = positive old.held c.if-self-eq0.false in
     let first = first_is old.waiters.order c.in-Some.first c.in-Some.ensures in
-    let k0 : Kept old.granted old.waiters = kept_from old.granted old.waiters old.apart old.present old.count in
+    let k0 : LineInvariant old.granted old.waiters = kept_from old.granted old.waiters old.apart old.present old.count in
     let left : new.order ≡ first.0 = (admitted k0.granted old.waiters new k0.waits c.in-Some.first first.0 first.1 c.unlink.ensures.order c.unlink.ensures.entries).0 in
-    let k : Kept (old.granted + 1) new = kept_admitted old.granted old.waiters new k0 c.in-Some.first first.0 first.1 c.unlink.ensures.order c.unlink.ensures.entries in
+    let k : LineInvariant (old.granted + 1) new = kept_admitted old.granted old.waiters new k0 c.in-Some.first first.0 first.1 c.unlink.ensures.order c.unlink.ensures.entries in
     let all : old.held + old.granted ≡ old.max = old.full (omega (arith, ap length first.1)) in
     record {
       fits = omega (arith, old.fits, some);
