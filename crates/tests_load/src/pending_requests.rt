@@ -69,6 +69,7 @@ where
 {
     let checks = Checks::new(rt.alloc());
     let solo = task(rt)?;
+    tell(log, &service);
     let mut first = called(&solo, &mut service, 1).ok_or("not ready")?;
     tell(log, &service);
     let mut second = called(&solo, &mut service, 2).ok_or("not ready")?;
@@ -109,7 +110,7 @@ fn an_answer_ends_a_request_and_an_error_does_not(rt: HostRuntime) -> Result<(),
         &rt,
         &log,
         noted(rt, &script, &shares)?,
-        "s ready;latch shared;latch stepped Take;s called 1;latch stepped Load;Count(1);\
+        "latch stepped Load;Count(0);s ready;latch shared;latch stepped Take;s called 1;latch stepped Load;Count(1);\
          s ready;latch shared;latch stepped Take;s called 2;latch stepped Load;Count(2);\
          s(1) ready;latch stepped Give;latch dropped;Ready(Ok(1));latch stepped Load;Count(1);\
          s(2) ready;Ready(Err(2));latch stepped Load;Count(1);\
@@ -127,7 +128,7 @@ fn requests_end_with_their_responses(rt: HostRuntime) -> Result<(), Fail> {
         &rt,
         &log,
         PendingRequests::new(rt, rt.alloc(), inner, CompleteOnResponse::default())?,
-        "s ready;s called 1;Count(1);s ready;s called 2;Count(2);s(1) ready;Ready(Ok(1));Count(1);\
+        "Count(0);s ready;s called 1;Count(1);s ready;s called 2;Count(2);s(1) ready;Ready(Ok(1));Count(1);\
          s(2) ready;Ready(Ok(2));Count(0);s(2) dropped;Count(0);s(1) dropped;s dropped;",
     )
 }
@@ -140,7 +141,7 @@ fn request_whose_share_is_refused_is_not_counted(rt: HostRuntime) -> Result<(), 
         &rt,
         &log,
         noted(rt, &script, &shares)?,
-        "s ready;latch refused;s called 1;latch stepped Load;Count(0);\
+        "latch stepped Load;Count(0);s ready;latch refused;s called 1;latch stepped Load;Count(0);\
          s ready;latch refused;s called 2;latch stepped Load;Count(0);\
          s(1) ready;Ready(Ok(1));latch stepped Load;Count(0);s(2) ready;Ready(Ok(2));latch stepped Load;Count(0);\
          s(2) dropped;latch stepped Load;Count(0);s(1) dropped;s dropped;latch dropped;",
@@ -237,15 +238,17 @@ fn completion_is_given_any_handle(rt: HostRuntime) -> Result<(), Fail> {
     checks.verdict()
 }
 
-// The load while one call is in flight.
-fn load_of_one<S>(rt: &HostRuntime, mut service: S) -> Result<S::Metric, Fail>
+// The loads before a call and while it is in flight.
+fn loads<S>(rt: &HostRuntime, mut service: S) -> Result<(S::Metric, S::Metric), Fail>
 where
     S: Service<u8> + Load,
+    S::Metric: Drop,
     requires { S.sound service }
 {
     let solo = task(rt)?;
+    let before = service.load();
     let _response = called(&solo, &mut service, 1).ok_or("not ready")?;
-    Ok(service.load())
+    Ok((before, service.load()))
 }
 
 #[test]
@@ -255,7 +258,8 @@ fn counts_are_ordered_as_their_numbers(rt: HostRuntime) -> Result<(), Fail> {
     let script = Script::new(&log);
     let inner = Scripted::new(&script, 's');
     let service = PendingRequests::new(rt, rt.alloc(), inner, CompleteOnResponse)?;
-    let (none, one) = (Count::default(), load_of_one(&rt, service)?);
+    let (none, one) = loads(&rt, service)?;
+    checks.same(&none, &Count::default());
     checks.holds(none < one && none <= one && none <= none && one > none);
     checks.holds(none == none && none != one);
     checks.holds(none.max(one) == one && none.min(one) == none);

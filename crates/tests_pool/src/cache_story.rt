@@ -53,8 +53,7 @@ fn placed(text: &str) -> Option<(u8, char)> {
 fn act_of(text: &str) -> Option<Act> {
     let (name, rest) = text.split_once(' ').unwrap_or((text, ""));
     match name {
-        "a" => Some(Act::Mood('a', mood_of(rest)?)),
-        "b" => Some(Act::Mood('b', mood_of(rest)?)),
+        "a" | "b" | "c" => Some(Act::Mood(name.chars().next()?, mood_of(rest)?)),
         "poll" => Some(Act::Poll),
         "look" => Some(Act::Look),
         "push" => {
