@@ -12,7 +12,7 @@ use std::sync::Wait;
 use std::test::Fail;
 use tests_support::log::Log;
 use tests_support::run::{called, polled, stepped, task};
-use tests_support::script::{Mood, Reply, Script};
+use tests_support::script::{Mood, Reply, Script, mood_of};
 use tests_support::slots::{put, take};
 use tower_base::latch::held::{Pollable, Viewed};
 use tower_base::latch::{Guarded, Latch};
@@ -60,9 +60,10 @@ fn act_of(text: &str) -> Option<Act> {
         "work" => return Some(Act::Work),
         "fire" => return Some(Act::Fire),
         "once" => return Some(Act::Once),
-        "busy" => return Some(Act::Mood(Mood::Busy)),
-        "willing" => return Some(Act::Mood(Mood::Willing)),
         _ => {}
+    }
+    if let Some(mood) = mood_of(text) {
+        return Some(Act::Mood(mood));
     }
     let (name, rest) = text.split_once(' ')?;
     match name {
@@ -75,7 +76,6 @@ fn act_of(text: &str) -> Option<Act> {
         "leave" => Some(Act::Leave(rest.parse().ok()?)),
         "ask" => Some(Act::Ask(rest.parse().ok()?)),
         "forget" => Some(Act::Forget(rest.parse().ok()?)),
-        "broken" => Some(Act::Mood(Mood::Broken(rest.parse().ok()?))),
         "echo" => Some(Act::Reply(Reply::Echo(rest.parse().ok()?))),
         "fail" => Some(Act::Reply(Reply::Fail(rest.parse().ok()?))),
         "shares" => Some(Act::Shares(rest.parse().ok()?)),

@@ -98,6 +98,18 @@ fn a_place_outlives_the_worker(rt: HostRuntime) -> Result<(), Fail> {
 }
 
 #[test]
+fn a_place_that_outlives_a_failure_answers_it(rt: HostRuntime) -> Result<(), Fail> {
+    tells(
+        rt,
+        2,
+        "split 0;poll 0;call 1 2;broken 66;work;fire;call 0 1;ask 1;ask 0",
+        "Join;Reserve;b0 ready;Reserve;Send;Take;s error 66;Fail 0;Take;worker pending;WorkerGone;\
+         s dropped;Send;r1 buffered service failed: 66;Outcome 0;r0 buffered service failed: 66;\
+         Part;Part;",
+    )
+}
+
+#[test]
 fn a_response_that_is_dropped_frees_its_place(rt: HostRuntime) -> Result<(), Fail> {
     tells(
         rt,

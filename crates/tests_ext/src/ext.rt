@@ -1,9 +1,7 @@
 //! `ServiceExt`: its methods that wrap. Its own service has a future whose type a closure's parameter can name.
-ghost use Rattle.std.specs.Prelude.{IfSome};
 
 use futures::future::{Ready, ready};
 use futures::task::{Context, Poll, Solo};
-use std::fmt::Write;
 use std::test::Fail;
 use tests_support::checks::Checks;
 use tests_support::future::After;
@@ -11,38 +9,9 @@ use tests_support::log::Log;
 use tests_support::run::{fire, task};
 use tests_support::script::{Reply, Script};
 use tests_support::service::Scripted;
-use tests_support::stream::{Outbox, Requests};
+use tests_support::stream::{Outbox, Requests, tell_next};
 use tower::filter::{AsyncPredicateFn, Error, PredicateFn};
-use tower::service::Flow;
-use tower::util::call_all;
 use tower::{Service, ServiceExt};
-
-// One poll of what answers are left, and its answer in a word.
-fn asked<Q: Flow<Item = Result<u8, call_all::Error<u8>>>>(
-    solo: &Solo,
-    answers: &mut Option<Q>,
-    text: &mut String,
-)
-    requires { IfSome answers.old Q.can_poll }
-    ensures { IfSome answers.new Q.can_poll }
-{
-    let Some(mut left) = answers.take() else {
-        return;
-    };
-    let mut cx = solo.begin();
-    let answer = left.flow(&mut cx);
-    cx.cancel();
-    let _ = match answer {
-        Poll::Ready(None) => {
-            let _ = write!(text, "ended;");
-            return;
-        }
-        Poll::Ready(Some(Ok(number))) => write!(text, "{number};"),
-        Poll::Ready(Some(Err(error))) => write!(text, "error {error};"),
-        Poll::Pending => write!(text, "pending;"),
-    };
-    *answers = Some(left);
-}
 
 #[test]
 fn call_all_answers_each_request(rt: HostRuntime) -> Result<(), Fail> {
@@ -53,9 +22,9 @@ fn call_all_answers_each_request(rt: HostRuntime) -> Result<(), Fail> {
     let requests = Requests::new(&log, &outbox);
     let mut text = String::new(rt.alloc());
     let mut answers = Some(Scripted::new(&script, 's').call_all(rt.alloc(), requests));
-    asked(&solo, &mut answers, &mut text);
-    asked(&solo, &mut answers, &mut text);
-    asked(&solo, &mut answers, &mut text);
+    tell_next(&solo, &mut answers, &mut text);
+    tell_next(&solo, &mut answers, &mut text);
+    tell_next(&solo, &mut answers, &mut text);
     assert_eq!(rt; text.as_str(), "0;1;ended;");
     Ok(())
 }

@@ -15,7 +15,7 @@ use tower_retry::hedge::select::{Error, Select};
 // The first follows the stage's script, and the second that of what is made.
 fn run(rt: &HostRuntime, stage: &Stage<'_>, events: &str) -> Result<Story, Fail> {
     let first = Scripted::new(&stage.script, 'a');
-    let second = Scripted::new(&stage.made, 'b');
+    let second = Scripted::new(&stage.others, 'b');
     driven(
         rt,
         stage,
@@ -30,7 +30,7 @@ fn first_answer_counts(rt: HostRuntime) -> Result<(), Fail> {
     let log = Log::new(rt.alloc())?;
     let stage = Stage::new(&log);
     stage.script.replies(&[Reply::Give(1, Ok(1))]);
-    stage.made.replies(&[Reply::Give(5, Ok(2))]);
+    stage.others.replies(&[Reply::Give(5, Ok(2))]);
     let story = run(&rt, &stage, "poll;call 7;future 0;future 0")?;
     story.tells(
         "ready;call 0;0 pending;0 ok 1;",
@@ -44,7 +44,7 @@ fn second_answer_counts_while_the_first_waits(rt: HostRuntime) -> Result<(), Fai
     let log = Log::new(rt.alloc())?;
     let stage = Stage::new(&log);
     stage.script.replies(&[Reply::Never]);
-    stage.made.replies(&[Reply::Give(1, Ok(2))]);
+    stage.others.replies(&[Reply::Give(1, Ok(2))]);
     let story = run(&rt, &stage, "poll;call 7;future 0;future 0")?;
     story.enters("ready;call 0;0 pending;0 ok 2;")
 }
@@ -57,7 +57,7 @@ fn error_of_either_call_is_its_sides(rt: HostRuntime) -> Result<(), Fail> {
     stage
         .script
         .replies(&[Reply::Never, Reply::Give(0, Err(1))]);
-    stage.made.replies(&[Reply::Give(0, Err(2))]);
+    stage.others.replies(&[Reply::Give(0, Err(2))]);
     run(&rt, &stage, "poll;call 7;future 0;poll;call 8;future 1")?.enters(
         "ready;call 0;0 error 2;ready;call 1;1 error 1;",
     )
@@ -84,12 +84,12 @@ fn both_are_polled_and_the_firsts_error_goes_before(rt: HostRuntime) -> Result<(
     let stage = Stage::new(&log);
     let solo = task(&rt)?;
     let first = Scripted::new(&stage.script, 'a');
-    let second = Scripted::new(&stage.made, 'b');
+    let second = Scripted::new(&stage.others, 'b');
     let mut select = Select::new(Twice::new(&log), first, second);
     stage
         .script
         .moods(&[Broken(1), Busy, Willing, Busy, Willing]);
-    stage.made.moods(&[Broken(2), Broken(3), Busy, Willing]);
+    stage.others.moods(&[Broken(2), Broken(3), Busy, Willing]);
     for expected in [
         Poll::Ready(Err(Error::First(1))),
         Poll::Ready(Err(Error::Second(3))),

@@ -48,7 +48,7 @@ fn noted<'a, R: Wait + AllocGlobal + Copy>(
     }
 }
 
-fn answers<S: Service<u8>>(solo: &Solo, service: &mut S) -> bool
+fn says_ready<S: Service<u8>>(solo: &Solo, service: &mut S) -> bool
     requires { (service : S) → S.sound service }
 {
     run::is_ready(solo, service)
@@ -58,7 +58,7 @@ fn is_ready<L: Latch<LineCore>>(
     solo: &Solo,
     service: &mut ConcurrencyLimit<Scripted<'_>, L>,
 ) -> bool {
-    answers(solo, service)
+    says_ready(solo, service)
 }
 
 // The run of a service with a limit.
@@ -120,6 +120,23 @@ fn kept_response_keeps_its_permit(rt: HostRuntime) -> Result<(), Fail> {
     )
 }
 
+#[test]
+fn reserved_capacity_comes_back_with_the_response(rt: HostRuntime) -> Result<(), Fail> {
+    let (log, shares) = (Log::new(rt.alloc())?, Cell::new(255));
+    handled(
+        &rt,
+        &log,
+        noted(rt, &log, &shares, 1)?,
+        "split 0;poll 0;poll 1;call 0 7;poll 1;ask 0;forget 0;poll 1",
+        "s cloned s1;latch shared;latch shared;latch waited Join;s ready;0 ready;\
+         latch shared;latch waited Join;latch dropped;1 pending;s ready;s called 7;\
+         latch shared;latch waited Look(0);latch dropped;1 pending;s(7) ready;r0 ok 7;\
+         s(7) dropped;latch stepped Release;latch dropped;\
+         latch shared;latch waited Look(0);s1 ready;1 ready;\
+         s dropped;latch dropped;s1 dropped;latch dropped;latch stepped Release;latch dropped;",
+    )
+}
+
 fn permit_is_held<L: Latch<LineCore>>(
     rt: &HostRuntime,
     log: &Log,
@@ -166,11 +183,11 @@ fn permit_goes_with_the_call(rt: HostRuntime) -> Result<(), Fail> {
         &rt,
         &stage,
         service,
-        "poll;call 1;future 0;poll;call 2;poll;future 0;future 1;poll;drop 0;poll;call 3;poll;drop 2;poll;drop 1",
+        "poll;call 1;future 0;poll;call 2;poll;future 0;future 1;poll;drop 1;poll;call 3;poll;drop 2;poll;drop 0",
     )?
     .enters(
-        "ready;call 0;0 pending;ready;call 1;pending;0 ok 1;1 error 2;pending;drop 0;ready;call 2;\
-         pending;drop 2;ready;drop 1;",
+        "ready;call 0;0 pending;ready;call 1;pending;0 ok 1;1 error 2;pending;drop 1;ready;call 2;\
+         pending;drop 2;ready;drop 0;",
     )
 }
 
@@ -376,7 +393,7 @@ fn cancelled_wait_moves_the_last_up(rt: HostRuntime) -> Result<(), Fail> {
     )
 }
 
-// The third call is woken by the first response's drop, and not by its answer.
+// The third call is made once the first response is dropped, not once it has answered.
 #[test]
 fn two_calls_in_flight(rt: HostRuntime) -> Result<(), Fail> {
     let log = Log::new(rt.alloc())?;

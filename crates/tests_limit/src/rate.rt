@@ -69,7 +69,12 @@ fn call_past_the_end_opens_a_whole_window(rt: HostRuntime) -> Result<(), Fail> {
         &[],
         "poll;call 1;at 100;poll;call 2;poll;call 3;poll;call 4;poll",
     )?
-    .enters("ready;call 0;at 100;ready;call 1;ready;call 2;ready;call 3;pending;")
+    .tells(
+        "ready;call 0;at 100;ready;call 1;ready;call 2;ready;call 3;pending;",
+        "clock read 0;s ready;clock read 0;s called 1;s ready;clock read 100;s called 2;\
+         s ready;clock read 100;s called 3;s ready;clock read 100;s called 4;clock read 100;\
+         s dropped;clock dropped;s(1) dropped;s(2) dropped;s(3) dropped;s(4) dropped;",
+    )
 }
 
 #[test]

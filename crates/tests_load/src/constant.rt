@@ -38,7 +38,8 @@ fn load_stays_and_calls_go_inside(rt: HostRuntime) -> Result<(), Fail> {
         "pending;error 7;ready;call 0;0 pending;0 ok 3;ready;call 1;1 error 4;",
         "s pending;s error 7;s ready;s called 3;s(3) pending;s(3) ready;s ready;s called 4;s(4) ready;\
          s dropped;s(3) dropped;s(4) dropped;",
-    )
+    )?;
+    checks.verdict()
 }
 
 #[test]

@@ -211,6 +211,22 @@ fn first_error_reaches_all_that_come_later(rt: HostRuntime) -> Result<(), Fail> 
     checks.verdict()
 }
 
+// It outlives the failure and the worker.
+#[test]
+fn send_into_a_reserved_place_answers_the_failure(rt: HostRuntime) -> Result<(), Fail> {
+    let checks = Checks::new(rt.alloc());
+    let mut mail = mail(rt, 2);
+    checks.holds(matches!(mail.step(Step::Reserve), Reply::Place));
+    checks.holds(matches!(mail.step(Step::Send(1)), Reply::Sent(0)));
+    checks.holds(matches!(mail.step(Step::Reserve), Reply::Place));
+    checks.holds(matches!(mail.step(Step::Take), Reply::Message(0, 1)));
+    checks.holds(matches!(mail.step(Step::Fail(0, BOOM)), Reply::Done));
+    checks.holds(matches!(mail.step(Step::WorkerGone), Reply::Done));
+    checks.holds(matches!(mail.step(Step::Send(2)), Reply::Failed(BOOM)));
+    checks.holds(matches!(mail.step(Step::Send(2)), Reply::Unknown));
+    checks.verdict()
+}
+
 #[test]
 fn messages_are_lost_with_the_worker(rt: HostRuntime) -> Result<(), Fail> {
     let checks = Checks::new(rt.alloc());

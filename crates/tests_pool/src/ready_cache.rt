@@ -3,6 +3,7 @@
 use crate::cache_story::{story, tells};
 use std::test::Fail;
 use tests_support::checks::Checks;
+use tower_pool::ready_cache::error::{Error, Failed};
 
 #[test]
 fn newer_endpoint_of_a_key_cancels_the_older(rt: HostRuntime) -> Result<(), Fail> {
@@ -163,6 +164,15 @@ fn ready_services_are_replaced(rt: HostRuntime) -> Result<(), Fail> {
         "a ready;b ready;poll ok;b dropped;a dropped;none to replace;a dropped;none to replace;a dropped;\
          2 there;none there;c ready;check true;c dropped;c dropped;",
     )
+}
+
+#[test]
+fn errors_have_texts(rt: HostRuntime) -> Result<(), Fail> {
+    let (polled, memory): (Error<u8, u8>, Error<u8, u8>) = (Error::Failed(1, 7), Error::Memory);
+    let checked = Failed(1u8, 7u8);
+    let text = format!(in rt.alloc(); "{polled}, {memory}, {checked}")?;
+    assert_eq!(rt; text.as_str(), "7, out of memory, 7");
+    Ok(())
 }
 
 // Those that a later push cancelled are dropped unasked.

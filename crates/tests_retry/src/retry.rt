@@ -119,12 +119,13 @@ fn without_a_copy_there_is_one_attempt(rt: HostRuntime) -> Result<(), Fail> {
 fn a_policy_may_change_request_and_result(rt: HostRuntime) -> Result<(), Fail> {
     let log = Log::new(rt.alloc())?;
     let stage = Stage::new(&log);
-    let words = Words::new(&[Word::Change(9, 0), Word::Answer(Err(4))]);
+    let words = Words::new(&[Word::Change(9, 0), Word::Change(9, 0), Word::Answer(Err(4))]);
     let story = run(&rt, &stage, &words, "poll;call 7;future 0")?;
     story.tells(
         "ready;call 0;0 error 4;",
         "s ready;r copied 7;s called 7;r cloned r1;s cloned s2;\
          s(7) ready;r1 asked Ok(7);s(7) dropped;w ready;w dropped;s2 ready;r1 copied 9;s2 called 9;\
+         s2(9) ready;r1 asked Ok(9);s2(9) dropped;w ready;w dropped;s2 ready;r1 copied 9;s2 called 9;\
          s2(9) ready;r1 asked Ok(9);r dropped;s dropped;r1 dropped;s2 dropped;s2(9) dropped;",
     )
 }

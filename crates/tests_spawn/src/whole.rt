@@ -1,6 +1,6 @@
 //! `tower::spawn_ready` at concrete types: runs, layer, executors. Its own services are pending by turns for ever, or have no lifetime.
 
-use crate::parts::{AtOnce, Spawner, Tasks};
+use crate::parts::{AtOnce, Spawner, Tasks, Told};
 use futures::future::{Ready, ready};
 use futures::task::{Context, Poll, Solo};
 use std::alloc::{AllocError, AllocGlobal};
@@ -15,7 +15,9 @@ use tests_support::script::Mood::{Broken, Busy, Willing};
 use tests_support::script::Script;
 use tests_support::service::Scripted;
 use tests_support::story::{Stage, Story, driven};
-use tower::spawn_ready::{Error, SpawnReady, SpawnReadyLayer};
+use tower::spawn_ready::{Error, SlotCore, SlotStep, SpawnReady};
+use tower_base::latch::held::Viewed;
+use tower_base::latch::{Guarded, Latch};
 use tower_base::layer::Layer;
 use tower_base::service::{Executor, Service};
 use tower_util::util::service_fn;
@@ -217,10 +219,48 @@ impl<T> Executor<T> for Never {
     }
 }
 
+// Aborts by a share of the slot each task that it is handed.
+#[derive(Drop)]
+struct Aborting<'a, L: Latch<SlotCore<Viewed<Plain, u8>, u8>>> {
+    slot: &'a L,
+}
+
+impl<'a, T: Drop, L: Latch<SlotCore<Viewed<Plain, u8>, u8>>> Executor<T> for Aborting<'a, L> {
+    fn spawn(&self, task: T) -> Result<(), T> {
+        self.slot.step(SlotStep::Abort);
+        drop(task);
+        Ok(())
+    }
+}
+
+fn aborted<L: Latch<SlotCore<Viewed<Plain, u8>, u8>>>(
+    rt: &HostRuntime,
+    slot: L,
+) -> Result<u8, Fail> {
+    let solo = task(rt)?;
+    let other = slot.share()?;
+    let executor = Aborting { slot: &other };
+    let handle = SpawnReady::with_latch(Plain { is_ready: false }, executor, slot);
+    Ok(two_polls(&solo, handle))
+}
+
+#[test]
+fn look_that_fits_no_slot_is_pending(rt: HostRuntime) -> Result<(), Fail> {
+    let checks = Checks::new(rt.alloc());
+    let (log, shares) = (Log::new(rt.alloc())?, Cell::new(255));
+    let guarded = Guarded::new(rt, rt.alloc(), SlotCore::new())?;
+    checks.same(&aborted(&rt, Told::new(&log, &shares, guarded))?, &2);
+    checks.told(
+        &log,
+        "shared;shared;start;abort;task gone;share dropped;look;look;abort;share dropped;share dropped;",
+    );
+    checks.verdict()
+}
+
 #[test]
 fn layer_gives_each_service_an_executor(rt: HostRuntime) -> Result<(), Fail> {
     let checks = Checks::new(rt.alloc());
-    let layer: SpawnReadyLayer<_, _, u8> = SpawnReadyLayer::new(rt, rt.alloc(), Never);
+    let layer = SpawnReady::<Plain, u8, u8, Never, _>::layer(rt, rt.alloc(), Never);
     let solo = task(&rt)?;
     let mut first = layer.layer(Plain { is_ready: true })?;
     let answer = polled::<u8, _>(&solo, &mut first);

@@ -107,8 +107,10 @@ where
     }
 
     fn ask(&mut self, solo: &Solo, place: usize) {
-        let Some(Response::Open(response)) = take(&mut self.responses, place) else {
-            return;
+        let response = match take(&mut self.responses, place) {
+            Some(Response::Open(response)) => response,
+            Some(done) => return put(&mut self.responses, place, done),
+            None => return,
         };
         let mut future = response.into_inner();
         let answer = stepped(solo, &mut future);

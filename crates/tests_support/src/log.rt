@@ -48,7 +48,7 @@ impl Log {
     }
 }
 
-/// A part as the list has it: `a`, its third copy among all parts `a3`, the future that it gives for 6 `a(6)`.
+/// A part as the list has it: `a`, a copy of it that is the third of all parts' copies `a3`, the future that it gives for 6 `a(6)`.
 #[derive(Clone, Copy, Debug, PartialEq, Eq)]
 pub struct Name {
     letter: char,

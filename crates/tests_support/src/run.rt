@@ -2,7 +2,7 @@
 ghost use Rattle.std.specs.Prelude.{IfSome};
 ghost use Rattle.futures.specs.Poll.{OnPending};
 
-use futures::task::{Context, Doorbell, Poll, Solo};
+use futures::task::{Doorbell, Poll, Solo};
 use std::alloc::{AllocError, AllocGlobal, Global};
 use std::fmt::{Display, Write};
 use std::io;
@@ -64,22 +64,6 @@ pub fn called<Request: Drop, S: Service<Request>>(
     ensures sound { S.sound service.new }
 {
     match readiness(solo, service) {
-        Poll::Ready(Ok(())) => Some(service.call(request)),
-        _ => None,
-    }
-}
-
-/// As `called`, within a poll that goes on.
-pub fn ask<Request: Drop, S: Service<Request>>(
-    cx: &mut Context<'_>,
-    service: &mut S,
-    request: Request,
-) -> Option<S::Future>
-    requires { S.sound service.old }
-    ensures can_poll { IfSome result S.Future.can_poll }
-    ensures sound { S.sound service.new }
-{
-    match service.poll_ready(cx) {
         Poll::Ready(Ok(())) => Some(service.call(request)),
         _ => None,
     }

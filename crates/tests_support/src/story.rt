@@ -25,12 +25,12 @@ enum Act {
     Open(usize),
 }
 
-/// What the parts of a test look at: a script for its services, one for what a maker makes, and a moment.
+/// What the parts of a test look at: a script for its services, one for others (a second side, what a maker makes), and a moment.
 #[derive(Drop)]
 pub struct Stage<'a> {
     pub log: &'a Log,
     pub script: Script<'a>,
-    pub made: Script<'a>,
+    pub others: Script<'a>,
     pub moment: Cell<u64>,
 }
 
@@ -40,12 +40,12 @@ impl<'a> Stage<'a> {
         Stage {
             log,
             script: Script::new(log),
-            made: Script::new(log),
+            others: Script::new(log),
             moment: Cell::new(0),
         }
     }
 
-    // Does it, and gives its word for the list of entries.
+    // Does it, and gives what the list of entries tells of each act: `at` and the moment.
     fn act(&self, act: Act) -> u64 {
         match act {
             Act::At(moment) => self.moment.set(moment),
@@ -110,7 +110,7 @@ fn events_of(alloc: Global, text: &str) -> Result<Vec<Event<u8, Act>>, Fail> {
 
 /// The run of these events, one after another with a semicolon between: `poll`, `call 7`, `future 0`, `drop 0`, and what
 /// a test changes: `at 10` the clock's moment, `open 0` the gate of a call, `clones 1` how many there are yet, `broken 9` each
-/// poll of readiness from then on.
+/// poll of readiness from then on. Each of these is told as `at` and the moment.
 pub fn driven<R, S>(rt: &R, stage: &Stage<'_>, service: S, events: &str) -> Result<Story, Fail>
 where
     R: RandomSource + AllocGlobal,

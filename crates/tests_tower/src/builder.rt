@@ -61,8 +61,12 @@ fn closures_over_answers_go_from_the_inner_to_the_outer(rt: HostRuntime) -> Resu
     let log = Log::new(rt.alloc())?;
     let stage = Stage::new(&log);
     let halved = |x: u8| {
-        log.note(format_args!("response {x}"));
+        log.note(format_args!("outer {x}"));
         x / 2
+    };
+    let grown = |x: u8| {
+        log.note(format_args!("inner {x}"));
+        x.saturating_add(2)
     };
     let raised = |error: u8| {
         log.note(format_args!("error {error}"));
@@ -71,12 +75,13 @@ fn closures_over_answers_go_from_the_inner_to_the_outer(rt: HostRuntime) -> Resu
     stage.script.replies(&[Reply::Echo(0), Reply::Fail(0)]);
     let service = ServiceBuilder::new()
         .map_response(halved)
+        .map_response(grown)
         .map_err(raised)
         .service(Scripted::new(&stage.script, 's'))?;
     let events = "poll;call 6;future 0;drop 0;poll;call 6;future 1;drop 1";
     driven(&rt, &stage, service, events)?.tells(
-        "ready;call 0;0 ok 3;drop 0;ready;call 1;1 error 106;drop 1;",
-        "s ready;s called 6;s(6) ready;response 6;s(6) dropped;\
+        "ready;call 0;0 ok 4;drop 0;ready;call 1;1 error 106;drop 1;",
+        "s ready;s called 6;s(6) ready;inner 6;outer 8;s(6) dropped;\
          s ready;s called 6;s(6) ready;error 6;s(6) dropped;s dropped;",
     )
 }

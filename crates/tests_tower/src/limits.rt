@@ -2,16 +2,15 @@
 
 use futures::future::{Ready, ready};
 use std::alloc::AllocError;
-use std::fmt::Display;
 use std::test::Fail;
 use tests_support::clock::Hand;
 use tests_support::log::Log;
 use tests_support::script::{Mood, Reply};
 use tests_support::service::Scripted;
-use tests_support::story::{Stage, Story, driven};
+use tests_support::story::{Stage, driven};
+use tower::ServiceBuilder;
 use tower::retry::Policy;
 use tower::timeout::TimeoutLayer;
-use tower::{Service, ServiceBuilder};
 
 #[test]
 fn timeout_ends_a_response(rt: HostRuntime) -> Result<(), Fail> {
@@ -115,29 +114,17 @@ fn call_is_made_again(rt: HostRuntime) -> Result<(), Fail> {
     driven(&rt, &stage, service, "poll;call 6;future 0")?.enters("ready;call 0;0 ok 6;")
 }
 
-// A run of the service behind a timeout.
-fn timed<S>(rt: &HostRuntime, stage: &Stage<'_>, inner: S, events: &str) -> Result<Story, Fail>
-where
-    S: Service<u8>,
-    S::Response: Display,
-    S::Error: Display,
-    requires { S.sound inner }
-{
-    let timeout = TimeoutLayer::new(10, Hand::new(stage.log, &stage.moment));
-    let service = ServiceBuilder::new().layer(timeout).service(inner)?;
-    driven(rt, stage, service, events)
-}
-
 #[test]
 fn refused_by_the_limit_inside_is_shed_outside(rt: HostRuntime) -> Result<(), Fail> {
     let log = Log::new(rt.alloc())?;
     let stage = Stage::new(&log);
-    let inner = ServiceBuilder::new()
+    let service = ServiceBuilder::new()
+        .layer(TimeoutLayer::new(10, Hand::new(&log, &stage.moment)))
         .load_shed()
         .concurrency_limit(rt, rt.alloc(), 1)
         .service(Scripted::new(&stage.script, 's'))?;
     let events = "poll;call 6;poll;call 7;future 1;future 0";
-    timed(&rt, &stage, inner, events)?.enters(
+    driven(&rt, &stage, service, events)?.enters(
         "ready;call 0;ready;call 1;1 error service overloaded;0 ok 6;",
     )
 }

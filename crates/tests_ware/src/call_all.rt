@@ -3,7 +3,6 @@ ghost use Rattle.std.specs.Prelude.{IfSome};
 
 use futures::task::{Poll, Solo};
 use std::alloc::Global;
-use std::fmt::Write;
 use std::test::Fail;
 use tests_support::checks::Checks;
 use tests_support::log::Log;
@@ -11,7 +10,7 @@ use tests_support::run::task;
 use tests_support::script::Mood::{self, Broken, Busy, Willing};
 use tests_support::script::{Reply, Script};
 use tests_support::service::Scripted;
-use tests_support::stream::{Outbox, Requests};
+use tests_support::stream::{Outbox, Requests, tell_next};
 use tower_base::service::{Flow, Service};
 use tower_ware::util::call_all::{Error, law};
 use tower_ware::util::{CallAll, CallAllUnordered};
@@ -71,36 +70,6 @@ impl<'a> Desk<'a> {
     }
 }
 
-// A word or a few for the answer of a poll.
-fn tell(text: &mut String, answer: &Poll<Option<Result<u8, Error<u8>>>>) {
-    let _ = match answer {
-        Poll::Ready(None) => write!(text, "ended;"),
-        Poll::Ready(Some(Ok(number))) => write!(text, "{number};"),
-        Poll::Ready(Some(Err(error))) => write!(text, "error {error};"),
-        Poll::Pending => write!(text, "pending;"),
-    };
-}
-
-// One poll of a stream of calls, which is dropped at its end.
-fn polled<F>(solo: &Solo, flow: &mut Option<F>, text: &mut String)
-where
-    F: Flow<Item = Result<u8, Error<u8>>>,
-    requires { IfSome flow.old F.can_poll }
-    ensures { IfSome flow.new F.can_poll }
-{
-    let Some(mut live) = flow.take() else {
-        let _ = text.push_str("gone;");
-        return;
-    };
-    let mut cx = solo.begin();
-    let answer = live.flow(&mut cx);
-    cx.cancel();
-    tell(text, &answer);
-    if !matches!(answer, Poll::Ready(None)) {
-        *flow = Some(live);
-    }
-}
-
 // A poll after each act.
 fn run<F>(alloc: Global, solo: &Solo, desk: &Desk<'_>, flow: F, acts: &[Act]) -> String
 where
@@ -111,7 +80,7 @@ where
     let mut text = String::new(alloc);
     for act in acts {
         desk.act(*act);
-        polled(solo, &mut flow, &mut text);
+        tell_next(solo, &mut flow, &mut text);
     }
     text
 }
@@ -270,7 +239,7 @@ fn a_kept_answer_comes_after_the_readiness_error(rt: HostRuntime) -> Result<(), 
 }
 
 #[test]
-fn readiness_error_comes_before_answers_that_are_there_too(rt: HostRuntime) -> Result<(), Fail> {
+fn readiness_error_comes_before_answers_that_come_later(rt: HostRuntime) -> Result<(), Fail> {
     let checks = Checks::new(rt.alloc());
     let log = Log::new(rt.alloc())?;
     let acts = [
@@ -335,9 +304,9 @@ fn two_polls<F: Flow<Item = Result<u8, Error<u8>>>>(
     let (alloc, solo) = (rt.alloc(), task(rt)?);
     let mut calls = Some(flow);
     let mut text = String::new(alloc);
-    polled(&solo, &mut calls, &mut text);
+    tell_next(&solo, &mut calls, &mut text);
     let first = log.told(alloc)?.as_str().split("s called").count();
-    polled(&solo, &mut calls, &mut text);
+    tell_next(&solo, &mut calls, &mut text);
     let second = log.told(alloc)?.as_str().split("s called").count();
     Ok((text, first, second))
 }
@@ -369,7 +338,7 @@ fn handed_over(rt: &HostRuntime, desk: &Desk<'_>) -> Result<String, Fail> {
     desk.script.moods(&[Busy, Willing]);
     let mut text = String::new(alloc);
     let mut calls = Some(CallAll::new(alloc, desk.service(), desk.requests()));
-    polled(&solo, &mut calls, &mut text);
+    tell_next(&solo, &mut calls, &mut text);
     let Some(calls) = calls else {
         return Err("it ended".into());
     };
@@ -377,7 +346,7 @@ fn handed_over(rt: &HostRuntime, desk: &Desk<'_>) -> Result<String, Fail> {
         return Err("a call is without its answer".into());
     }
     let mut rest = Some(calls.unordered());
-    polled(&solo, &mut rest, &mut text);
+    tell_next(&solo, &mut rest, &mut text);
     Ok(text)
 }
 
@@ -427,7 +396,7 @@ where
     let (alloc, solo) = (rt.alloc(), task(rt)?);
     let mut text = String::new(alloc);
     let mut calls = Some(CallAll::new(alloc, service, desk.requests()));
-    polled(&solo, &mut calls, &mut text);
+    tell_next(&solo, &mut calls, &mut text);
     match calls {
         Some(calls) if calls.has_service() => drop(calls.into_inner()),
         _ => return Err("no service".into()),
@@ -443,7 +412,7 @@ where
     let (alloc, solo) = (rt.alloc(), task(rt)?);
     let mut text = String::new(alloc);
     let mut calls = Some(CallAllUnordered::new(alloc, service, desk.requests()));
-    polled(&solo, &mut calls, &mut text);
+    tell_next(&solo, &mut calls, &mut text);
     match calls {
         Some(calls) if calls.has_service() => drop(calls.into_inner()),
         _ => return Err("no service".into()),

@@ -10,7 +10,7 @@ use tests_support::story::{Stage, Story, driven};
 use tower_ware::reconnect::{Error, Reconnect};
 
 fn run(rt: &HostRuntime, stage: &Stage<'_>, events: &str) -> Result<Story, Fail> {
-    let maker = Maker::new(&stage.script, 'm', &stage.made, 's');
+    let maker = Maker::new(&stage.script, 'm', &stage.others, 's');
     let service = Reconnect::new(maker, Place::new(&stage.script, 'p', 0));
     driven(rt, stage, service, events)
 }
@@ -20,7 +20,7 @@ fn one_poll_makes_so_many_links_and_is_then_pending(rt: HostRuntime) -> Result<(
     let checks = Checks::new(rt.alloc());
     let log = Log::new(rt.alloc())?;
     let stage = Stage::new(&log);
-    stage.made.moods(&[Broken(1)]);
+    stage.others.moods(&[Broken(1)]);
     let story = run(&rt, &stage, "poll")?;
     checks.same(&story.entries.as_str(), &"pending;");
     checks.same(&story.told.as_str().split("m called 0;").count(), &23);
@@ -104,7 +104,7 @@ fn a_connect_that_waits_is_polled_again(rt: HostRuntime) -> Result<(), Fail> {
     let log = Log::new(rt.alloc())?;
     let stage = Stage::new(&log);
     stage.script.replies(&[Reply::Echo(1)]);
-    stage.made.replies(&[Reply::Fail(1)]);
+    stage.others.replies(&[Reply::Fail(1)]);
     run(&rt, &stage, "poll;poll;call 4;future 0;future 0")?.tells(
         "pending;ready;call 0;0 pending;0 error 4;",
         "m ready;p cloned p1;m called 0;p1 dropped;m(0) pending;m(0) ready;m(0) dropped;s2 ready;\
@@ -116,10 +116,10 @@ fn a_connect_that_waits_is_polled_again(rt: HostRuntime) -> Result<(), Fail> {
 fn link_that_fails_is_made_anew(rt: HostRuntime) -> Result<(), Fail> {
     let log = Log::new(rt.alloc())?;
     let stage = Stage::new(&log);
-    stage.made.moods(&[Busy, Broken(3), Willing]);
-    let maker = Maker::new(&stage.script, 'm', &stage.made, 's');
+    stage.others.moods(&[Busy, Broken(3), Willing]);
+    let maker = Maker::new(&stage.script, 'm', &stage.others, 's');
     let service = Reconnect::with_connection(
-        Scripted::new(&stage.made, 'a'),
+        Scripted::new(&stage.others, 'a'),
         maker,
         Place::new(&stage.script, 'p', 0),
     );

@@ -15,7 +15,7 @@ use Rattle.tower.specs.declared.spawn_ready.slot_core.Slot.{Slot}
 use Rattle.tower.specs.declared.spawn_ready.slot_core.SlotStep.{SlotStep}
 use Rattle.tower.specs.declared.spawn_ready.slot_core.SlotStep.TheVariants.{Start, Put, PutError, Look, Aborted}
 use Rattle.tower.specs.declared.spawn_ready.slot_core.SlotReply.{SlotReply}
-use Rattle.tower.specs.declared.spawn_ready.slot_core.SlotReply.TheVariants.{Truth, Waiting, Service, Error as Failed}
+use Rattle.tower.specs.declared.spawn_ready.slot_core.SlotReply.TheVariants.{Truth, Waiting, Service, Error as Failed, Unknown}
 use Rattle.tower.specs.declared.spawn_ready.service.SpawnReady.{SpawnReady}
 use Rattle.tower.specs.declared.spawn_ready.task.Held.{Held}
 use Rattle.tower.specs.declared.spawn_ready.task.ReadyTask.{ReadyTask}
@@ -88,10 +88,11 @@ module _ {S Q A E F L X : Type 0} (s : ServiceOf S Q A E F) (l : LatchOf L (Slot
   abbrev pub Answer : Type 0
   Answer = Option (Poll (Result (Unit {0}) (Error E)))
 
-  -- after the reply to a look: the service is here again, or the poll is answered
+  -- after the reply to a look: the service is here again, or the poll is answered. A look that fits no slot is as one that has to wait.
   abbrev pub AfterReply : SpawnReadyView S X L → SlotReply S E → Answer → SpawnReadyView S X L → Type 0
   AfterReply old Waiting answer new = (answer ≡ Some Pending) × (new ≡ old)
   AfterReply old (Service service) answer new = (answer ≡ None) × (new ≡ record old { service = Some service; is_running = false })
+  AfterReply old Unknown answer new = (answer ≡ Some Pending) × (new ≡ old)
   AfterReply old (Failed e) answer new = (answer ≡ Some (Ready (Err (Inner e)))) × (new ≡ old)
   AfterReply old _ answer new = (answer ≡ Some (Ready (Err Gone))) × (new ≡ old)
 

@@ -8,6 +8,7 @@ ghost use Rattle.tower.specs.declared.spawn_ready.slot_core.SlotStep.{SlotStep a
 
 use crate::spawn_ready::error::Error;
 use crate::spawn_ready::future::ResponseFuture;
+use crate::spawn_ready::layer::SpawnReadyLayer;
 use crate::spawn_ready::slot_core::{SlotCore, SlotReply, SlotStep};
 use crate::spawn_ready::task::ReadyTask;
 use futures::task::{Context, Poll};
@@ -56,6 +57,13 @@ where
     {
         let latch = Guarded::new(rt, alloc, SlotCore::new())?;
         Ok(SpawnReady::with_latch(service, executor, latch))
+    }
+
+    /// Its layer.
+    pub fn layer(rt: R, alloc: Global, executor: X) -> SpawnReadyLayer<R, X, Request>
+        ensures { result ≡ executor }
+    {
+        SpawnReadyLayer::new(rt, alloc, executor)
     }
 }
 
@@ -180,6 +188,7 @@ where
     {
         match self.latch.wait(SlotStep::Look, cx) {
             SlotReply::Waiting => Some(Poll::Pending),
+            SlotReply::Unknown => Some(cx.yield_now()),
             SlotReply::Service(viewed) => {
                 self.service = Some(viewed.into_inner());
                 self.is_running = false;
