@@ -3,7 +3,7 @@
 set -u
 cd "$(dirname "${BASH_SOURCE[0]}")/.." || exit 1
 broken=0
-for page in *.md docs/*.md; do
+for page in *.md docs/*.md crates/*/README.md; do
     while read -r link; do
         if [ ! -e "$(dirname "$page")/$link" ]; then
             echo "$page: $link"

@@ -1,17 +1,23 @@
 #!/usr/bin/env python3
-"""scripts/must_fail.py [--built] [--until SECONDS] [--anew] [CRATE ..]: the prover has to refuse each wrong body must-fail/CRATE/NAME.edit.
+"""scripts/must_fail.py [--built] [--gate] [--look] [--anew] [CRATE ..] [EDIT ..]: the prover has to refuse each wrong body.
 
-The edits of `crates/CRATE/must-fail/` are tried too. An edit has the form that the kit's `rt must-fail` reads. That tries edits one by one,
-and each check first loads its crate, so they are tried here, many in one check: a function is proved from the contracts of those that it calls, and so a
-wrong body fails its own function alone. An edit counts as refused only where its own function isn't proved and calls none that isn't;
-where it calls such a one, it is tried again in another check. What changes more than bodies (a bound, a constant) shares a check with
-edits of files alone that don't name its own. An edit that stands in no function names by a line `function: PATH` the one that has to be refused.
+The wrong bodies are edits of the code. Those of a module stand in `must-fail/CRATE/MODULE.edits`: each begins with a line `edit: NAME`, or
+`edit: NAME gate`, and then has lines `file:`, `old:` and `new:` as the kit's `rt must-fail` reads them. A file `must-fail/CRATE/NAME.edit`, or
+`crates/CRATE/must-fail/NAME.edit`, has one, without the first line.
 
-With --built the libraries are taken as `rt ci` left them; else they are proved first, where they have changed.
-With --until no check begins after that moment (as `date +%s` tells it), and what is left is said to be untried.
-What was refused is kept on this machine, as `rt ci` keeps what it proved: by the checksums of the edit, of this script, and of all that the kit reads for the crate.
-A later run tries only what has changed, and says how many were kept. With --anew it tries all.
-The last line is `N refused, M not` (and `, K untried`); status 1 where M isn't 0.
+The kit tries edits one by one, and each check first loads its crate, so they are tried here, many in one check: a function is proved from the
+contracts of those that it calls, and so a wrong body fails its own function alone. An edit counts as refused only where its own function isn't
+proved and calls none that isn't; where it calls such a one, it is tried again in another check. What changes more than bodies (a bound, a constant)
+shares a check with edits of files alone that don't name its own. An edit that stands in no function names by a line `function: PATH` the one that has
+to be refused.
+
+All edits are tried, or those of the crates that are named, or those alone that are named after them. With --gate those are tried that are marked
+`gate` or stand in `crates/`, and of the others it is seen that each can be applied, as its old text stands there exactly once. With --look that is
+seen of all, and none is tried.
+With --built the libraries are taken as `rt ci` left them; else they are proved first, where they have changed, from what other clones here proved on.
+What was refused is kept on this machine, as `rt ci` keeps what it proved: by the checksums of the edit's lines, of this script, and of all that the
+kit reads for the crate. A later run tries only what has changed, and says how many were kept. With --anew it tries all.
+The last line is `N refused, M not`, or `N refused, M not, K untried`; status 1 where M isn't 0.
 """
 import collections
 import hashlib
@@ -24,13 +30,15 @@ import shutil
 import sys
 import tempfile
 import threading
-import time
 from concurrent.futures import ThreadPoolExecutor
 
 AT_ONCE = 24
 ROUNDS = 6
 PARTS = ("error", "future", "layer", "service", "state", "task")
 KEPT = "refused by an earlier run"
+LOOKED_AT = "untried"
+FLAGS = ("--anew", "--built", "--gate", "--look")
+LINES = ("file: ", "old: ", "new:", "function: ")
 FUNCTION = re.compile(r"( *)(?:pub(?:\([^)]*\))? )?(?:(?:final|const|unsafe) )*fn (\w+)")
 BLOCK = re.compile(r"( *)(?:pub(?:\([^)]*\))? )?(impl|trait|mod)\b")
 
@@ -108,15 +116,15 @@ def module_of(path):
 class Edit:
     """A wrong body: the pairs of texts, the functions that it changes, and whether it changes bodies alone."""
 
-    def __init__(self, crate, file):
-        self.crate, self.file = crate, file
-        self.name = os.path.basename(file)[: -len(".edit")]
+    def __init__(self, crate, name, text, is_in_gate):
+        self.crate, self.name, self.text, self.is_in_gate = crate, name, text, is_in_gate
         self.pairs, self.paths, self.patterns, self.functions, self.bodies, self.is_of_bodies = [], [], [], [], "", True
-        texts, self.why = rt.read_edit(file, crate.folder)
+        odd = next((it for it in text.split("\n") if it.strip() and not it.startswith(LINES)), None)
+        self.why = f"a line that isn't read: {odd[:60]}" if odd else rt.edited(text, crate.folder)[1]
         if self.why:
             return
         path = old = ""
-        for line in rt.rtlib.text_of(file).split("\n"):
+        for line in text.split("\n"):
             if line.startswith("file: "):
                 path = line[len("file: ") :].strip()
             elif line.startswith("function: "):
@@ -211,15 +219,11 @@ def verdict(edit, output):
     return ("again", "") if is_unclear else ("NOT REFUSED", "its function is still proved")
 
 
-class TimeIsOver(Exception):
-    """No check may begin any more."""
-
-
 class Tried:
     """The edits of a crate."""
 
-    def __init__(self, crate, edits, room, lanes, until, store):
-        self.crate, self.edits, self.room, self.lanes, self.until = crate, edits, room, lanes, until
+    def __init__(self, crate, edits, room, lanes, store):
+        self.crate, self.edits, self.room, self.lanes = crate, edits, room, lanes
         self.kept, self.answers, self.checks = f"{room}/{crate.name}", {}, 0
         # (the sum is of what stands now: what was touched meanwhile isn't kept)
         self.store, self.sum, self.first = store, rt.stamp_of(crate, {}), rt.touched(crate)
@@ -227,7 +231,7 @@ class Tried:
     def recall(self):
         """The edits that an earlier run saw refused."""
         for it in self.edits:
-            why = self.store.get("refused", self.sum, it.name, rt.rtlib.text_of(it.file))
+            why = self.store.get("refused", self.sum, it.text)
             if why:
                 self.answers[it.name] = KEPT, why
 
@@ -236,7 +240,7 @@ class Tried:
         for it in edits:
             answer, why = self.answers.get(it.name, ("", ""))
             if answer == "refused" and rt.touched(self.crate) == self.first:
-                self.store.put(why or "refused", "refused", self.sum, it.name, rt.rtlib.text_of(it.file))
+                self.store.put(why or "refused", "refused", self.sum, it.text)
 
     def check(self, edits, functions):
         """Checks these functions of the crate with the edits, over a copy of what the check without an edit proved."""
@@ -244,8 +248,6 @@ class Tried:
         for name in functions:
             flags += ["--only", name]
         with self.lanes, tempfile.TemporaryDirectory(dir=self.room) as copy:
-            if self.until and time.time() > self.until:
-                raise TimeIsOver
             if os.path.isdir(self.kept):
                 shutil.copytree(self.kept, copy, dirs_exist_ok=True)
             self.checks += 1
@@ -319,11 +321,7 @@ class Tried:
         for it in self.edits:
             if it.why:
                 self.answers[it.name] = "BAD EDIT", it.why
-        try:
-            self.try_all([it for it in self.edits if it.name not in self.answers])
-        except TimeIsOver:
-            for it in self.edits:
-                self.answers.setdefault(it.name, ("untried", "there was no time"))
+        self.try_all([it for it in self.edits if it.name not in self.answers])
         shutil.rmtree(self.kept, ignore_errors=True)
         return self
 
@@ -347,10 +345,32 @@ class Tried:
         print(f"must-fail {self.crate.name}: {len(self.edits)} edits in {self.checks} checks", flush=True)
 
 
-def files_of(root, name):
-    """The edits of a crate: those of `must-fail/`, and the one that the crate itself has."""
-    folders = [f"{root}/must-fail/{name}", f"{root}/crates/{name}/must-fail"]
-    return [f"{at}/{it}" for at in folders if os.path.isdir(at) for it in sorted(os.listdir(at)) if it.endswith(".edit")]
+def entries_of(text):
+    """The name, the mark and the lines of each edit of a file `MODULE.edits`. What stands before the first has no name."""
+    head, *parts = re.split(r"^edit: *", text, flags=re.M)
+    found = [("", "", head.strip("\n"))] if head.strip() else []
+    for part in parts:
+        first, _, lines = part.partition("\n")
+        name, _, mark = first.strip().partition(" ")
+        found.append((name, mark, lines.strip("\n")))
+    return found
+
+
+def edits_of(crate):
+    """The edits of a crate: those of `must-fail/`, and those that the crate itself has, which stand in the gate."""
+    found = []
+    for folder, is_own in ((f"must-fail/{crate.name}", False), (f"crates/{crate.name}/must-fail", True)):
+        for file in sorted(os.listdir(folder)) if os.path.isdir(folder) else []:
+            text = rt.rtlib.text_of(f"{folder}/{file}")
+            entries = entries_of(text) if file.endswith(".edits") else [(file.removesuffix(".edit"), "", text.strip("\n"))]
+            found += [Edit(crate, name, lines, is_own or mark == "gate") for name, mark, lines in entries]
+            for name, mark, _ in entries:
+                if not re.fullmatch(r"\w+", name) or mark not in ("", "gate"):
+                    found[-1].why = f"{folder}/{file} has an edit `{name} {mark}`, where a name or the word `gate` is wanted"
+    for name, number in collections.Counter(it.name for it in found).items():
+        if number > 1:
+            next(it for it in found if it.name == name).why = "another edit has its name"
+    return found
 
 
 class Store:
@@ -379,19 +399,40 @@ class Store:
             pass
 
 
-def taken(words, flag):
-    """What stands after a flag, and the other words."""
-    if flag not in words:
-        return "", words
-    at = words.index(flag)
-    return words[at + 1], [*words[:at], *words[at + 2 :]]
+def tell_untried(edits):
+    """Says which edits can't be applied, and returns what was seen of each."""
+    for it in edits:
+        if it.why:
+            print(f"must-fail {it.crate.name}/{it.name}: BAD EDIT: {it.why}", flush=True)
+    return ["BAD EDIT" if it.why else LOOKED_AT for it in edits]
+
+
+def chosen(edits, crates, names, flags):
+    """The edits to be tried, and those to be looked at alone."""
+    if crates or names:
+        edits = [it for it in edits if it.crate.name in crates] if crates else edits
+        edits = [it for it in edits if it.name in names] if names else edits
+    is_tried = lambda it: "--look" not in flags and ("--gate" not in flags or it.is_in_gate)
+    return [it for it in edits if is_tried(it)], [it for it in edits if not is_tried(it)]
+
+
+def tries(edits, store, room):
+    """Tries the edits, and returns what came of each."""
+    number = os.environ.get("RT_JOBS", "")
+    lanes = threading.Semaphore(int(number) if number.isdigit() else max(1, min(rt.processors(), rt.free() // 4_500_000_000)))
+    by_crate = collections.defaultdict(list)
+    for it in edits:
+        by_crate[it.crate].append(it)
+    tried = [Tried(crate, its, room, lanes, store) for crate, its in sorted(by_crate.items(), key=lambda it: -len(it[1]))]
+    with ThreadPoolExecutor(max(len(tried), 1)) as pool:
+        for it in pool.map(Tried.run, tried):
+            it.show()
+    return [it for one in tried for it, _ in one.answers.values()]
 
 
 def main(words):
-    until, words = taken(words, "--until")
-    until = int(until or 0)
-    is_built, is_anew = "--built" in words, "--anew" in words
-    names = [it for it in words if it not in ("--built", "--anew")]
+    flags = [it for it in words if it.startswith("-")]
+    names = [it for it in words if not it.startswith("-")]
     root = os.path.dirname(os.path.dirname(os.path.realpath(__file__)))
     os.chdir(root)
     os.environ.pop(rt.rtlib.ALLOW_C, None)
@@ -400,35 +441,35 @@ def main(words):
     rt.rtlib.Crate = rt.Crate
     rt.Crate.allowed = rt.handles_of(root)
     crates = {it.name: it for it in rt.rtlib.crates_below(root)}
-    unknown = [it for it in [*sorted(os.listdir("must-fail")), *names] if it not in crates]
+    edits = [edit for name in sorted(crates) for edit in edits_of(crates[name])]
+    known = {*crates, *(it.name for it in edits)}
+    unknown = [it for it in [*sorted(os.listdir("must-fail")), *names] if it not in known] + [it for it in flags if it not in FLAGS]
     if unknown:
-        print(f"{unknown[0]} is no crate\n0 refused, 1 not")
+        print(f"{unknown[0]} is no crate, edit or flag\n0 refused, 1 not")
         return 1
-    tried = []
-    number = os.environ.get("RT_JOBS", "")
-    lanes = threading.Semaphore(int(number) if number.isdigit() else max(1, min(rt.processors(), rt.free() // 4_500_000_000)))
+    at = [it for it in names if it in crates]
+    tried, untried = chosen(edits, at, [it for it in names if it not in crates], flags)
+    if "--built" not in flags:
+        rt.share_work(False)
+        lacking = {below.name: below for it in tried for below in [*it.crate.below(), *[it.crate] * (not it.crate.is_program)]}
+        if any(it.build_rlib([], anew=False) for it in lacking.values()):
+            print("a library is not proved\n0 refused, 1 not")
+            return 1
     with tempfile.TemporaryDirectory(prefix="must-fail-") as room:
-        store = Store(f"{room}/none" if is_anew else os.path.expanduser("~/.cache/tower-edits"))
-        for name in names or [it for it in sorted(crates) if files_of(root, it)]:
-            crate = crates[name]
-            if not is_built and any(it.build_rlib([], anew=False) for it in [*crate.below(), *[crate] * (not crate.is_program)]):
-                print("a library is not proved\n0 refused, 1 not")
-                return 1
-            edits = [Edit(crate, it) for it in files_of(root, name)]
-            tried.append(Tried(crate, edits, room, lanes, until, store))
-        tried.sort(key=lambda it: -len(it.edits))
-        with ThreadPoolExecutor(max(len(tried), 1)) as pool:
-            for it in pool.map(Tried.run, tried):
-                it.show()
-    answers = [it for one in tried for it in one.answers.values()]
-    refused, kept, untried = (sum(it == which for it, _ in answers) for which in ("refused", KEPT, "untried"))
-    refused += kept
+        store = Store(f"{room}/none" if "--anew" in flags else os.path.expanduser("~/.cache/tower-edits"))
+        answers = tell_untried(untried) + tries(tried, store, room)
+    kept, untried = answers.count(KEPT), answers.count(LOOKED_AT)
+    refused = answers.count("refused") + kept
     proved = len(answers) - refused - untried
     if kept:
         print(f"{kept} of the edits were refused by an earlier run on this machine, of the same files")
+    if untried:
+        print(f"{untried} edits were not tried: the old text of each stands there once")
     print(f"{refused} refused, {proved} not" + (f", {untried} untried" if untried else ""))
     return 1 if proved else 0
 
 
 if __name__ == "__main__":
+    if {"-h", "--help"} & {*sys.argv}:
+        sys.exit(print(__doc__))
     sys.exit(main(sys.argv[1:]))

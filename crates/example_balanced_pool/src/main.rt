@@ -11,7 +11,7 @@ use std::io;
 use tower::balance::p2c::Balance;
 use tower::discover::{Change, Discover};
 use tower::load::Load;
-use tower::{Service, ServiceExt};
+use tower::{BlockOnExt, Service};
 
 /// Answers each request with its own port. The more it has answered, the heavier is its load.
 #[derive(Debug, Drop)]

@@ -9,7 +9,7 @@ use std::cell::Cell;
 use std::io;
 use tower::retry::budget::TpsBudget;
 use tower::service::SystemClock;
-use tower::{ServiceBuilder, ServiceExt};
+use tower::{BlockOnExt, ServiceBuilder};
 
 // Each third call fails.
 fn square(calls: &Cell<u64>, side: u64) -> Result<u64, Busy> {

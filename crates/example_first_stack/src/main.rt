@@ -5,7 +5,7 @@ use futures::future::{Ready, ok};
 use std::convert::Infallible;
 use std::io;
 use tower::service::SystemClock;
-use tower::{ServiceBuilder, ServiceExt};
+use tower::{BlockOnExt, ServiceBuilder};
 
 fn main(rt: HostRuntime) -> io::Result<()> {
     // The layer that is added first is outermost.

@@ -1,7 +1,6 @@
 //! A middleware with a future of its own: it counts the responses that are errors.
 ghost use Rattle.std.specs.Prelude.{◌≡◌};
 
-use futures::future::Future;
 use futures::task::{Context, Poll};
 use std::alloc::AllocError;
 use std::cell::Cell;
@@ -66,21 +65,15 @@ impl<'a, F> Model for CountErrorsFuture<'a, F> {
     ghost view = { λ f. f.inner };
 }
 
-impl<'a, F: Steps<Output = Result<A, E>>, A, E> Future for CountErrorsFuture<'a, F> {
+// A step is one step of the inner future, whose answer it gives. Whoever polls a response of a service asks no more than this.
+impl<'a, F: Steps<Output = Result<A, E>>, A, E> Steps for CountErrorsFuture<'a, F> {
     type Output = Result<A, E>;
 
-    // What the inner future asks and waits for. (`gives` is left out: `stepped` below tells the answers.)
+    // What the inner future asks and waits for.
     ghost can_poll = { F.can_poll };
 
     ghost needs = { F.needs };
 
-    fn poll(&mut self, cx: &mut Context<'_>) -> Poll<Result<A, E>> {
-        self.step(cx)
-    }
-}
-
-// A poll is one poll of the inner future, whose answer it gives.
-impl<'a, F: Steps<Output = Result<A, E>>, A, E> Steps for CountErrorsFuture<'a, F> {
     ghost stepped = { F.stepped };
 
     fn step(&mut self, cx: &mut Context<'_>) -> Poll<Result<A, E>> {

@@ -15,7 +15,7 @@ use std::io;
 use tower::drive::{Entry, Event, Transcript};
 use tower::service::SystemClock;
 use tower::timeout::Error;
-use tower::{ServiceBuilder, ServiceExt, service_fn};
+use tower::{BlockOnExt, ServiceBuilder, service_fn};
 
 fn show(rt: &impl Print, transcript: &Transcript<u64, Error<Infallible>, u64>) -> io::Result<()> {
     for entry in &transcript.entries {

@@ -1,4 +1,4 @@
-//! `example_paced_lines N P`: copies lines, at most N in each window of P milliseconds.
+//! `example_paced_lines N P`: copies lines, at most N in any P milliseconds.
 #![tactic(auto)]
 
 mod fault;

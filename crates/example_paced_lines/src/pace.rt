@@ -3,13 +3,13 @@ ghost use Rattle.std.specs.Prelude.{◌<◌};
 
 use std::str;
 
-/// So many lines in each window of so many nanoseconds.
+/// So many lines in any so many nanoseconds.
 #[derive(Clone, Copy)]
 pub struct Pace {
     pub lines: u64,
-    pub window: u64,
+    pub period: u64,
     ghost some: { 0 < lines },
-    ghost lasts: { 0 < window },
+    ghost lasts: { 0 < period },
 }
 
 const NANOS_PER_MILLI: u64 = 1_000_000;
@@ -21,11 +21,11 @@ impl Pace {
             return None;
         };
         let lines = read_number(lines.as_bytes())?;
-        let window = read_number(millis.as_bytes())?.checked_mul(NANOS_PER_MILLI)?;
-        if lines == 0 || window == 0 {
+        let period = read_number(millis.as_bytes())?.checked_mul(NANOS_PER_MILLI)?;
+        if lines == 0 || period == 0 {
             return None;
         }
-        Some(Pace { lines, window })
+        Some(Pace { lines, period })
     }
 }
 

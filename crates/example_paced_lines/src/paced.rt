@@ -12,7 +12,7 @@ use std::sync::Wait;
 use tower::limit::rate::{Rate, RateLimit};
 use tower::service::Clock;
 use tower::timeout::{Error, Timeout};
-use tower::{Service, ServiceExt};
+use tower::{BlockOnExt, Service};
 
 /// A write may take so many nanoseconds.
 const WRITE_TIME: u64 = 10_000_000_000;
@@ -45,7 +45,10 @@ where
     };
     let out = RefCell::new(out);
     let writing = Timeout::new(Writing { out: &out }, WRITE_TIME, clock.share());
-    let service = RateLimit::new(writing, Rate::new(pace.lines, pace.window), clock);
+    let rate = Rate::new(pace.lines, pace.period);
+    let Ok(service) = RateLimit::new(rt.alloc(), writing, rate, clock) else {
+        return report(Fault::Memory, err);
+    };
     let lines = match Lines::new(rt.alloc(), reader) {
         Ok(lines) => lines,
         Err(fault) => return report(fault, err),
@@ -70,8 +73,8 @@ fn flush<W: Write + Drop>(out: RefCell<W>) -> Result<(), Fault> {
     out.flush().map_err(|_| Fault::CannotWrite)
 }
 
-// Copies the lines, each once the service is ready for it. What is inside waits for a clock, which wakes nobody, so
-// the thread polls all the while.
+// Copies the lines, each once the service is ready for it. What is inside waits for a clock, which wakes nobody: the
+// thread polls it, and sleeps in between.
 fn copy<H, S, R, E>(
     rt: &H,
     mut service: S,

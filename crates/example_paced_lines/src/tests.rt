@@ -211,17 +211,17 @@ fn lines_stay_as_their_bytes(rt: HostRuntime) -> Result<(), Fail> {
     Ok(())
 }
 
-// The moment at the end counts the readings: one where the limit is made, two for each line (the limit's and the
-// timeout's), and one for each poll of a full window, the last of which is at its end.
+// The moment at the end counts the readings: two for each line (the limit's and the timeout's), and one for each limited
+// poll, the last of which passes.
 #[test]
-fn so_many_lines_go_in_each_window(rt: HostRuntime) -> Result<(), Fail> {
-    for (lines, window, moment) in [("2", "20", 44), ("1", "7", 32), ("5", "20", 11)] {
+fn so_many_lines_go_in_any_period(rt: HostRuntime) -> Result<(), Fail> {
+    for (lines, period, moment) in [("2", "20", 44), ("1", "7", 34), ("5", "20", 10)] {
         let mut page = Page::new(&rt, 4096);
         let feed = Feed::new(b"a\nb\nc\nd\ne", 4096);
-        let ended = paced(&rt, &[lines, window], MILLI, feed, &mut page)?;
+        let ended = paced(&rt, &[lines, period], MILLI, feed, &mut page)?;
         assert_eq!(rt; ended.status, 0);
         assert_eq!(rt; page.text.as_slice(), b"a\nb\nc\nd\ne".as_slice());
-        assert_eq!(rt; ended.moment, moment * MILLI, "{lines} in {window}");
+        assert_eq!(rt; ended.moment, moment * MILLI, "{lines} in {period}");
     }
     Ok(())
 }
@@ -268,10 +268,22 @@ fn wrong_arguments_are_found_before_any_read(rt: HostRuntime) -> Result<(), Fail
         );
     }
     let mut page = Page::new(&rt, 4096);
-    let greatest = &["18446744073709551615", "18446744073709"];
-    let ended = paced(&rt, greatest, MILLI, Feed::new(b"a\nb", 1), &mut page)?;
+    let longest = &["9", "18446744073709"];
+    let ended = paced(&rt, longest, MILLI, Feed::new(b"a\nb", 1), &mut page)?;
     assert_eq!(rt; ended.status, 0);
     assert_eq!(rt; page.text.as_slice(), b"a\nb".as_slice());
+    Ok(())
+}
+
+// The limit keeps a moment for each of its calls, so no memory has room for so many.
+#[test]
+fn so_many_lines_find_no_memory(rt: HostRuntime) -> Result<(), Fail> {
+    let mut page = Page::new(&rt, 4096);
+    let most = &["18446744073709551615", "1"];
+    let ended = paced(&rt, most, MILLI, Feed::new(b"a\nb", 1), &mut page)?;
+    assert_eq!(rt; ended.status, 1);
+    assert_eq!(rt; page.calls, 0);
+    assert_eq!(rt; ended.faults.as_slice(), b"out of memory\n".as_slice());
     Ok(())
 }
 
@@ -319,16 +331,16 @@ fn a_write_fails(rt: HostRuntime) -> Result<(), Fail> {
     Ok(())
 }
 
-// The clock is read once before the first line, twice for each line, and once for each refused write: the tenth is too late.
+// The clock is read twice for each line, and once for each refused write: the tenth is too late.
 #[test]
 fn a_write_may_take_ten_seconds(rt: HostRuntime) -> Result<(), Fail> {
     let whole = b"one\ntwo\nsix\n";
     for kind in [ErrorKind::WouldBlock, ErrorKind::Interrupted] {
         let page = Page::failing(&rt, 4096, 1, 9, kind);
-        assert_eq!(rt; check_written(&rt, page, whole, b"")?, 16 * SECOND);
+        assert_eq!(rt; check_written(&rt, page, whole, b"")?, 15 * SECOND);
         let page = Page::failing(&rt, 4096, 1, usize::MAX, kind);
         let moment = check_written(&rt, page, &whole[..4], b"request timed out\n")?;
-        assert_eq!(rt; moment, 15 * SECOND);
+        assert_eq!(rt; moment, 14 * SECOND);
     }
     Ok(())
 }

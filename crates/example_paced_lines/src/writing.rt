@@ -61,6 +61,10 @@ impl<W: Write> Future for Line<'_, W> {
 
 /// A poll writes once. It is pending where bytes are left, or where the writer would wait.
 impl<W: Write> Steps for Line<'_, W> {
+    type Output = Result<(), CannotWrite>;
+
+    ghost needs = { λ _ _. ⊤ };
+
     fn step(&mut self, cx: &mut Context<'_>) -> Poll<Result<(), CannotWrite>> {
         let rest = &self.bytes[self.written..];
         if rest.is_empty() {

@@ -10,7 +10,7 @@ use std::io;
 use tower::retry::backoff::{ExponentialBackoffMaker, MakeBackoff};
 use tower::retry::budget::TpsBudget;
 use tower::service::{Fraction, SystemClock};
-use tower::{ServiceBuilder, ServiceExt};
+use tower::{BlockOnExt, ServiceBuilder};
 
 /// A flaky server: each third attempt finds it busy, and so does each from the ninth on. It tells each attempt.
 fn fetch<R: Print>(rt: &R, attempts: &Cell<u64>, page: u64) -> Result<u64, Failure> {

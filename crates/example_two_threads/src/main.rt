@@ -8,16 +8,18 @@ use std::random::RandomSource;
 use std::sync::Wait;
 use std::sync::atomic::{AtomicU64, Ordering};
 use std::{io, thread};
-use tower::{Service, ServiceBuilder, ServiceExt};
+use tower::util::Sealed;
+use tower::{BlockOnExt, Service, ServiceBuilder};
 
-// A hundred calls, and the sum of their answers. Of the service no more is known than that it is sound, so
-// the loop has a line in proofs/hundred/Invariants.antt, which says that it stays so.
-fn hundred<S, R>(rt: &R, mut stack: S) -> io::Result<u64>
+// A hundred calls, and the sum of their answers. Of the service no more is known than that it is sound, which its seal
+// keeps over the loop.
+fn hundred<S, R>(rt: &R, stack: S) -> io::Result<u64>
 where
     S: Service<u64, Response = u64>,
     R: Wait + RandomSource + AllocGlobal,
     requires { S.sound stack }
 {
+    let mut stack = Sealed::new(stack);
     let mut sum = 0u64;
     for side in 0..100 {
         if let Ok(area) = stack.block_on_call(rt, side)? {

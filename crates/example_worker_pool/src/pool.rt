@@ -4,7 +4,7 @@ ghost use Rattle.std.specs.Prelude.{◌≡◌, IfOk};
 use crate::jobs::{Answer, Job, Unfinished, search};
 use crate::policy::GoesOn;
 use futures::executor::block_on;
-use futures::future::{Either, Future, Ready, ready, select};
+use futures::future::{Either, Ready, ready, select};
 use std::alloc::{AllocError, AllocGlobal, Global};
 use std::fmt::Display;
 use std::io::{self, Eprint};
@@ -17,7 +17,7 @@ use std::time::Clock;
 use tower::buffer::Buffer;
 use tower::latch::held::Pollable;
 use tower::retry::budget::TpsBudget;
-use tower::service::SystemClock;
+use tower::service::{Polled, Steps, SystemClock};
 use tower::{Service, ServiceBuilder, ServiceExt};
 
 /// The answer of each line, in their order.
@@ -102,7 +102,7 @@ where
     R: Wait + RandomSource + AllocGlobal + Eprint,
     B: Service<Job, Response = u64> + Clone,
     B::Error: Display,
-    W: Future<Output = ()> + Drop,
+    W: Steps<Output = ()>,
     requires buffer { B.sound buffer }
     requires clones { (x y : B) → B.is_clone x y → B.sound x → B.sound y }
     requires worker { W.can_poll worker }
@@ -133,15 +133,15 @@ where
     R: Wait + RandomSource + AllocGlobal,
     B: Service<Job, Response = u64>,
     B::Error: Display,
-    W: Future<Output = ()> + Drop,
+    W: Steps<Output = ()>,
     requires buffer { B.sound buffer }
     requires worker { W.can_poll worker }
     ensures { IfOk result (λ answered. W.can_poll answered.1) }
 {
-    match block_on(rt, select(buffer.oneshot(job), worker))? {
+    match block_on(rt, select(buffer.oneshot(job), Polled::new(worker)))? {
         Either::Left(both) => {
             let (answer, worker) = both;
-            Ok((told(rt.alloc(), job.number, answer)?, worker))
+            Ok((told(rt.alloc(), job.number, answer)?, worker.into_inner()))
         }
         Either::Right(_ended) => Err(io::Error::other("a worker is gone")),
     }

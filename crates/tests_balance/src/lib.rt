@@ -1,13 +1,9 @@
-//! Tests of `tower::balance`.
+//! Tests of `tower::balance`: what no script asks.
 #![tactic(auto)]
 
 #[cfg(test)]
-mod crowd;
-#[cfg(test)]
-mod make;
-#[cfg(test)]
-mod p2c;
-#[cfg(test)]
-mod parts;
+mod errors;
 #[cfg(test)]
 mod stress;
+#[cfg(test)]
+mod wakes;

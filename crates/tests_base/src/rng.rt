@@ -38,11 +38,16 @@ fn a_clone_goes_on_from_the_same_counter(rt: HostRuntime) -> Result<(), Fail> {
     checks.verdict()
 }
 
+// The kit's default hasher of the first numbers of 64 bits, by three lines of Python:
+// `p = (0x243f6a8885a308d3 ^ n) * (0x9e3779b97f4a7c15 ^ 16)`, `low = p % 2**64`, `print(low ^ p >> 64)`.
+const FOLD: [u64; 2] = [11929241555534134038, 275466369744191251];
+
 #[test]
 fn new_generators_give_the_same_words(rt: HostRuntime) {
     let mut fresh = HasherRng::new();
     let mut other: HasherRng = Default::default();
-    assert_eq!(rt; words(&mut fresh), words(&mut other));
+    assert_eq!(rt; words(&mut fresh), FOLD);
+    assert_eq!(rt; words(&mut other), FOLD);
 }
 
 #[test]

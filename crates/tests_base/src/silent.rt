@@ -116,6 +116,12 @@ impl<F: Steps> Future for Polls<F> {
 }
 
 impl<F: Steps> Steps for Polls<F> {
+    type Output = F::Output;
+
+    ghost can_poll = { λ f. F.can_poll f.inner };
+
+    ghost needs = { λ f. F.needs f.inner };
+
     ghost stepped = { λ old answer new. F.stepped old.inner answer new.inner };
 
     fn step(&mut self, cx: &mut Context<'_>) -> Poll<F::Output> {
@@ -143,6 +149,12 @@ impl<F: Steps> Future for Quiet<F> {
 }
 
 impl<F: Steps> Steps for Quiet<F> {
+    type Output = F::Output;
+
+    ghost can_poll = { λ f. F.can_poll f.inner };
+
+    ghost needs = { λ f. F.needs f.inner };
+
     fn step(&mut self, cx: &mut Context<'_>) -> Poll<F::Output> {
         self.inner.step(cx)
     }

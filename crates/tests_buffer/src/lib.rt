@@ -1,15 +1,5 @@
-//! Tests of `tower::buffer`.
+//! Tests of `tower::buffer`: what no script asks.
 #![tactic(auto)]
 
 #[cfg(test)]
-mod desk;
-#[cfg(test)]
-mod driven;
-#[cfg(test)]
 mod making;
-#[cfg(test)]
-mod named;
-#[cfg(test)]
-mod parcel;
-#[cfg(test)]
-mod rows;

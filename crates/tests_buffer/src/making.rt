@@ -1,10 +1,10 @@
 //! Constructors, layers and texts. Its own service has no lifetime: the kit's borrow checker covers no `Buffer` whose futures have one.
 ghost use Rattle.std.specs.Prelude.{◌≡◌, IfOk, IfSome};
 
-use futures::future::{Future, Ready, ready};
+use futures::future::{Ready, ready};
 use futures::task::{Context, Poll};
 use std::alloc::{AllocError, AllocGlobal};
-use std::cell::RefCell;
+use std::cell::{Cell, RefCell};
 use std::process::Abort;
 use std::random::RandomSource;
 use std::sync::Wait;
@@ -19,11 +19,11 @@ use tower_pool::buffer::{Buffer, BufferLayer, Error, MailCore, Worker};
 
 /// Keeps one task, and gives any further one back.
 #[derive(Drop)]
-pub struct Bench<T: Future> {
+pub struct Bench<T: Steps> {
     seat: RefCell<Option<Pollable<T>>>,
 }
 
-impl<T: Future> Bench<T> {
+impl<T: Steps> Bench<T> {
     pub fn new() -> Bench<T> {
         Bench {
             seat: RefCell::new(None),
@@ -39,7 +39,7 @@ impl<T: Future> Bench<T> {
     }
 }
 
-impl<T: Future> Executor<T> for Bench<T> {
+impl<T: Steps> Executor<T> for Bench<T> {
     ghost can_spawn = { λ _ task. T.can_poll task };
 
     fn spawn(&self, task: T) -> Result<(), T> {
@@ -55,9 +55,37 @@ impl<T: Future> Executor<T> for Bench<T> {
 }
 
 /// A clone is free.
-impl<T: Future> Clone for Bench<T> {
+impl<T: Steps> Clone for Bench<T> {
     fn clone(&self) -> Result<Bench<T>, AllocError> {
         Ok(Bench::new())
+    }
+}
+
+/// Gives the first task back, and keeps the next one.
+#[derive(Drop)]
+pub struct Reluctant<T: Steps> {
+    was_asked: Cell<bool>,
+    bench: Bench<T>,
+}
+
+impl<T: Steps> Reluctant<T> {
+    pub fn new() -> Reluctant<T> {
+        Reluctant {
+            was_asked: Cell::new(false),
+            bench: Bench::new(),
+        }
+    }
+}
+
+impl<T: Steps> Executor<T> for Reluctant<T> {
+    ghost can_spawn = { λ _ task. T.can_poll task };
+
+    fn spawn(&self, task: T) -> Result<(), T> {
+        if !self.was_asked.get() {
+            self.was_asked.set(true);
+            return Err(task);
+        }
+        self.bench.spawn(task)
     }
 }
 
@@ -92,16 +120,17 @@ type Told = Buffer<
 
 #[test]
 fn errors_have_texts(rt: HostRuntime) -> Result<(), Fail> {
+    let inner: Error<&str> = Error::Inner("boom");
     let failed: Error<&str> = Error::Service(ServiceError { error: "boom" });
     let (closed, memory, back): (Error<u8>, Error<u8>, Error<u8>) = (
         Error::Closed,
         Error::Memory,
         Error::NotSpawned,
     );
-    let text = format!(in rt.alloc(); "{failed}; {closed}; {Closed}; {memory}; {back}")?;
+    let text = format!(in rt.alloc(); "{inner}; {failed}; {closed}; {Closed}; {memory}; {back}")?;
     assert_eq!(rt;
         text.as_str(),
-        "buffered service failed: boom; buffer's worker closed unexpectedly; \
+        "boom; buffered service failed: boom; buffer's worker closed unexpectedly; \
          buffer's worker closed unexpectedly; out of memory; task was not spawned"
     );
     Ok(())
@@ -221,6 +250,26 @@ fn a_layer_spawns_each_worker(rt: HostRuntime) -> Result<(), Fail> {
     layered(rt, BufferLayer::new(rt, rt.alloc(), 1, Bench::new()))
 }
 
+// What a layer makes whose executor gives the first worker back: a layer that asked again would leave the second one closed.
+fn reluctantly<R, B, Y>(rt: R, layer: Y) -> Result<(), Fail>
+where
+    R: Wait + Abort + RandomSource + AllocGlobal + Copy,
+    B: Service<u8, Response = u8, Error = Error<u8>>,
+    Y: Layer<Echo, Service = B> + Drop,
+    requires can_layer { (y : Y) (s : Echo) → Y.can_layer y s }
+    requires sound { (y : Y) (s : Echo) (b : B) → Y.made y s b → B.sound b }
+{
+    let first = layer.layer(Echo)?;
+    let second = layer.layer(Echo)?;
+    is_closed(rt, first)?;
+    is_open(rt, second)
+}
+
+#[test]
+fn a_layer_spawns_a_worker_once(rt: HostRuntime) -> Result<(), Fail> {
+    reluctantly(rt, BufferLayer::new(rt, rt.alloc(), 1, Reluctant::new()))
+}
+
 // A buffer of so many places, with what it needs to live.
 fn holds<R, B, W>(rt: R, made: Option<B>, other: W, bound: usize) -> Result<(), Fail>
 where
@@ -315,7 +364,13 @@ fn a_buffer_round_a_buffer(rt: HostRuntime) -> Result<(), Fail> {
 #[test]
 fn errors_have_clones(rt: HostRuntime) -> Result<(), Fail> {
     let failed = Error::Service(ServiceError { error: 5u8 });
-    for error in [failed, Error::Closed, Error::Memory, Error::NotSpawned] {
+    for error in [
+        Error::Inner(5u8),
+        failed,
+        Error::Closed,
+        Error::Memory,
+        Error::NotSpawned,
+    ] {
         assert!(rt; error.clone()? == error);
     }
     Ok(())

@@ -1,4 +1,4 @@
-//! `tower::load::Constant`, as a service and as a discovery, and the loads of limits.
+//! `tower::load::Constant` as a discovery, and the loads of limits.
 
 use crate::parts::{Find, Finds, found};
 use futures::task::Poll;
@@ -8,39 +8,12 @@ use tests_support::checks::Checks;
 use tests_support::clock::Hand;
 use tests_support::log::Log;
 use tests_support::run::task;
-use tests_support::script::Mood::{Broken, Busy, Willing};
-use tests_support::script::{Reply, Script};
+use tests_support::script::Script;
 use tests_support::service::Scripted;
-use tests_support::story::{Stage, driven};
 use tower_limit::discover::{Change, ServiceList};
 use tower_limit::limit::rate::Rate;
 use tower_limit::limit::{ConcurrencyLimit, RateLimit};
 use tower_limit::load::{Constant, Load};
-
-#[test]
-fn load_stays_and_calls_go_inside(rt: HostRuntime) -> Result<(), Fail> {
-    let checks = Checks::new(rt.alloc());
-    let alloc = rt.alloc();
-    let log = Log::new(alloc)?;
-    let stage = Stage::new(&log);
-    stage.script.moods(&[Busy, Broken(7), Willing]);
-    stage.script.replies(&[Reply::Echo(1), Reply::Fail(0)]);
-    let service = Constant::new(Scripted::new(&stage.script, 's'), 5u32);
-    checks.same(&service.load(), &5);
-    checks.same(&service.load(), &5);
-    driven(
-        &rt,
-        &stage,
-        service,
-        "poll;poll;poll;call 3;future 0;future 0;poll;call 4;future 1",
-    )?
-    .tells(
-        "pending;error 7;ready;call 0;0 pending;0 ok 3;ready;call 1;1 error 4;",
-        "s pending;s error 7;s ready;s called 3;s(3) pending;s(3) ready;s ready;s called 4;s(4) ready;\
-         s dropped;s(3) dropped;s(4) dropped;",
-    )?;
-    checks.verdict()
-}
 
 #[test]
 fn each_service_of_a_discovery_has_the_load(rt: HostRuntime) -> Result<(), Fail> {
@@ -90,7 +63,7 @@ fn limits_have_the_load_of_what_they_limit(rt: HostRuntime) -> Result<(), Fail> 
     let moment = Cell::new(0);
     let constant = |load: u32| Constant::new(Scripted::new(&script, 's'), load);
     let clock = Hand::new(&log, &moment);
-    let rate = RateLimit::new(constant(3), Rate::new(1, 10), clock);
+    let rate = RateLimit::new(alloc, constant(3), Rate::new(1, 10), clock)?;
     checks.same(&rate.load(), &3);
     let limit = ConcurrencyLimit::new(rt, alloc, constant(4), 1)?;
     checks.same(&limit.load(), &4);

@@ -1,24 +1,18 @@
-//! `tower::load::PendingRequests`: each share and step at the latch, and the loads.
+//! `tower::load::PendingRequests`: other completions, counts, and discoveries.
 ghost use Rattle.std.specs.Prelude.{◌≡◌};
 
 use crate::parts::{Find, Finds, found};
 use futures::task::{Poll, Solo};
-use std::alloc::{AllocError, AllocGlobal};
-use std::cell::Cell;
 use std::fmt::Debug;
-use std::sync::Wait;
 use std::test::Fail;
 use tests_support::checks::Checks;
 use tests_support::future::After;
-use tests_support::latch::Noting;
 use tests_support::log::Log;
 use tests_support::plain::Plain;
 use tests_support::run::{awaited, called, stepped, task};
-use tests_support::script::Mood::{Broken, Busy, Willing};
-use tests_support::script::{Reply, Script};
+use tests_support::script::Script;
 use tests_support::service::Scripted;
-use tests_support::story::{Stage, driven};
-use tower_base::latch::{Guarded, Latch};
+use tower_base::latch::Latch;
 use tower_base::service::Service;
 use tower_limit::discover::Change;
 use tower_limit::load::completion::TrackCompletionFuture;
@@ -27,29 +21,6 @@ use tower_limit::load::{
     CompleteOnResponse, Error, Load, PendingRequests, PendingRequestsDiscover, TrackCompletion,
 };
 
-fn noting<'a, L: Latch<CountCore>>(
-    script: &'a Script<'a>,
-    shares: &'a Cell<u8>,
-    latch: L,
-) -> PendingRequests<Scripted<'a>, Noting<'a, L>> {
-    let latch = Noting::new(script.log, shares, latch);
-    PendingRequests::with_latch(Scripted::new(script, 's'), CompleteOnResponse, latch)
-}
-
-type Noted<'a, R> = PendingRequests<Scripted<'a>, Noting<'a, Guarded<CountCore, R>>>;
-
-// A service `s` whose count is behind a latch whose steps are noted.
-fn noted<'a, R: Wait + AllocGlobal + Copy>(
-    rt: R,
-    script: &'a Script<'a>,
-    shares: &'a Cell<u8>,
-) -> Result<Noted<'a, R>, AllocError> {
-    match Guarded::new(rt, rt.alloc(), CountCore::new()) {
-        Ok(latch) => Ok(noting(script, shares, latch)),
-        Err(error) => Err(error),
-    }
-}
-
 // Notes the load.
 fn tell<S: Load>(log: &Log, service: &S)
 where
@@ -57,33 +28,6 @@ where
 {
     let load = service.load();
     log.note(format_args!("{load:?}"));
-}
-
-// Two requests of a service that is ready, and what is noted. Each answer is noted, the second response is dropped first, and the load is
-// told all the while.
-fn two_requests<S>(rt: &HostRuntime, log: &Log, mut service: S, want: &str) -> Result<(), Fail>
-where
-    S: Service<u8, Response = u8, Error = u8> + Load,
-    S::Metric: Debug,
-    requires { S.sound service }
-{
-    let checks = Checks::new(rt.alloc());
-    let solo = task(rt)?;
-    tell(log, &service);
-    let mut first = called(&solo, &mut service, 1).ok_or("not ready")?;
-    tell(log, &service);
-    let mut second = called(&solo, &mut service, 2).ok_or("not ready")?;
-    tell(log, &service);
-    log.note(format_args!("{:?}", stepped(&solo, &mut first)));
-    tell(log, &service);
-    log.note(format_args!("{:?}", stepped(&solo, &mut second)));
-    tell(log, &service);
-    drop(second);
-    tell(log, &service);
-    drop(first);
-    drop(service);
-    checks.told(log, want);
-    checks.verdict()
 }
 
 // Gives the handle outside with the response.
@@ -98,54 +42,6 @@ impl<L: Latch<CountCore>, V: Drop> TrackCompletion<Handle<L>, V> for IntoHandle 
     fn track_completion(&self, handle: Handle<L>, _value: V) -> Handle<L> {
         handle
     }
-}
-
-// The inner future is dropped before the handle.
-#[test]
-fn an_answer_ends_a_request_and_an_error_does_not(rt: HostRuntime) -> Result<(), Fail> {
-    let (log, shares) = (Log::new(rt.alloc())?, Cell::new(255));
-    let script = Script::new(&log);
-    script.replies(&[Reply::Echo(0), Reply::Fail(0)]);
-    two_requests(
-        &rt,
-        &log,
-        noted(rt, &script, &shares)?,
-        "latch stepped Load;Count(0);s ready;latch shared;latch stepped Take;s called 1;latch stepped Load;Count(1);\
-         s ready;latch shared;latch stepped Take;s called 2;latch stepped Load;Count(2);\
-         s(1) ready;latch stepped Give;latch dropped;Ready(Ok(1));latch stepped Load;Count(1);\
-         s(2) ready;Ready(Err(2));latch stepped Load;Count(1);\
-         s(2) dropped;latch stepped Give;latch dropped;latch stepped Load;Count(0);\
-         s(1) dropped;s dropped;latch dropped;",
-    )
-}
-
-#[test]
-fn requests_end_with_their_responses(rt: HostRuntime) -> Result<(), Fail> {
-    let log = Log::new(rt.alloc())?;
-    let script = Script::new(&log);
-    let inner = Scripted::new(&script, 's');
-    two_requests(
-        &rt,
-        &log,
-        PendingRequests::new(rt, rt.alloc(), inner, CompleteOnResponse::default())?,
-        "Count(0);s ready;s called 1;Count(1);s ready;s called 2;Count(2);s(1) ready;Ready(Ok(1));Count(1);\
-         s(2) ready;Ready(Ok(2));Count(0);s(2) dropped;Count(0);s(1) dropped;s dropped;",
-    )
-}
-
-#[test]
-fn request_whose_share_is_refused_is_not_counted(rt: HostRuntime) -> Result<(), Fail> {
-    let (log, shares) = (Log::new(rt.alloc())?, Cell::new(0));
-    let script = Script::new(&log);
-    two_requests(
-        &rt,
-        &log,
-        noted(rt, &script, &shares)?,
-        "latch stepped Load;Count(0);s ready;latch refused;s called 1;latch stepped Load;Count(0);\
-         s ready;latch refused;s called 2;latch stepped Load;Count(0);\
-         s(1) ready;Ready(Ok(1));latch stepped Load;Count(0);s(2) ready;Ready(Ok(2));latch stepped Load;Count(0);\
-         s(2) dropped;latch stepped Load;Count(0);s(1) dropped;s dropped;latch dropped;",
-    )
 }
 
 // The response to one call. Its future is dropped.
@@ -196,30 +92,6 @@ fn requests_end_with_their_handles(rt: HostRuntime) -> Result<(), Fail> {
     )
 }
 
-// A future that is dropped while it is pending ends its request.
-#[test]
-fn whole_runs_go_inside(rt: HostRuntime) -> Result<(), Fail> {
-    let alloc = rt.alloc();
-    let (log, shares) = (Log::new(alloc)?, Cell::new(255));
-    let stage = Stage::new(&log);
-    stage.script.moods(&[Busy, Broken(7), Willing]);
-    stage.script.replies(&[Reply::Never, Reply::Fail(1)]);
-    let service = noted(rt, &stage.script, &shares)?;
-    driven(
-        &rt,
-        &stage,
-        service,
-        "poll;poll;poll;call 1;future 0;drop 0;poll;call 2;future 1;future 1;drop 1",
-    )?
-    .tells(
-        "pending;error 7;ready;call 0;0 pending;drop 0;ready;call 1;1 pending;1 error 2;drop 1;",
-        "s pending;s error 7;s ready;latch shared;latch stepped Take;s called 1;s(1) pending;\
-         s(1) dropped;latch stepped Give;latch dropped;\
-         s ready;latch shared;latch stepped Take;s called 2;s(2) pending;s(2) ready;\
-         s(2) dropped;latch stepped Give;latch dropped;s dropped;latch dropped;",
-    )
-}
-
 #[test]
 fn completion_is_given_any_handle(rt: HostRuntime) -> Result<(), Fail> {
     let checks = Checks::new(rt.alloc());
@@ -257,7 +129,7 @@ fn counts_are_ordered_as_their_numbers(rt: HostRuntime) -> Result<(), Fail> {
     let log = Log::new(rt.alloc())?;
     let script = Script::new(&log);
     let inner = Scripted::new(&script, 's');
-    let service = PendingRequests::new(rt, rt.alloc(), inner, CompleteOnResponse)?;
+    let service = PendingRequests::new(rt, rt.alloc(), inner, CompleteOnResponse::default())?;
     let (none, one) = loads(&rt, service)?;
     checks.same(&none, &Count::default());
     checks.holds(none < one && none <= one && none <= none && one > none);

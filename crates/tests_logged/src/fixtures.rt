@@ -2,7 +2,17 @@
 
 use std::alloc::{AllocError, Global};
 use std::test::Fail;
+use std::thread;
+use std::time::{Clock, Duration};
 use tower_base::latch::{Core, Log, Pass};
+
+/// So often does one look for what it waits for, before it gives up and the test fails.
+pub const LOOKS: u32 = 100_000;
+
+/// Between two looks.
+pub fn rest<R: Clock>(rt: &R) {
+    thread::sleep(rt, Duration::from_micros(100));
+}
 
 // The receipts of each pass.
 pub type Told<S, R> = Vec<Vec<(usize, S, R)>>;

@@ -1,4 +1,4 @@
-//! Tests of `tower_base::latch::Logged` over the cores of the library.
+//! Tests of the library's cores under threads: behind `tower_base::latch::Logged`.
 #![tactic(auto)]
 
 #[cfg(test)]
@@ -21,5 +21,7 @@ mod plain_mail;
 mod random;
 #[cfg(test)]
 mod random_mail;
+#[cfg(test)]
+mod slot;
 #[cfg(test)]
 mod storm;

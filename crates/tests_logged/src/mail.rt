@@ -2,7 +2,7 @@
 ghost use Rattle.std.specs.Prelude.{◌≡◌, Some};
 ghost use Rattle.tower_pool.specs.Mailbox.{Opens};
 
-use crate::fixtures::{compare, told};
+use crate::fixtures::{LOOKS, compare, rest, told};
 use crate::plain_mail::{PlainMail, Reply, Step};
 use std::alloc::{AllocError, Global};
 use std::marker::Brand;
@@ -12,7 +12,7 @@ use std::sync::ledger::Blank;
 use std::test::Fail;
 use std::thread;
 use std::thread::Threads;
-use std::time::{Clock, Duration};
+use std::time::Clock;
 use tower_base::latch::{Log, LogTable, Logged, Pass};
 use tower_pool::buffer::{MailCore, MailReply, MailStep};
 
@@ -27,14 +27,6 @@ const STRIDE: u64 = 1000;
 
 // What is sent by all senders.
 const ALL: u64 = SENDERS * SENDS;
-
-// So often does one look before it gives up.
-const LOOKS: u32 = 100_000;
-
-// Between two looks.
-fn rest<R: Clock>(rt: &R) {
-    thread::sleep(rt, Duration::from_micros(100));
-}
 
 #[test]
 fn seven_steps_of_two_passes(rt: HostRuntime) -> Result<(), Fail> {

@@ -2,7 +2,7 @@
 ghost use Rattle.std.specs.Prelude.{◌≡◌, Some};
 ghost use Rattle.tower_limit.specs.LineCore.{Opens};
 
-use crate::fixtures::{compare, told};
+use crate::fixtures::{LOOKS, compare, rest, told};
 use crate::plain_line::PlainLine;
 use std::alloc::{AllocError, Global};
 use std::marker::Brand;
@@ -12,43 +12,63 @@ use std::sync::ledger::Blank;
 use std::test::Fail;
 use std::thread;
 use std::thread::Threads;
+use std::time::Clock;
 use tower_base::latch::{Log, LogTable, Logged, Pass};
 use tower_limit::limit::concurrency::{LineCore, LineReply, LineStep};
 
 const ROUNDS: u32 = 1000;
 
-const LOOKS: u32 = 100;
-
-// Asks for a permit, and looks for it a while. It asks how many are free, and gives back what it has.
-fn round<K: Log<LineCore>, R: Wait + Drop>(
+// Waits for a permit, asks how many are free, and gives back what it has. Whether it had a permit.
+fn round<K: Log<LineCore>, R: Clock + Wait + Drop>(
+    rt: &R,
     log: &Logged<LineCore, K, R>,
     pass: &mut Pass<LineCore, K>,
-) -> Result<(), AllocError> {
+) -> Result<bool, AllocError> {
     let mut reply = log.step(pass, LineStep::Join)?.reply;
     for _ in 0..LOOKS {
         let LineReply::Waiting(key) = reply else {
             break;
         };
-        thread::yield_now();
+        rest(rt);
         reply = log.step(pass, LineStep::Look(key))?.reply;
     }
+    if reply != LineReply::Granted {
+        return Ok(false);
+    }
     log.step(pass, LineStep::Free)?;
-    match reply {
-        LineReply::Granted => log.step(pass, LineStep::Release)?,
-        LineReply::Waiting(key) => log.step(pass, LineStep::Cancel(key))?,
-        _ => return Ok(()),
-    };
-    Ok(())
+    log.step(pass, LineStep::Release)?;
+    Ok(true)
 }
 
-fn rounds<K: Log<LineCore>, R: Wait + Drop>(
+// All rounds, or those before the first that gave up.
+fn rounds<K: Log<LineCore>, R: Clock + Wait + Drop>(
+    rt: &R,
     log: &Logged<LineCore, K, R>,
     mut pass: Pass<LineCore, K>,
 ) -> Result<Pass<LineCore, K>, AllocError> {
     for _ in 0..ROUNDS {
-        round(log, &mut pass)?;
+        if !round(rt, log, &mut pass)? {
+            return Ok(pass);
+        }
     }
     Ok(pass)
+}
+
+// How often a permit was got, or none if more are free than there are.
+fn granted(entries: &[(LineStep, LineReply)]) -> Result<u32, Fail> {
+    let mut granted = 0u32;
+    for (step, reply) in entries {
+        match (*step, *reply) {
+            (LineStep::Free, LineReply::Count(free)) if free > 3 => {
+                return Err("more permits are free than there are".into());
+            }
+            (LineStep::Join | LineStep::Look(_), LineReply::Granted) => {
+                granted = granted.saturating_add(1);
+            }
+            _ => {}
+        }
+    }
+    Ok(granted)
 }
 
 #[test]
@@ -59,7 +79,10 @@ fn eight_threads_three_permits(rt: HostRuntime) -> Result<(), Fail> {
     three_permits::<Brand, _>(rt, alloc, Blank::new(9), table, line)
 }
 
-fn three_permits<K: Log<LineCore> + Send + Sync, R: Threads + Wait + Abort + Copy + Send + Sync>(
+fn three_permits<
+    K: Log<LineCore> + Send + Sync,
+    R: Threads + Clock + Wait + Abort + Copy + Send + Sync,
+>(
     rt: R,
     alloc: Global,
     blank: Blank,
@@ -76,7 +99,7 @@ fn three_permits<K: Log<LineCore> + Send + Sync, R: Threads + Wait + Abort + Cop
     let mut last = passes.pop().ok_or("a pass")?;
     let shared = &log;
     let mut back = Vec::new(alloc);
-    for pass in thread::map_vec(&rt, passes, &|pass| rounds(shared, pass))? {
+    for pass in thread::map_vec(&rt, passes, &|pass| rounds(&rt, shared, pass))? {
         back.push(pass?)?;
     }
     let free = log.step(&mut last, LineStep::Free)?;
@@ -88,13 +111,6 @@ fn three_permits<K: Log<LineCore> + Send + Sync, R: Threads + Wait + Abort + Cop
     compare(alloc, entries, &receipts)?;
     let line = PlainLine::replay(alloc, 3, entries)?;
     assert_eq!(rt; line.free(), 3);
-    let mut looks = 0u32;
-    for (step, reply) in entries {
-        if let (LineStep::Free, LineReply::Count(free)) = (*step, *reply) {
-            assert!(rt; free <= 3);
-            looks = looks.saturating_add(1);
-        }
-    }
-    assert_eq!(rt; looks, 8 * ROUNDS + 1);
+    assert_eq!(rt; granted(entries)?, 8 * ROUNDS);
     Ok(())
 }

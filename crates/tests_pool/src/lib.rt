@@ -2,8 +2,6 @@
 #![tactic(auto)]
 
 #[cfg(test)]
-mod cache_story;
-#[cfg(test)]
 mod mail_core;
 #[cfg(test)]
 mod plain_cache;

@@ -1,5 +1,6 @@
 -- What the law of retries says of a service that refuses 0 and a policy that asks for 1 in its place.
 use Rattle.std.proofs.Common.{◌≡◌, ℕ, zero, suc, Option, Some, None, Result, Ok, Err, List, [], ◌∷◌, refl, subst, inl, inr, ◌∙◌}
+use Rattle.std.specs.declared.clone.Clone.{Ghosts as CloneOf}
 use Rattle.futures.specs.declared.task.Poll.{Poll}
 use Rattle.futures.specs.declared.task.Poll.TheVariants.{Ready}
 use Rattle.tower_base.specs.Answers.{answered}
@@ -90,7 +91,7 @@ module _ {P S F W : Type 0} (s : ServiceOf S ℕ ℕ ℕ F) (stepped : F → Pol
       let at = subst (λ (r : Result ℕ ℕ). Retries s stepped p waited attempt.word old r again new) (result_of 0 request old attempt has tried) retries in
       second_attempted (next ∷ rest) again new output (first_retries old new attempt.word again has at) more
 
-  pub is_second : (policy_clone : P → P → Type 0) (service_clone : S → S → Type 0) (old new : RetryView P S) (future : ResponseFutureView P S ℕ F W)
+  pub is_second : (policy_clone : CloneOf P) (service_clone : CloneOf S) (old new : RetryView P S) (future : ResponseFutureView P S ℕ F W)
       (output : Result ℕ (Error ℕ)) → Called s p policy_clone service_clone old 0 future new → IsAnswer s stepped p waited 0 future output → IsSecond output
   is_second policy_clone service_clone old new (Some first) output call (attempts, attempted) =
       let copy = copies _ _ 0 call.kept call.copied in

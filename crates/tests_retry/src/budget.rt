@@ -1,4 +1,4 @@
-//! `tower::retry::budget`: deposits and withdrawals by hand, at a core, behind a lock and through clones.
+//! `tower::retry::budget`: a core by hand and beside a list, the lock's writes, and one step for each.
 
 use std::alloc::{AllocError, AllocGlobal};
 use std::cell::Cell;
@@ -62,37 +62,6 @@ fn plays<R: Wait + Abort + AllocGlobal + Copy>(
     Ok(())
 }
 
-#[test]
-fn a_deposit_counts_for_ten_windows(rt: HostRuntime) -> Result<(), Fail> {
-    let whole = Fraction::new(1, 1);
-    let at_the_end = [Put(0), Take(10 * SECOND, true)];
-    plays(rt, 0, 10 * SECOND, 0, whole, &at_the_end)?;
-    let past_it = [Put(0), Take(10 * SECOND + 1, false)];
-    plays(rt, 0, 10 * SECOND, 0, whole, &past_it)?;
-    let long_past_it = [
-        Put(0),
-        Take(u64::MAX, false),
-        Take(0, false),
-        Put(0),
-        Take(5, true),
-    ];
-    plays(rt, 0, 10 * SECOND, 0, whole, &long_past_it)?;
-    let windows = [
-        (9, true),
-        (10, true),
-        (11, false),
-        (12, false),
-        (20, false),
-        (21, false),
-        (22, false),
-    ];
-    for (count, answer) in windows {
-        let past = [Put(0), Take(count * SECOND, answer)];
-        plays(rt, 0, 10 * SECOND, 0, whole, &past)?;
-    }
-    Ok(())
-}
-
 // A deposit in each of eleven generations counts, and then goes with its own.
 #[test]
 fn eleven_generations_count(rt: HostRuntime) -> Result<(), Fail> {
@@ -116,70 +85,6 @@ fn eleven_generations_count(rt: HostRuntime) -> Result<(), Fail> {
 }
 
 #[test]
-fn gaps_round_up(rt: HostRuntime) -> Result<(), Fail> {
-    let all = [
-        Put(0),
-        Put(1100 * MS),
-        Put(2200 * MS),
-        Put(3300 * MS),
-        Put(4400 * MS),
-        Put(5500 * MS),
-        Take(6600 * MS, false),
-    ];
-    plays(rt, 0, 10 * SECOND, 0, Fraction::new(1, 6), &all)
-}
-
-#[test]
-fn fractions_below_and_above_one(rt: HostRuntime) -> Result<(), Fail> {
-    let half = [
-        Put(7),
-        Take(7, false),
-        Put(7),
-        Take(7, true),
-        Take(7, false),
-    ];
-    plays(rt, 7, 10 * SECOND, 0, Fraction::new(1, 2), &half)?;
-    let twice = [Put(7), Take(7, true), Take(7, true), Take(7, false)];
-    plays(rt, 7, 10 * SECOND, 0, Fraction::new(2, 1), &twice)?;
-    let none = [Put(7), Take(7, false)];
-    plays(rt, 7, 10 * SECOND, 0, Fraction::new(0, 1), &none)?;
-    let reserve = [Put(7), Take(7, true), Take(7, false)];
-    plays(rt, 7, SECOND, 1, Fraction::new(0, 3), &reserve)
-}
-
-#[test]
-fn later_deposits_count_where_the_first_no_longer_does(rt: HostRuntime) -> Result<(), Fail> {
-    let all = [
-        Put(0),
-        Put(0),
-        Take(901 * MS, true),
-        Put(2902 * MS),
-        Put(3203 * MS),
-        Put(4004 * MS),
-        Take(4004 * MS, true),
-    ];
-    plays(rt, 0, SECOND, 0, Fraction::new(1, 2), &all)
-}
-
-#[test]
-fn an_empty_budget_and_one_left_for_long(rt: HostRuntime) -> Result<(), Fail> {
-    let whole = Fraction::new(1, 1);
-    plays(rt, 0, SECOND, 0, whole, &[Take(0, false)])?;
-    plays(rt, 0, SECOND, 0, whole, &[Put(0), Take(3 * SECOND, false)])
-}
-
-#[test]
-fn the_clock_may_go_back(rt: HostRuntime) -> Result<(), Fail> {
-    let whole = Fraction::new(1, 1);
-    let all = [
-        Put(100 * SECOND),
-        Take(50 * SECOND, true),
-        Take(100 * SECOND, false),
-    ];
-    plays(rt, 100 * SECOND, 10 * SECOND, 0, whole, &all)
-}
-
-#[test]
 fn guarded_keeps_its_writes(rt: HostRuntime) -> Result<(), Fail> {
     let all = [
         Take(0, true),
@@ -192,18 +97,6 @@ fn guarded_keeps_its_writes(rt: HostRuntime) -> Result<(), Fail> {
     plays(rt, 0, SECOND, 5, Fraction::new(1, 1), &all)
 }
 
-// The numbers are those that the budget was made with, and it is made at its clock's moment.
-#[test]
-fn each_budget_has_its_own_numbers(rt: HostRuntime) -> Result<(), Fail> {
-    let whole = Fraction::new(1, 1);
-    for ttl in [37 * SECOND, 60 * SECOND] {
-        plays(rt, 0, ttl, 0, whole, &[Put(0), Take(ttl, true)])?;
-        plays(rt, 0, ttl, 0, whole, &[Put(0), Take(ttl + 1, false)])?;
-    }
-    let later = [Put(150 * MS), Take(1150 * MS, false)];
-    plays(rt, 95 * MS, SECOND, 0, whole, &later)
-}
-
 // How many withdrawals are allowed at this moment, 1400 at most.
 fn allowed<B: Budget>(moment: &Cell<u64>, budget: &mut B, at: u64) -> usize {
     moment.set(at);
@@ -213,66 +106,6 @@ fn allowed<B: Budget>(moment: &Cell<u64>, budget: &mut B, at: u64) -> usize {
         }
     }
     1400
-}
-
-#[test]
-fn thirty_seven_a_second(rt: HostRuntime) -> Result<(), Fail> {
-    let (moment, log) = (Cell::new(0), Log::new(rt.alloc())?);
-    let whole = Fraction::new(1, 1);
-    // 37 times 37
-    for (ttl, count) in [(SECOND, 37), (37 * SECOND, 1369)] {
-        let clock = Hand::new(&log, &moment);
-        let mut budget = TpsBudget::new(rt, rt.alloc(), ttl, 37, whole, clock)?;
-        assert_eq!(rt; allowed(&moment, &mut budget, 0), count);
-    }
-    Ok(())
-}
-
-// Ten a second and one in five.
-fn usual<R: Wait + AllocGlobal + Copy, C: Clock>(
-    rt: R,
-    clock: C,
-) -> Result<TpsBudget<Guarded<BudgetCore, R>, C>, AllocError> {
-    TpsBudget::with_clock(rt, rt.alloc(), clock)
-}
-
-// Before these plays at 5 a hundred withdrawals are allowed.
-fn a_hundred_go_before<B: Budget>(
-    rt: &impl Abort,
-    checks: &Checks,
-    moment: &Cell<u64>,
-    mut budget: B,
-    plays: &[Play],
-) {
-    checks.same(&allowed(moment, &mut budget, 5), &100);
-    act(rt, moment, &mut budget, plays);
-}
-
-#[test]
-fn by_default_a_hundred_retries_in_ten_seconds(rt: HostRuntime) -> Result<(), Fail> {
-    let checks = Checks::new(rt.alloc());
-    let (moment, log) = (Cell::new(5), Log::new(rt.alloc())?);
-    let budget = usual(rt, Hand::new(&log, &moment))?;
-    checks.told(&log, "clock read 5;");
-    let saved = [
-        Put(5),
-        Put(5),
-        Put(5),
-        Put(5),
-        Take(5, false),
-        Put(5),
-        Take(5, true),
-    ];
-    a_hundred_go_before(&rt, &checks, &moment, budget, &saved);
-    moment.set(5);
-    let budget = usual(rt, Hand::new(&log, &moment))?;
-    let past_it = [Take(10 * SECOND + 6, true)];
-    a_hundred_go_before(&rt, &checks, &moment, budget, &past_it);
-    moment.set(5);
-    let budget = usual(rt, Hand::new(&log, &moment))?;
-    let at_the_end = [Take(10 * SECOND + 5, false)];
-    a_hundred_go_before(&rt, &checks, &moment, budget, &at_the_end);
-    checks.verdict()
 }
 
 #[test]
@@ -351,25 +184,21 @@ fn one_latch_step_each(rt: HostRuntime) -> Result<(), Fail> {
     each_is_a_reading_and_a_step(&rt, &log, &moment, latch, Hand::new(&log, &moment))
 }
 
-// The budget's definition for windows of a second and 1/2: a plain list of all amounts that count, each
-// with its generation.
+// The budget's definition for windows of a second and 1/2, made at a moment: a plain list of all amounts
+// that count, each with its generation.
 #[derive(Drop)]
 struct Plain {
+    made: u64,
     generation: u64,
-    moment: u64,
     amounts: Vec<(u64, i64)>,
 }
 
 impl Plain {
     fn advance(&mut self, at: u64) {
-        let gap = at.saturating_sub(self.moment);
-        if gap >= SECOND {
-            let now = self.generation.saturating_add(gap.div_ceil(SECOND));
-            self.amounts
-                .retain(|amount| now <= amount.0.saturating_add(10));
-            self.generation = now;
-            self.moment = at;
-        }
+        let now = self.generation.max(at.saturating_sub(self.made) / SECOND);
+        self.amounts
+            .retain(|amount| now <= amount.0.saturating_add(10));
+        self.generation = now;
     }
 
     fn answer(&mut self, step: BudgetStep) -> Result<BudgetReply, AllocError> {
@@ -405,10 +234,16 @@ fn moved(at: u64, draw: u64) -> u64 {
 
 #[test]
 fn a_hundred_thousand_steps_as_of_the_plain_list(rt: HostRuntime) -> Result<(), Fail> {
-    let mut core = BudgetCore::new(rt.alloc(), 10 * SECOND, 0, Fraction::new(1, 2), 0)?;
+    let mut core = BudgetCore::new(
+        rt.alloc(),
+        10 * SECOND,
+        0,
+        Fraction::new(1, 2),
+        7 * SECOND + 3,
+    )?;
     let mut plain = Plain {
+        made: 7 * SECOND + 3,
         generation: 0,
-        moment: 0,
         amounts: Vec::new(rt.alloc()),
     };
     let (mut seed, mut at) = (1u64, 0u64);

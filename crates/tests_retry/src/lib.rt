@@ -8,10 +8,6 @@ mod backoff;
 #[cfg(test)]
 mod budget;
 #[cfg(test)]
-mod parts;
-#[cfg(test)]
-mod policy;
-#[cfg(test)]
-mod retry;
+mod counting_latch;
 #[cfg(test)]
 mod silent;

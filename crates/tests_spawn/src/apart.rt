@@ -1,6 +1,6 @@
 //! A task in one thread, and its handle in another. Its own service can go to another thread, which a scripted one can't.
 
-use futures::future::{Future, Ready, ready};
+use futures::future::{Ready, ready};
 use futures::task::{Context, Poll, Solo};
 use std::sync::{Mutex, Wait};
 use std::test::Fail;
@@ -46,11 +46,11 @@ impl Service<u16> for ReadyAtTheSecondPoll {
 
 // Where a task lies until the other thread takes it.
 #[derive(Drop)]
-struct Post<T: Future> {
+struct Post<T: Steps> {
     waiting: Mutex<Option<Pollable<T>>>,
 }
 
-impl<T: Future + Drop> Post<T> {
+impl<T: Steps> Post<T> {
     fn take<R: Wait>(&self, rt: &R) -> Option<Pollable<T>> {
         let mut waiting = self.waiting.lock(rt);
         waiting.take()
@@ -58,12 +58,12 @@ impl<T: Future + Drop> Post<T> {
 }
 
 #[derive(Drop)]
-struct Sender<'p, R, T: Future> {
+struct Sender<'p, R, T: Steps> {
     rt: R,
     post: &'p Post<T>,
 }
 
-impl<'p, R: Wait, T: Future + Drop> Executor<T> for Sender<'p, R, T> {
+impl<'p, R: Wait, T: Steps> Executor<T> for Sender<'p, R, T> {
     ghost can_spawn = { λ _ task. T.can_poll task };
 
     fn spawn(&self, task: T) -> Result<(), T> {

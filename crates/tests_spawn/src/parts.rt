@@ -1,7 +1,6 @@
 //! What the tests hand to a `SpawnReady`: executors, and a latch that notes its steps.
-use futures::future::Future;
 use futures::task::{Context, Solo};
-use std::alloc::{AllocError, Global};
+use std::alloc::AllocError;
 use std::cell::{Cell, RefCell};
 use tests_support::log::Log;
 use tests_support::run::stepped;
@@ -10,78 +9,49 @@ use tower_base::latch::Latch;
 use tower_base::latch::held::Pollable;
 use tower_base::service::{Executor, Steps};
 
-/// Tasks that were handed over, the newest last, and how many more there may be.
+/// Where an executor keeps its task for the test.
 #[derive(Drop)]
-pub struct Tasks<T: Future> {
-    waiting: RefCell<Vec<Pollable<T>>>,
-    room: Cell<u8>,
+pub struct Seat<T: Steps> {
+    task: RefCell<Option<Pollable<T>>>,
 }
 
-impl<T: Future + Drop> Tasks<T> {
-    pub fn new(alloc: Global) -> Tasks<T> {
-        Tasks {
-            waiting: RefCell::new(Vec::new(alloc)),
-            room: Cell::new(u8::MAX),
+impl<T: Steps> Seat<T> {
+    pub fn new() -> Seat<T> {
+        Seat {
+            task: RefCell::new(None),
         }
     }
 
-    /// How many tasks are taken before others are given back.
-    pub fn room(&self, room: u8) {
-        self.room.set(room);
-    }
-
-    /// Puts a task there.
-    pub fn put(&self, task: Pollable<T>) {
-        if let Ok(mut waiting) = self.waiting.try_borrow_mut() {
-            let _ = waiting.push(task);
-        }
-    }
-
-    /// The newest task.
     pub fn take(&self) -> Option<Pollable<T>> {
-        match self.waiting.try_borrow_mut() {
-            Ok(mut waiting) => waiting.pop(),
+        match self.task.try_borrow_mut() {
+            Ok(mut task) => task.take(),
             Err(_) => None,
         }
     }
 }
 
-/// Keeps the tasks for the test. It notes each.
-pub struct Spawner<'t, T: Future> {
-    pub log: &'t Log,
-    pub tasks: &'t Tasks<T>,
+/// Keeps one task, and gives any further one back.
+pub struct Sits<'t, T: Steps> {
+    pub seat: &'t Seat<T>,
 }
 
-impl<'t, T: Future> Drop for Spawner<'t, T> {
+impl<'t, T: Steps> Drop for Sits<'t, T> {
     fn drop(self) {
-        let Spawner { log: _, tasks: _ } = self;
+        let Sits { seat: _ } = self;
     }
 }
 
-impl<'t, T: Future> Clone for Spawner<'t, T> {
-    fn clone(&self) -> Result<Spawner<'t, T>, AllocError> {
-        Ok(Spawner {
-            log: self.log,
-            tasks: self.tasks,
-        })
-    }
-}
-
-impl<'t, T: Future + Drop> Executor<T> for Spawner<'t, T> {
+impl<'t, T: Steps> Executor<T> for Sits<'t, T> {
     ghost can_spawn = { λ _ task. T.can_poll task };
 
     fn spawn(&self, task: T) -> Result<(), T> {
-        let room = self.tasks.room.get();
-        let Ok(mut waiting) = self.tasks.waiting.try_borrow_mut() else {
+        let Ok(mut seat) = self.seat.task.try_borrow_mut() else {
             return Err(task);
         };
-        if room == 0 || waiting.reserve(1).is_err() {
-            self.log.note("not spawned");
+        if seat.is_some() {
             return Err(task);
         }
-        self.tasks.room.set(room - 1);
-        self.log.note("spawned");
-        waiting.push_reserved(Pollable::new(task));
+        *seat = Some(Pollable::new(task));
         Ok(())
     }
 }

@@ -17,6 +17,8 @@ pub(crate) enum When<'a> {
     Never,
     // Once the gate of this call is open. Nothing wakes the task.
     Gate(&'a Script<'a>, usize),
+    // Once this call is answered. Nothing wakes the task.
+    Later(&'a Script<'a>, usize),
 }
 
 /// An answer that is there after a count of pending polls. It notes its polls, clones and drop.
@@ -52,6 +54,7 @@ pub(crate) fn plan<'a>(script: &'a Script<'a>, request: u8) -> (When<'a>, Result
         Reply::Give(polls, answer) => (When::Polls(polls), answer),
         Reply::Never => (When::Never, Ok(request)),
         Reply::Gated(answer) => (When::Gate(script, call), answer),
+        Reply::Later => (When::Later(script, call), Ok(request)),
     }
 }
 
@@ -85,12 +88,16 @@ impl<'a, T: Drop> Future for After<'a, T> {
 }
 
 impl<'a, T: Drop> Steps for After<'a, T> {
+    type Output = T;
+
+    ghost can_poll = { λ f. IsSome f.answer };
+
     ghost stepped = { λ old answer new. IfReady answer (λ x. old.answer ≡ Some x) × OnPending answer (new.answer ≡ old.answer) };
 
     fn step(&mut self, cx: &mut Context<'_>) -> Poll<T> {
         let is_there = match self.when {
             When::Polls(polls) => polls == 0,
-            When::Never => false,
+            When::Never | When::Later(_, _) => false,
             When::Gate(script, call) => script.is_open(call),
         };
         if is_there {
@@ -99,7 +106,7 @@ impl<'a, T: Drop> Steps for After<'a, T> {
         }
         self.log.note(format_args!("{} pending", self.name));
         match self.when {
-            When::Gate(_, _) => self.idle.poll(cx),
+            When::Gate(_, _) | When::Later(_, _) => self.idle.poll(cx),
             When::Never => cx.yield_now(),
             When::Polls(polls) => {
                 self.when = When::Polls(polls.saturating_sub(1));
@@ -141,5 +148,86 @@ impl<'a, T: Drop> Drop for After<'a, T> {
         } = self;
         drop(idle);
         drop(answer);
+    }
+}
+
+/// The response of a scripted service. It notes its polls and drop.
+pub struct Response<'a> {
+    log: &'a Log,
+    name: Name,
+    when: When<'a>,
+    idle: Pending<Result<u8, u8>>,
+    answer: Result<u8, u8>,
+}
+
+impl<'a> Response<'a> {
+    // The response to this request.
+    pub(crate) fn new(script: &'a Script<'a>, service: Name, request: u8) -> Response<'a> {
+        let (when, answer) = plan(script, request);
+        Response {
+            log: script.log,
+            name: service.of_future(request),
+            when,
+            idle: pending(),
+            answer,
+        }
+    }
+
+    // The answer, once it is there.
+    fn answer(&self) -> Option<Result<u8, u8>> {
+        match self.when {
+            When::Polls(0) => Some(self.answer),
+            When::Polls(_) | When::Never => None,
+            When::Gate(script, call) => {
+                if script.is_open(call) {
+                    Some(self.answer)
+                } else {
+                    None
+                }
+            }
+            When::Later(script, call) => script.answer_to(call),
+        }
+    }
+}
+
+impl<'a> Future for Response<'a> {
+    type Output = Result<u8, u8>;
+
+    fn poll(&mut self, cx: &mut Context<'_>) -> Poll<Result<u8, u8>> {
+        self.step(cx)
+    }
+}
+
+impl<'a> Steps for Response<'a> {
+    type Output = Result<u8, u8>;
+
+    fn step(&mut self, cx: &mut Context<'_>) -> Poll<Result<u8, u8>> {
+        if let Some(answer) = self.answer() {
+            self.log.note(format_args!("{} ready", self.name));
+            return Poll::Ready(answer);
+        }
+        self.log.note(format_args!("{} pending", self.name));
+        match self.when {
+            When::Gate(_, _) | When::Later(_, _) => self.idle.poll(cx),
+            When::Never => cx.yield_now(),
+            When::Polls(polls) => {
+                self.when = When::Polls(polls.saturating_sub(1));
+                cx.yield_now()
+            }
+        }
+    }
+}
+
+impl<'a> Drop for Response<'a> {
+    fn drop(self) {
+        self.log.note(format_args!("{} dropped", self.name));
+        let Response {
+            log: _,
+            name: _,
+            when: _,
+            idle,
+            answer: _,
+        } = self;
+        drop(idle);
     }
 }

@@ -4,14 +4,13 @@ use crate::checks::Checks;
 use crate::log::Log;
 use crate::run::{called, readiness, stepped, task};
 use crate::slots::{put, take};
-use futures::future::Future;
 use futures::task::{Poll, Solo};
 use std::alloc::{AllocError, AllocGlobal};
 use std::fmt::Display;
 use std::random::RandomSource;
 use std::test::Fail;
 use tower_base::latch::held::Pollable;
-use tower_base::service::Service;
+use tower_base::service::{Service, Steps};
 
 // One act. Services, the first one and its clones, have numbers from 0 on, and so have responses. An act upon what is gone does nothing.
 #[derive(Clone, Copy, Debug)]
@@ -47,7 +46,7 @@ fn act_of(text: &str) -> Option<Act> {
 
 // A response, which has answered or hasn't.
 #[derive(Drop)]
-enum Response<F: Future> {
+enum Response<F: Steps> {
     Open(Pollable<F>),
     Done(F),
 }

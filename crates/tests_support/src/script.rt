@@ -35,6 +35,8 @@ pub enum Reply {
     Never,
     /// This, once the call's gate is open.
     Gated(Result<u8, u8>),
+    /// What the call is answered later, by `Script::answer`. A maker's call has no such answer.
+    Later,
 }
 
 /// The script of a service and its copies. It begins with a service that is always ready and answers each
@@ -47,6 +49,7 @@ pub struct Script<'a> {
     clones: Cell<u8>,
     calls: Cell<usize>,
     gates: Cell<[bool; 8]>,
+    answers: Cell<[Option<Result<u8, u8>>; 8]>,
 }
 
 impl<'a> Script<'a> {
@@ -58,6 +61,7 @@ impl<'a> Script<'a> {
             clones: Cell::new(u8::MAX),
             calls: Cell::new(0),
             gates: Cell::new([false; 8]),
+            answers: Cell::new([None; 8]),
         }
     }
 
@@ -83,6 +87,22 @@ impl<'a> Script<'a> {
             gates[call] = true;
         }
         self.gates.set(gates);
+    }
+
+    /// Answers the call of this number from 0 on, below 8, if it was made and has no answer yet.
+    pub fn answer(&self, call: usize, answer: Result<u8, u8>) -> bool {
+        let mut answers = self.answers.get();
+        if call >= 8 || call >= self.calls.get() || answers[call].is_some() {
+            return false;
+        }
+        answers[call] = Some(answer);
+        self.answers.set(answers);
+        true
+    }
+
+    pub(crate) fn answer_to(&self, call: usize) -> Option<Result<u8, u8>> {
+        let answers = self.answers.get();
+        *answers.get(call)?
     }
 
     pub(crate) fn is_open(&self, call: usize) -> bool {

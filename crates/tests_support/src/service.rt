@@ -1,14 +1,15 @@
 //! A service that follows a script, and a maker of such services.
-ghost use Rattle.std.specs.Prelude.{◌≡◌, Ok, true, refl, IsSome};
+ghost use Rattle.std.specs.Prelude.{◌≡◌, ⊤, Ok, true, refl, IsSome};
 ghost use Rattle.futures.specs.Poll.{OnPending};
 ghost use Rattle.futures.specs.Task.{IsArmed, Keeps};
 ghost use Rattle.futures.specs.declared.task.Poll.TheVariants.{Ready};
 
-use crate::future::{After, plan, planned};
+use crate::future::{After, Response, plan, planned};
 use crate::log::Name;
 use crate::script::{Mood, Script, told_clone};
 use futures::task::{Context, Poll};
 use std::alloc::AllocError;
+use std::fmt::{self, Display};
 use tower_base::service::Service;
 
 /// A service that does what its script says. It notes its polls, calls, clones and drop, and where a call
@@ -63,13 +64,13 @@ impl<'a> Service<u8> for Scripted<'a> {
 
     type Error = u8;
 
-    type Future = After<'a, Result<u8, u8>>;
+    type Future = Response<'a>;
 
     ghost ready = { λ s. s.is_ready ≡ true };
 
     ghost polled = { λ old answer new. (answer ≡ Ready (Ok tt)) → (new.is_ready ≡ true) };
 
-    ghost called = { λ _ _ future _. IsSome future.answer };
+    ghost called = { λ _ _ _ _. ⊤ };
 
     ghost readies = { λ old new p. p refl };
 
@@ -79,11 +80,10 @@ impl<'a> Service<u8> for Scripted<'a> {
         answer
     }
 
-    fn call(&mut self, request: u8) -> After<'a, Result<u8, u8>> {
+    fn call(&mut self, request: u8) -> Response<'a> {
         told_call(self.script, self.name, request, self.is_ready);
         self.is_ready = false;
-        let (when, answer) = plan(self.script, request);
-        planned(self.script.log, self.name, request, when, answer)
+        Response::new(self.script, self.name, request)
     }
 }
 
@@ -95,6 +95,12 @@ impl<'a> Clone for Scripted<'a> {
             name,
             is_ready: false,
         })
+    }
+}
+
+impl Display for Scripted<'_> {
+    fn fmt<W: fmt::Write>(&self, f: &mut fmt::Formatter<W>) -> fmt::Result {
+        write!(f, "{}", self.name)
     }
 }
 

@@ -28,7 +28,8 @@ fn limits<E: Clone + Copy + PartialEq>(inner: E) -> Result<bool, AllocError>
             && equals(retry::Error::Inner(inner))?
             && equals(timeout::Error::Inner(inner))?
             && equals(load_shed::Error::Inner(inner))?
-            && equals(call_all::Error::Inner(inner))?,
+            && equals(call_all::Error::Inner(inner))?
+            && equals(buffer::Error::Inner(inner))?,
     )
 }
 

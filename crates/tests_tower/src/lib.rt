@@ -1,11 +1,9 @@
-//! Tests of `tower::ServiceBuilder`: what each of its methods adds.
+//! Tests of `tower::ServiceBuilder` and of the methods that wait: what no script asks.
 #![tactic(auto)]
 
-#[cfg(test)]
-mod buffers;
 #[cfg(test)]
 mod builder;
 #[cfg(test)]
 mod clones;
 #[cfg(test)]
-mod limits;
+mod waits;

@@ -7,9 +7,9 @@ use tests_support::checks::Checks;
 use tests_support::log::Log;
 use tests_support::run::{fire, stepped, task};
 use tests_support::script::{Mood, Reply, Script};
-use tests_support::service::{Maker, Place, Scripted};
+use tests_support::service::{Maker, Place};
 use tower_base::service::{Service, Steps};
-use tower_util::make::{MakeService, Shared};
+use tower_util::make::MakeService;
 
 // What a maker makes at the first poll.
 fn made<M: MakeService<Target, u8>, Target: Drop>(
@@ -119,38 +119,5 @@ fn maker_makes_once_it_was_found_ready_by_a_loan(rt: HostRuntime) -> Result<(), 
         &log,
         "m pending;p dropped;m ready;m called 6;q dropped;m(6) ready;a1 dropped;",
     );
-    checks.verdict()
-}
-
-#[test]
-fn maker_is_a_service_by_value_and_by_reference(rt: HostRuntime) -> Result<(), Fail> {
-    let checks = Checks::new(rt.alloc());
-    let log = Log::new(rt.alloc())?;
-    let script = Script::new(&log);
-    let solo = task(&rt)?;
-    let mut shared = Shared::new(Scripted::new(&script, 'a'));
-    let lent = MakeService::<u8, u8>::as_service(&mut shared);
-    checks.holds(matches!(fire(&solo, lent, 1u8), Some(Ok(_))));
-    let service = MakeService::<u8, u8>::into_service(shared);
-    let copy = service.clone()?;
-    checks.holds(matches!(fire(&solo, service, 1u8), Some(Ok(_))));
-    drop(copy);
-    checks.told(
-        &log,
-        "a cloned a1;a1 dropped;a cloned a2;a cloned a3;a dropped;a3 dropped;a2 dropped;",
-    );
-    checks.verdict()
-}
-
-#[test]
-fn refused_clone_of_a_maker_is_handed_on(rt: HostRuntime) -> Result<(), Fail> {
-    let checks = Checks::new(rt.alloc());
-    let log = Log::new(rt.alloc())?;
-    let script = Script::new(&log);
-    script.clones(0);
-    let service = MakeService::<u8, u8>::into_service(Shared::new(Scripted::new(&script, 'a')));
-    checks.holds(service.clone().is_err());
-    drop(service);
-    checks.told(&log, "a refused;a dropped;");
     checks.verdict()
 }

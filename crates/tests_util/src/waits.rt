@@ -1,19 +1,21 @@
 //! Waiting on the calling thread for a borrowed service, and for its responses.
 
 use futures::future::{Ready, ok};
+use futures::task::{Context, Poll};
 use std::alloc::AllocGlobal;
+use std::cell::Cell;
 use std::convert::Infallible;
 use std::random::RandomSource;
 use std::sync::Wait;
 use std::sync::atomic::{AtomicU64, Ordering};
 use std::test::Fail;
-use std::time::{Clock, Duration};
+use std::time::{Clock, Duration, Instant};
 use std::{io, thread};
 use tests_support::checks::Checks;
 use tests_support::log::Log;
 use tests_support::script::{Mood, Reply, Script};
 use tests_support::service::Scripted;
-use tower_base::service::Service;
+use tower_base::service::{Service, Steps};
 use tower_limit::limit::ConcurrencyLimit;
 use tower_limit::limit::concurrency::Semaphore;
 use tower_util::util::{block_on_call, block_on_each, block_on_ready, service_fn};
@@ -145,5 +147,77 @@ fn waker_of_another_thread_ends_the_wait(rt: HostRuntime) -> Result<(), Fail> {
     );
     checks.holds(answered?);
     checks.same(&semaphore.available_permits(), &1);
+    checks.verdict()
+}
+
+const MANY: u32 = 100;
+
+// Readiness is pending for so many polls, and so is each response.
+#[derive(Drop)]
+struct Slow {
+    left: u32,
+}
+
+impl Service<u8> for Slow {
+    type Response = u8;
+
+    type Error = u8;
+
+    type Future = Late;
+
+    ghost readies = { λ _ _ _. tt };
+
+    fn poll_ready(&mut self, cx: &mut Context<'_>) -> Poll<Result<(), u8>> {
+        if self.left > 0 {
+            self.left -= 1;
+            return cx.yield_now();
+        }
+        Poll::Ready(Ok(()))
+    }
+
+    fn call(&mut self, request: u8) -> Late {
+        Late {
+            left: MANY,
+            answer: request,
+        }
+    }
+}
+
+#[derive(Drop)]
+struct Late {
+    left: u32,
+    answer: u8,
+}
+
+impl Steps for Late {
+    type Output = Result<u8, u8>;
+
+    fn step(&mut self, cx: &mut Context<'_>) -> Poll<Result<u8, u8>> {
+        if self.left > 0 {
+            self.left -= 1;
+            return cx.yield_now();
+        }
+        Poll::Ready(Ok(self.answer))
+    }
+}
+
+// However often a poll is pending, the wait doesn't give up. The thread sleeps before it polls again what only woke itself: a
+// millisecond but for the first five times.
+#[test]
+fn wait_outlasts_many_pending_polls(rt: HostRuntime) -> Result<(), Fail> {
+    let checks = Checks::new(rt.alloc());
+    let start = Instant::now(&rt)?;
+    let mut service = Slow { left: MANY };
+    checks.same(&block_on_ready::<_, _, u8>(&mut service, &rt)?, &Ok(()));
+    checks.holds(start.elapsed(&rt)?.as_millis() >= 95);
+    service.left = MANY;
+    checks.same(&block_on_call(&mut service, &rt, 7)?, &Ok(7));
+    let sum = Cell::new(0u8);
+    service.left = MANY;
+    let requests = vec![in rt.alloc(); 7u8, 8]?;
+    block_on_each(&mut service, &rt, requests, |answer: Result<u8, u8>| {
+        sum.set(sum.get().wrapping_add(answer.unwrap_or(0)));
+    })?;
+    checks.same(&sum.get(), &15);
     checks.verdict()
 }

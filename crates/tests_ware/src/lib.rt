@@ -1,4 +1,4 @@
-//! Tests of `tower::{filter, load_shed, reconnect, steer, timeout}` and of streams of calls.
+//! Tests of `tower::{filter, load_shed, reconnect, steer, timeout}` and of streams of calls, of what no script asks.
 #![tactic(auto)]
 
 #[cfg(test)]

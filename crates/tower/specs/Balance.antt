@@ -16,6 +16,7 @@ use Rattle.tower_limit.specs.Discover.{Found, MayInsert}
 use Rattle.tower_limit.specs.declared.discover.Change.TheVariants.{Insert, Remove}
 use Rattle.tower_pool.specs.ReadyCache.{At, Called as CacheCalled, Checked, ReadyCacheView, Sound as CacheSound, cancel, waiting}
 use Rattle.tower_pool.specs.ReadyCachePoll.{ByTest, PendingPolled}
+use Rattle.tower_util.specs.Fuse.{Stepped as FuseStepped}
 use Rattle.tower.specs.declared.balance.p2c.service.Balance.{Balance}
 use Rattle.tower.specs.declared.balance.error.Error.{Error}
 use Rattle.tower.specs.declared.balance.error.Error.TheVariants.{Discover, Inner, Memory}
@@ -34,7 +35,7 @@ pub record BalanceView (D R K S : Type 0) : Type 0 where
 
 -- what it shows
 abbrev pub view_of : {D R Q K S X : Type 0} → Balance D R Q K S X → BalanceView D R K S
-view_of b = record { discover = b.discover; services = b.services; kept = b.kept; rng = b.rng; change = b.change; is_over = b.is_over }
+view_of b = record { discover = b.discover; services = b.services.lists; kept = b.kept; rng = b.rng; change = b.change; is_over = b.is_over }
 
 -- a new one
 abbrev pub fresh : {D R K S : Type 0} → D → R → BalanceView D R K S
@@ -199,13 +200,13 @@ IsReady ready v = MatchOption v.kept ⊥ (λ i. At v.services.ready i (λ e. rea
 
 module _ {D R K S Q A E G : Type 0} (eq : K → K → Bool) (s : ServiceOf S Q A E G) where
   -- a call goes to the kept index, which is then kept no more
-  abbrev pub Called : BalanceView D R K S → Q → G → BalanceView D R K S → Type 0
-  Called old request future new =
-      MatchOption old.kept ⊥ (λ i. CacheCalled eq s old.services i request future new.services × (new ≡ record old { services = new.services; kept = None }))
+  abbrev pub Called : BalanceView D R K S → Q → Option G → BalanceView D R K S → Type 0
+  Called old request future new = MatchOption old.kept ⊥ (λ i. (inner : G) × CacheCalled eq s old.services i request inner new.services
+      × (future ≡ Some inner) × (new ≡ record old { services = new.services; kept = None }))
 
 module _ {F A E X : Type 0} (f : StepsOf F (Result A E)) where
-  -- a poll of the response of an endpoint, whose error is marked
-  pub record Stepped (old : F) (answer : Poll (Result A (Error E X))) (new : F) : Type 0 where
+  -- a poll of the response of an endpoint, whose error is marked; with its answer the response is dropped
+  pub record Stepped (old : Option F) (answer : Poll (Result A (Error E X))) (new : Option F) : Type 0 where
     pub inner : Poll (Result A E)
-    pub stepped : f.stepped old inner new
+    pub stepped : FuseStepped f.stepped old inner new
     pub answers : answer ≡ answered Inner inner

@@ -17,11 +17,6 @@ pub record MakeBalanceView (M R : Type 0) : Type 0 where
   pub maker : M
   pub rng : R
 
--- what constructors make: the maker is sound, and clones of keys equal what was cloned
-pub record Sound {M R K : Type 0} (sound : M → Type 0) (is_clone : K → K → Type 0) (v : MakeBalanceView M R) : Type 0 where
-  pub maker : sound v.maker
-  pub clones : (x y : K) → is_clone x y → y ≡ x
-
 -- a clone has clones of both parts
 abbrev pub IsClone : {M R : Type 0} → (M → M → Type 0) → (R → R → Type 0) → MakeBalanceView M R → MakeBalanceView M R → Type 0
 IsClone maker rng old new = maker old.maker new.maker × rng old.rng new.rng
@@ -41,10 +36,10 @@ module _ {M T D E F R : Type 0} (m : ServiceOf M T D E F) where
   Called is_clone old target Refused new = new ≡ old
 
 -- what may be polled: a discovery that may be, whose balancer wasn't made yet, or a refusal
-abbrev pub CanPoll : {F R K : Type 0} → (F → Type 0) → (K → K → Type 0) → State F R → Type 0
-CanPoll {K = K} can_poll is_clone (Asked f (Some rng)) = can_poll f × ((x y : K) → is_clone x y → y ≡ x)
-CanPoll can_poll is_clone (Asked f None) = ⊥
-CanPoll can_poll is_clone Refused = Unit {0}
+abbrev pub CanPoll : {F R : Type 0} → (F → Type 0) → State F R → Type 0
+CanPoll can_poll (Asked f (Some rng)) = can_poll f
+CanPoll can_poll (Asked f None) = ⊥
+CanPoll can_poll Refused = Unit {0}
 
 module _ {F D E R Q K S X : Type 0} (f : StepsOf F (Result D E)) where
   -- a discovery that is there gets its balancer, which draws by the generator

@@ -9,6 +9,7 @@ use Rattle.tower_base.specs.declared.latch.Latch.{Ghosts as LatchOf}
 use Rattle.tower_base.specs.declared.service.Executor.{Ghosts as ExecutorOf}
 use Rattle.tower_base.specs.declared.service.Service.{Ghosts as ServiceOf}
 use Rattle.tower_base.specs.declared.service.Steps.{Ghosts as StepsOf}
+use Rattle.tower_util.specs.Fuse.{Stepped as FuseStepped}
 use Rattle.tower.specs.declared.spawn_ready.error.Error.{Error}
 use Rattle.tower.specs.declared.spawn_ready.error.Error.TheVariants.{Inner, Memory, Gone, NotSpawned}
 use Rattle.tower.specs.declared.spawn_ready.slot_core.Slot.{Slot}
@@ -64,6 +65,10 @@ module _ {S E L : Type 0} (l : LatchOf L (Slot S E) (SlotStep S E) (SlotReply S 
   abbrev pub StepMade : L → SlotStep S E → Type 0
   StepMade latch step = (reply : SlotReply S E) × l.gave latch step reply
 
+  -- a look for an abort was made there, and found none
+  abbrev pub IsWaitedFor : L → Type 0
+  IsWaitedFor latch = (reply : SlotReply S E) × l.gave latch Aborted reply × (tells reply ≡ false)
+
   module _ {Q A F : Type 0} (s : ServiceOf S Q A E F) where
     -- after the service's poll: one that is ready, or its error, goes into the slot, and the task has neither any more
     abbrev pub AfterReadiness : Held S L → S → Poll (Result (Unit {0}) E) → Poll (Unit {0}) → Option (Held S L) → Type 0
@@ -100,15 +105,17 @@ module _ {S Q A E F L X : Type 0} (s : ServiceOf S Q A E F) (l : LatchOf L (Slot
   Looks old answer new = (reply : SlotReply S E) × l.gave old.latch Look reply × AfterReply old reply answer new
 
   -- the slot begins to run, unless it runs already
-  abbrev pub Starts : Bool → L → Type 0
-  Starts true latch = Unit {0}
-  Starts false latch = StepMade l latch Start
+  abbrev pub StartsAt : Bool → L → Type 0
+  StartsAt true latch = Unit {0}
+  StartsAt false latch = StepMade l latch Start
+
+  abbrev pub Starts : SpawnReadyView S X L → SpawnReadyView S X L → Type 0
+  Starts old new = StartsAt old.is_running old.latch × (new ≡ record old { is_running = true })
 
   -- a task that is given back has the service still
   abbrev pub AfterSpawn : SpawnReadyView S X L → S → Result (Unit {0}) (ReadyTask S Q E L A F) → Answer → SpawnReadyView S X L → Type 0
-  AfterSpawn old service (Ok u) answer new = (answer ≡ None) × (new ≡ record old { service = None; is_running = true })
-  AfterSpawn old service (Err task) answer new = (answer ≡ Some (Ready (Err NotSpawned)))
-      × (new ≡ record old { service = Some service; is_running = true })
+  AfterSpawn old service (Ok u) answer new = (answer ≡ None) × (new ≡ record old { service = None })
+  AfterSpawn old service (Err task) answer new = (answer ≡ Some (Ready (Err NotSpawned))) × (new ≡ record old { service = Some service })
 
   -- the share is refused, and the service is kept
   pub record Refused (old : SpawnReadyView S X L) (service : S) (answer : Answer) (new : SpawnReadyView S X L) : Type 0 where
@@ -117,17 +124,23 @@ module _ {S Q A E F L X : Type 0} (s : ServiceOf S Q A E F) (l : LatchOf L (Slot
     pub answers : answer ≡ Some (Ready (Err Memory))
     pub same : new ≡ record old { service = Some service }
 
-  -- the share is made, and a task with it and the service is handed over
-  pub record Spawns (old : SpawnReadyView S X L) (service : S) (answer : Answer) (new : SpawnReadyView S X L) : Type 0 where
-    pub share : L
-    pub shared : l.shares old.latch (Ok share)
-    pub shares : (step : SlotStep S E) (reply : SlotReply S E) → l.gave share step reply → l.gave old.latch step reply
-    pub starts : Starts old.is_running old.latch
+  -- a task with the share and the service is handed over, while the slot runs
+  pub record HandsTo (old : SpawnReadyView S X L) (share : L) (service : S) (answer : Answer) (new : SpawnReadyView S X L) : Type 0 where
+    pub runs : old.is_running ≡ true
     pub task : ReadyTask S Q E L A F
     pub holds : held_of task ≡ Some (record { service = service; latch = share })
     pub taken : Result (Unit {0}) (ReadyTask S Q E L A F)
     pub spawned : x.spawned old.executor task taken
     pub after : AfterSpawn old service taken answer new
+
+  -- the share is made, the slot runs, and then the task is handed over
+  pub record Spawns (old : SpawnReadyView S X L) (service : S) (answer : Answer) (new : SpawnReadyView S X L) : Type 0 where
+    pub share : L
+    pub shared : l.shares old.latch (Ok share)
+    pub shares : (step : SlotStep S E) (reply : SlotReply S E) → l.gave share step reply → l.gave old.latch step reply
+    pub running : SpawnReadyView S X L
+    pub starts : Starts (record old { service = None }) running
+    pub hands : HandsTo running share service answer new
 
   abbrev pub HandsOver : SpawnReadyView S X L → S → Answer → SpawnReadyView S X L → Type 0
   HandsOver old service answer new = Refused old service answer new ⊎ Spawns old service answer new
@@ -153,15 +166,17 @@ module _ {S Q A E F L X : Type 0} (s : ServiceOf S Q A E F) (l : LatchOf L (Slot
 
 module _ {S Q A E F : Type 0} (s : ServiceOf S Q A E F) where
   -- a call: one call of the service, which is here and ready
-  pub record Called {X L : Type 0} (old : SpawnReadyView S X L) (request : Q) (future : F) (new : SpawnReadyView S X L) : Type 0 where
+  pub record Called {X L : Type 0} (old : SpawnReadyView S X L) (request : Q) (future : Option F) (new : SpawnReadyView S X L) : Type 0 where
     pub service : S
     pub left : S
+    pub inner : F
     pub here : old.service ≡ Some service
     pub ready : s.ready service
-    pub called : s.called service request future left
+    pub called : s.called service request inner left
+    pub response : future ≡ Some inner
     pub same : new ≡ record old { service = Some left }
 
 module _ {F A E : Type 0} (f : StepsOf F (Result A E)) where
-  -- a poll of the future: one poll of the response, whose error is marked
-  abbrev pub Stepped : F → Poll (Result A (Error E)) → F → Type 0
-  Stepped old answer new = (inner : Poll (Result A E)) × f.stepped old inner new × (answer ≡ answered Inner inner)
+  -- a poll of the future: one poll of the response, whose error is marked; with its answer the response is dropped
+  abbrev pub Stepped : Option F → Poll (Result A (Error E)) → Option F → Type 0
+  Stepped old answer new = (inner : Poll (Result A E)) × FuseStepped f.stepped old inner new × (answer ≡ answered Inner inner)

@@ -32,7 +32,7 @@ module _ {S Q A E F L X : Type 0} (s : ServiceOf S Q A E F) (l : LatchOf L (Slot
   after_spawn old new service (Err task) h = let e = h.0 in cc
 
   hands_over : (old new : SpawnReadyView S X L) (service : S) → HandsOver s l x old service (Some (Ready (Ok tt))) new → ⊥
-  hands_over old new service h = ⊎_elim (λ r. let e = r.answers in cc) (λ p. after_spawn old new service p.taken p.after) h
+  hands_over old new service h = ⊎_elim (λ r. let e = r.answers in cc) (λ p. after_spawn p.running new service p.hands.taken p.hands.after) h
 
   after_poll : (old new : SpawnReadyView S X L) (service left : S) (answer : Poll (Result (Unit {0}) E)) → s.polled service answer left
       → AfterPoll s l x old left answer (Some (Ready (Ok tt))) new → IsSomeAnd new.service s.ready

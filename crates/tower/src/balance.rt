@@ -1,6 +1,6 @@
 //! A balancer over endpoints that come and go: the Rust's `tower::balance`.
 
-mod error;
+pub mod error;
 pub mod p2c;
 
 pub use error::{Error, MakeError};

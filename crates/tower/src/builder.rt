@@ -116,6 +116,7 @@ impl<L> ServiceBuilder<L> {
     /// `Rate::fits` tests.
     pub fn rate_limit<C: Clock>(
         self,
+        alloc: Global,
         num: u64,
         per: u64,
         clock: C,
@@ -124,7 +125,7 @@ impl<L> ServiceBuilder<L> {
         requires per { per ≢ 0 }
         ensures { result ≡ record { inner = record { num = num; per = per; clock = clock }; outer = self } }
     {
-        self.layer(RateLimitLayer::new(num, per, clock))
+        self.layer(RateLimitLayer::new(alloc, num, per, clock))
     }
 
     /// Answers `Overloaded` where what is inside isn't ready.

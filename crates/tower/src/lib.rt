@@ -17,4 +17,4 @@ pub use tower_retry::{hedge, retry};
 pub use tower_util::make;
 pub use tower_util::make::MakeService;
 pub use tower_ware::{filter, load_shed, reconnect, steer, timeout};
-pub use util::{ServiceExt, service_fn};
+pub use util::{BlockOnExt, ServiceExt, service_fn};

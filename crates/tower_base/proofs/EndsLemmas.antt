@@ -1,6 +1,6 @@
 -- What the calls of `Links` keep, over plain slabs and ends.
 use Rattle.std.proofs.Common.{◌≡◌, ℕ, ◌+◌, ◌<◌, ◌≤◌, true, false, eqb, [], ◌∷◌, ◌++◌, length, Option, Some, None, refl, sym, ap, subst, ◌∙◌}
-use Rattle.std.proofs.Common.{OnSome, IfNone, IsSome, List, arith}
+use Rattle.std.proofs.Common.{OnSome, IfNone, IsSome, arith}
 use Rattle.slab.specs.Slab.{Slab, get, slab_len, ContainsKey, Updates, with_value}
 use Rattle.slab.proofs.SlabLemmas.{Updates-with_value}
 use Rattle.tower_base.specs.declared.links.cells.Place.{Place}

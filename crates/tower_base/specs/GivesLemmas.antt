@@ -1,12 +1,12 @@
 -- What one poll of a future, stream or other party says of what it may give, yield or answer.
-use Rattle.std.specs.Prelude.{ℕ, suc, zero, List, [], ◌∷◌, Option, Some, None, IfSome}
+use Rattle.std.specs.Prelude.{ℕ, suc, zero, List, [], ◌∷◌, Option, Some, None, IfSome, OnSome}
 use Rattle.futures.specs.declared.task.Poll.{Poll}
 use Rattle.futures.specs.declared.task.Poll.TheVariants.{Ready, Pending}
 use Rattle.futures.specs.Poll.{IfReady, OnPending}
 use Rattle.futures.specs.Task.{Covers, Keeps}
 use Rattle.futures.specs.declared.task.context.Context.{Context}
 use Rattle.futures.specs.Runs.{After, Within}
-use Rattle.tower_base.specs.Gives.{GivesAfter, MayGive, IsStep, GivesOnly, Yields, MayYield, AnswersAfter, MayAnswer}
+use Rattle.tower_base.specs.Gives.{GivesAfter, MayGive, IsStep, GivesOnly, IsFlow, Yields, MayYield, AnswersAfter, MayAnswer}
 
 module _ {F A : Type 0} (stepped : F → Poll A → F → Type 0) where
   -- an answer is an output that the future may give
@@ -26,7 +26,7 @@ module _ {F A : Type 0} (stepped : F → Poll A → F → Type 0) (can_poll : F 
   pub one_step : (old : F) (answer : Poll A) (new : F) (before after : Context) → stepped old answer new → OnPending answer (can_poll new)
       → OnPending answer (Covers after (needs new)) → Keeps before after → IsStep stepped can_poll needs old answer new before after
   one_step old (Ready x) new before after s a r k = (s, gives_value stepped old (Ready x) new s, k)
-  one_step old Pending new before after s a r k = (s, a, gives_same stepped old Pending new s, r, k)
+  one_step old Pending new before after s a r k = (s, gives_same stepped old Pending new s, r, k, a)
 
 module _ {F A : Type 0} (gives : F → A → Type 0) where
   given_after : (n : ℕ) (f : F) (x : A) → GivesAfter (GivesOnly gives) n f x → gives f x
@@ -62,6 +62,16 @@ module _ {F A : Type 0} (flowed : F → Poll (Option A) → F → Type 0) where
   unfolding MayYield
   yields_same f (Ready o) g s = tt
   yields_same f Pending g s = λ xs last h. later f g s xs last h
+
+module _ {F A : Type 0} (flowed : F → Poll (Option A) → F → Type 0) (can_poll : F → Type 0) (needs : F → ℕ → Type 0) where
+  -- one flow is a poll: name this by `using` on a `poll_next` that is `self.flow(cx)`
+  pub one_flow : (old : F) (answer : Poll (Option A)) (new : F) (before after : Context) → flowed old answer new
+      → IfReady answer (λ item. OnSome item (can_poll new)) → OnPending answer (can_poll new)
+      → OnPending answer (Covers after (needs new)) → Keeps before after → IsFlow flowed can_poll needs old answer new before after
+  one_flow old (Ready (Some x)) new before after s g a r k =
+      (s, yields_value flowed old (Ready (Some x)) new s, yields_rest flowed old (Ready (Some x)) new s, k, g)
+  one_flow old (Ready None) new before after s g a r k = (s, yields_value flowed old (Ready None) new s, k)
+  one_flow old Pending new before after s g a r k = (s, yields_same flowed old Pending new s, r, k, a)
 
 module _ {D A : Type 0} (polled : D → A → D → Type 0) where
   -- an answer is one that may come

@@ -1,5 +1,5 @@
 -- The machine's own clock.
-use Rattle.std.specs.Prelude.{◌≡◌, ℕ}
+use Rattle.std.specs.Prelude.{◌≡◌, ◌≤◌, ℕ}
 use Rattle.std.specs.declared.time.Instant.{Instant}
 
 -- a `SystemClock`: the runtime, the start from which it counts, and its last reading
@@ -8,6 +8,6 @@ pub record SystemClockView (R : Type 0) : Type 0 where
   pub start : Instant
   pub last : ℕ
 
--- a reading: of the same clock from the same start, and it may be any moment
+-- a reading: of the same clock from the same start, and it may be any moment that isn't before the last one
 abbrev pub Read : {R : Type 0} → SystemClockView R → SystemClockView R → Type 0
-Read old new = new ≡ record old { last = new.last }
+Read old new = (old.last ≤ new.last) × (new ≡ record old { last = new.last })

@@ -59,8 +59,9 @@ pub enum Slot<F> {
     Dropped,
 }
 
+/// A service, its futures by their numbers, and the closure, as the last event left them.
 #[derive(Drop)]
-struct Driver<S, F, O> {
+pub struct Driver<S, F, O> {
     service: S,
     futures: Vec<Slot<F>>,
     may_call: bool,
@@ -95,6 +96,36 @@ where
         × Run S.Service S.Future.stepped O.step (opening service outside) events.items transcript.entries.items last) }
     ensures kept { Keeps cx.old cx.new }
 {
+    let (transcript, _left) = drive_with_state(alloc, cx, service, events, outside)?;
+    Ok(transcript)
+}
+
+/// As `drive`, and hands out what the last event left. So a future is dropped by its `Drop` event alone, and
+/// nothing is polled after the last event.
+pub fn drive_with_state<Request, S, T, U, O>(
+    alloc: Global,
+    cx: &mut Context<'_>,
+    service: S,
+    events: Vec<Event<Request, T>>,
+    outside: O,
+) -> Result<
+    (
+        Transcript<S::Response, S::Error, U>,
+        Driver<S, S::Future, O>,
+    ),
+    AllocError,
+>
+where
+    Request: Drop,
+    S: Service<Request>,
+    T: Drop,
+    U: Drop,
+    O: FnMut(T) -> U + Drop,
+    requires sound { S.sound service }
+    requires outside { O.IsAlwaysCallable outside }
+    ensures run { IfOk result (λ done. Run S.Service S.Future.stepped O.step (opening service outside) events.items done.0.entries.items (state_of done.1)) }
+    ensures kept { Keeps cx.old cx.new }
+{
     let mut driver: Driver<S, S::Future, O> = Driver::new(alloc, service, outside);
     let mut entries = Vec::new(alloc);
     for event in events {
@@ -102,7 +133,7 @@ where
         let entry = handle(&mut driver, cx, event)?;
         entries.push_reserved(entry);
     }
-    Ok(Transcript { entries })
+    Ok((Transcript { entries }, driver))
 }
 
 impl<S, F, O> Driver<S, F, O> {
@@ -248,18 +279,22 @@ fn poll_slot<F: Steps>(slot: &mut Slot<F>, cx: &mut Context<'_>) -> Option<Poll<
     ensures sound { CanStep F.can_poll slot.new }
     ensures kept { Keeps cx.old cx.new }
 {
+    let Slot::Live(future) = slot else {
+        return None;
+    };
+    let answer = future.step(cx);
+    if answer.is_ready() {
+        finish(slot);
+    }
+    Some(answer)
+}
+
+// A live future gave its output.
+fn finish<F: Drop>(slot: &mut Slot<F>)
+    ensures { (future : F) → slot.old ≡ Slot.Live future → slot.new ≡ Slot.Finished future }
+{
     match mem::replace(slot, Slot::Dropped) {
-        Slot::Live(mut future) => {
-            let answer = future.step(cx);
-            *slot = match &answer {
-                Poll::Ready(_) => Slot::Finished(future),
-                Poll::Pending => Slot::Live(future),
-            };
-            Some(answer)
-        }
-        other => {
-            *slot = other;
-            None
-        }
+        Slot::Live(future) => *slot = Slot::Finished(future),
+        other => *slot = other,
     }
 }

@@ -46,6 +46,9 @@ pub trait Latch<C: Core>: Sized + Drop {
     // A step that was made at this latch gave this reply.
     ghost gave: { Self → C.Step → C.Reply → Type 0 };
 
+    // It is the latch that its core was handed to, and no share of another.
+    ghost is_first: { Self → Type 0 } = { λ _. ⊤ };
+
     // A request for another share may have this answer.
     ghost shares: { Self → Result Self AllocError → Type 0 } = { λ _ _. ⊤ };
 

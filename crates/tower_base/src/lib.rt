@@ -1,10 +1,12 @@
 //! Services, layers and whole runs of services.
 #![tactic(auto)]
 
+pub mod counter;
 pub mod drive;
 pub mod latch;
 pub mod layer;
 pub mod links;
 pub mod passes;
+pub mod run;
 pub mod service;
 pub mod util;

@@ -6,7 +6,6 @@ ghost use Rattle.tower_base.specs.Cells.{place_of, value_of};
 ghost use Rattle.tower_base.specs.Ends.{left_slab, left_ends, pushed_slab, pushed_ends};
 
 mod cells;
-mod touches;
 
 use cells::{Cells, Entry, Place};
 use std::alloc::{AllocError, Global};

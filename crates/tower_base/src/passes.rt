@@ -4,11 +4,11 @@ ghost use Rattle.tower_base.specs.Passes.{limit as pass_limit};
 
 /// A poll that loops over what others answer makes so many passes at most; then it is pending and has woken its own
 /// task. The Rust's loops have no bound.
-pub const PASSES: u8 = 64;
+pub const TURNS: u8 = 64;
 
-/// `PASSES`, as contracts know it.
+/// `TURNS`, as contracts know it.
 pub fn limit() -> u8
     ensures { result ≡ pass_limit }
 {
-    PASSES
+    TURNS
 }

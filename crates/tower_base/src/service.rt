@@ -3,29 +3,43 @@ ghost use Rattle.std.specs.Prelude.{◌≡◌, ◌≢◌, ⊤, ℕ, Result, Ok, 
 ghost use Rattle.futures.specs.Task.{Covers, Keeps, IsArmed};
 ghost use Rattle.futures.specs.Poll.{OnPending, IfReady};
 ghost use Rattle.futures.specs.declared.task.Poll.{Poll};
+ghost use Rattle.tower_base.specs.Monotonic.{IsMonotonic};
 ghost use Rattle.futures.specs.declared.task.Poll.TheVariants.{Ready};
 
 mod plain;
+mod polled;
 mod sleep;
+mod spawners;
 mod system;
 
-use futures::future::Future;
 use futures::stream::Stream;
 use futures::task::{Context, Poll};
+pub use polled::Polled;
 pub use sleep::Sleep;
 pub use system::SystemClock;
 
 /// A future whose poll has a relation, which a proof above it may use.
-pub trait Steps: Future {
+///
+/// It has what `Future` has, and isn't a `Future` by a bound: each instance of a trait that a call
+/// needs is written out as often as ways lead to it, and two ways down a stack double at each layer.
+pub trait Steps: Drop {
+    type Output;
+
+    // `step` may be called.
+    ghost can_poll: { Self → Type 0 } = { λ _. ⊤ };
+
+    // Holds of each source that the future waits for.
+    ghost needs: { Self → ℕ → Type 0 } = { λ _ _. ⊥ };
+
     // A poll may give this answer and leave the second value. Left out, nothing is known of its answers.
     ghost stepped: { Self → Poll Self.Output → Self → Type 0 } = { λ _ _ _. ⊤ };
 
     /// One poll. `Future::poll` is this call.
     fn step(&mut self, cx: &mut Context<'_>) -> Poll<Self::Output>
-        requires { Self.can_poll self.old }
+        requires { can_poll self.old }
         ensures step { stepped self.old result self.new }
-        ensures again { OnPending result (Self.can_poll self.new) }
-        ensures registered { OnPending result (Covers cx.new (Self.needs self.new)) }
+        ensures again { OnPending result (can_poll self.new) }
+        ensures registered { OnPending result (Covers cx.new (needs self.new)) }
         ensures kept { Keeps cx.old cx.new };
 }
 
@@ -107,6 +121,11 @@ pub trait Clock: Drop {
     /// A further handle to the same clock. It takes no memory and reads nothing.
     fn share(&self) -> Self
         ensures { shared self.now result };
+}
+
+/// A clock that never goes back: no reading is before the last one.
+pub trait Monotonic: Clock {
+    ghost forward: { IsMonotonic Self.reading Self.read };
 }
 
 /// What runs tasks beside the caller. It stands for tokio's `spawn`.

@@ -33,7 +33,7 @@ pub enum Flight {
     Direct,
     /// A response may take 10.
     Timeout,
-    /// A rate limit that is never full.
+    /// A rate limit that is never reached.
     Rate,
     /// 64 calls in flight.
     Limit,
@@ -100,8 +100,9 @@ impl Flight {
             Flight::Direct => course.run(cx, Late),
             Flight::Timeout => course.run(cx, Timeout::new(Late, 10, pace.clock())),
             Flight::Rate => {
-                let rate = Rate::new(u64::MAX, 1 << 60);
-                course.run(cx, RateLimit::new(Late, rate, pace.clock()))
+                let rate = Rate::new(65536, 1 << 60);
+                let limited = RateLimit::new(rt.alloc(), Late, rate, pace.clock())?;
+                course.run(cx, limited)
             }
             Flight::Limit => {
                 let limited = ConcurrencyLimit::new(rt, rt.alloc(), Late, PLACES)?;
@@ -109,7 +110,7 @@ impl Flight {
             }
             Flight::LoadShed => course.run(cx, LoadShed::new(Late)),
             Flight::All => {
-                let rate = Rate::new(u64::MAX, 1 << 60);
+                let rate = Rate::new(65536, 1 << 60);
                 stacks::layered(rt, cx, Late, pace.clock(), rate, PLACES, course)
             }
             Flight::Budget => paid(rt, cx, &pace, course),

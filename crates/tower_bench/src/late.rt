@@ -62,6 +62,10 @@ impl Future for LateFuture {
 }
 
 impl Steps for LateFuture {
+    type Output = Result<u64, u64>;
+
+    ghost can_poll = { λ _. ⊤ };
+
     ghost stepped = { λ _ _ _. ⊤ };
 
     fn step(&mut self, cx: &mut Context<'_>) -> Poll<Result<u64, u64>> {

@@ -4,7 +4,7 @@ use crate::inner::Pace;
 use futures::task::{Context, Poll};
 use std::alloc::{AllocError, AllocGlobal};
 use tower::Service;
-use tower::latch::held::Pollable;
+use tower::latch::held::Place;
 use tower::service::Steps;
 
 /// How the rounds of a service go.
@@ -107,7 +107,7 @@ impl<R: AllocGlobal + Copy> Course for InFlight<R> {
     ) -> Result<u64, AllocError> {
         let mut table = Vec::new(self.rt.alloc());
         for _ in 0..PLACES {
-            table.push(None).map_err(|_| AllocError)?;
+            table.push(Place::empty()).map_err(|_| AllocError)?;
         }
         Ok(flights(cx, service, table.as_mut_slice(), self.count))
     }
@@ -117,7 +117,7 @@ impl<R: AllocGlobal + Copy> Course for InFlight<R> {
 fn flights<S: Service<u64, Response = u64>>(
     cx: &mut Context<'_>,
     mut service: S,
-    table: &mut [Option<Pollable<S::Future>>],
+    table: &mut [Place<S::Future>],
     count: u64,
 ) -> u64
     requires { S.sound service }
@@ -135,19 +135,18 @@ fn flights<S: Service<u64, Response = u64>>(
 fn flight<S: Service<u64, Response = u64>>(
     cx: &mut Context<'_>,
     service: &mut S,
-    place: &mut Option<Pollable<S::Future>>,
+    place: &mut Place<S::Future>,
     number: u64,
     sum: u64,
 ) -> u64
     requires { S.sound service.old }
     ensures { S.sound service.new }
 {
-    let mut sum = sum;
-    if let Some(oldest) = place.take() {
-        if let Poll::Ready(Ok(response)) = oldest.into_inner().step(cx) {
-            sum = sum.wrapping_add(response);
-        }
-    }
+    let sum = match place.poll(cx) {
+        None => sum,
+        Some(Poll::Ready(answer)) => sum.wrapping_add(answer.unwrap_or(0)),
+        Some(Poll::Pending) => return sum,
+    };
     let Poll::Ready(Ok(())) = service.poll_ready(cx) else {
         return sum;
     };
@@ -155,6 +154,6 @@ fn flight<S: Service<u64, Response = u64>>(
     if let Poll::Ready(answer) = future.step(cx) {
         return sum.wrapping_add(answer.unwrap_or(0));
     }
-    *place = Some(Pollable::new(future));
+    place.put(future);
     sum
 }

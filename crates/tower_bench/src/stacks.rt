@@ -28,9 +28,9 @@ pub enum Stack {
     Direct,
     /// A response may take 10.
     Timeout,
-    /// A rate limit that is never full.
+    /// A rate limit that is never reached.
     Rate,
-    /// A rate limit that is full after each round.
+    /// A rate limit that is reached in each round.
     FullRate,
     /// One call in flight.
     Limit,
@@ -125,8 +125,8 @@ impl Stack {
                 let service = Timeout::new(Echo, 10, pace.clock());
                 Ok(rounds(cx, service, &pace, count))
             }
-            Stack::Rate => Ok(rated(cx, Rate::new(u64::MAX, 1 << 60), &pace, count)),
-            Stack::FullRate => Ok(rated(cx, Rate::new(1, 1), &pace, count)),
+            Stack::Rate => rated(rt, cx, Rate::new(65536, 1 << 60), &pace, count),
+            Stack::FullRate => rated(rt, cx, Rate::new(1, 1), &pace, count),
             Stack::Limit => {
                 let service = ConcurrencyLimit::new(rt, rt.alloc(), Echo, 1)?;
                 Ok(rounds(cx, service, &pace, count))
@@ -175,9 +175,15 @@ impl Stack {
 }
 
 // Under a rate limit.
-fn rated(cx: &mut Context<'_>, rate: Rate, pace: &Pace, count: u64) -> u64 {
-    let service = RateLimit::new(Echo, rate, pace.clock());
-    rounds(cx, service, pace, count)
+fn rated<R: AllocGlobal + Copy>(
+    rt: R,
+    cx: &mut Context<'_>,
+    rate: Rate,
+    pace: &Pace,
+    count: u64,
+) -> Result<u64, AllocError> {
+    let service = RateLimit::new(rt.alloc(), Echo, rate, pace.clock())?;
+    Ok(rounds(cx, service, pace, count))
 }
 
 /// Under the four of `tower-run`'s, the time outermost and the rate innermost.
@@ -197,25 +203,9 @@ where
     T: Course,
     requires { S.sound inner }
 {
-    let rated = RateLimit::new(inner, rate, clock.share());
+    let rated = RateLimit::new(rt.alloc(), inner, rate, clock.share())?;
     let limited = ConcurrencyLimit::new(rt, rt.alloc(), rated, most)?;
-    shed_in_time(cx, limited, clock, course)
-}
-
-// Under the refusal and the time. (At all four at once the check gives up.)
-fn shed_in_time<S, C, T>(
-    cx: &mut Context<'_>,
-    inner: S,
-    clock: C,
-    course: &T,
-) -> Result<u64, AllocError>
-where
-    S: Service<u64, Response = u64>,
-    C: Clock,
-    T: Course,
-    requires { S.sound inner }
-{
-    course.run(cx, Timeout::new(LoadShed::new(inner), 10, clock))
+    course.run(cx, Timeout::new(LoadShed::new(limited), 10, clock))
 }
 
 // Under a steer over eight.

@@ -8,6 +8,7 @@ pub mod LineRuns
 pub mod Lines
 pub mod Places
 pub mod RateBound
-pub mod RateTight
+pub mod RateRuns
+pub mod RateStands
 pub mod Replies
 pub mod Waiters

@@ -1,39 +1,34 @@
--- No interval as long as a window holds more than twice the number of calls.
-use Rattle.std.proofs.Common.{◌≡◌, ◌+◌, ◌*◌, ◌≤◌, ◌<◌, ℕ, Bool, true, false, List, [], ◌∷◌, length, nat_le, if◌then◌else◌, refl, arith}
-use Rattle.std.proofs.lemmas.Bool.{leb-true, leb-false, eqb-false}
+-- No interval as long as the period holds more calls than the number.
+use Rattle.std.proofs.Common.{◌≡◌, ◌+◌, ◌-◌, ◌≤◌, ◌<◌, ◌||◌, ℕ, zero, suc, Bool, true, false, not, Some, None, List, [], ◌∷◌, length, nat_le, slice_get, slice_index, if◌then◌else◌, refl, sym, ap, ◌∙◌, subst, arith}
+use Rattle.std.proofs.lemmas.Bool.{leb-true, leb-false, le-leb}
 use Rattle.std.proofs.lemmas.Bool.Decides.{nat_tests}
-use Rattle.tower_limit.specs.Rate.{Window, Windows, opening, opened, joined, is_full, is_over, after_poll, after_call}
+use Rattle.std.proofs.lemmas.Option.{get_or_from_slice_get, slice_get_within}
+use Rattle.tower_limit.specs.Rate.{Calls, opening, is_limited, oldest, passes, may_call, after_poll, after_call}
 use Rattle.tower_limit.specs.RateLaws.{Step, Fair, one_within, calls_within, Bounded}
 
--- moments of a window of length per that ends so
-abbrev Inside : ℕ → ℕ → List ℕ → Type 0
-Inside per end [] = Unit {0}
-Inside per end (m ∷ ms) = (end ≤ m + per) × (m < end) × Inside per end ms
+-- the newest of these moments is no later
+abbrev NoLater : ℕ → List ℕ → Type 0
+NoLater m [] = Unit {0}
+NoLater m (c ∷ cs) = c ≤ m
 
--- the newest of these windows ends no later
-abbrev EndsBy : ℕ → List Window → Type 0
-EndsBy top [] = Unit {0}
-EndsBy top (w ∷ ws) = w.end ≤ top
+-- of these moments, the newest first, the one at k is a period before m, if there is one
+abbrev Apart : ℕ → ℕ → ℕ → List ℕ → Type 0
+Apart k per m ms = (c : ℕ) → slice_get ms k ≡ Some c → c + per ≤ m
 
--- the newest of these windows ends before a window of length per that ends so begins
-abbrev EndsBefore : ℕ → ℕ → List Window → Type 0
-EndsBefore per end [] = Unit {0}
-EndsBefore per end (w ∷ ws) = w.end + per ≤ end
-
--- windows one after another, with at most so many calls each
-abbrev Laid : ℕ → ℕ → List Window → Type 0
-Laid num per [] = Unit {0}
-Laid num per (w ∷ ws) = Inside per w.end w.calls × (length w.calls ≤ num) × EndsBefore per w.end ws × Laid num per ws
+-- each of these moments is no earlier than the next, and a period after the one k + 1 places on
+abbrev Spaced : ℕ → ℕ → List ℕ → Type 0
+Spaced k per [] = Unit {0}
+Spaced k per (m ∷ ms) = NoLater m ms × Apart k per m ms × Spaced k per ms
 
 abbrev moments_within : ℕ → ℕ → List ℕ → ℕ
 moments_within from per [] = 0
 moments_within from per (m ∷ ms) = one_within from per m + moments_within from per ms
 
-abbrev windows_within : ℕ → ℕ → List Window → ℕ
-windows_within from per [] = 0
-windows_within from per (w ∷ ws) = moments_within from per w.calls + windows_within from per ws
+no-later : (a b : ℕ) (ms : List ℕ) → a ≤ b → NoLater a ms → NoLater b ms
+no-later a b [] le h = tt
+no-later a b (c ∷ cs) le h = omega (arith, h)
 
-module _ (num per from : ℕ) where
+module _ (k per from : ℕ) where
   one-most : (m : ℕ) → one_within from per m ≤ 1
   one-most m = grind (arith, nat_tests)
 
@@ -43,126 +38,97 @@ module _ (num per from : ℕ) where
   one-late : (m : ℕ) → from + per ≤ m → one_within from per m ≡ 0
   one-late m late = grind (arith, nat_tests)
 
-  moments-most : (ms : List ℕ) → moments_within from per ms ≤ length ms
-  moments-most [] = omega arith
-  moments-most (m ∷ ms) = let here = one-most m in let rest = moments-most ms in omega arith
+  -- moments before the interval
+  none : (m : ℕ) (ms : List ℕ) → m < from → NoLater m ms → Spaced k per ms → moments_within from per ms ≡ 0
+  none m [] early later spaced = refl
+  none m (c ∷ cs) early later spaced =
+      let here = one-early c (omega (arith, later)) in
+      let rest = none c cs (omega (arith, later)) spaced.0 spaced.2 in omega arith
 
-  moments-early : (end : ℕ) (ms : List ℕ) → Inside per end ms → end ≤ from → moments_within from per ms ≡ 0
-  moments-early end [] inside early = refl
-  moments-early end (m ∷ ms) inside early =
-      let here = one-early m (omega (arith, inside.1)) in let rest = moments-early end ms inside.2 early in omega arith
+  -- if the moment at j is before the interval, at most j are within
+  first : (j : ℕ) (ms : List ℕ) → Spaced k per ms → ((c : ℕ) → slice_get ms j ≡ Some c → c < from) → moments_within from per ms ≤ j
+  first j [] spaced early = omega arith
+  first zero (c ∷ cs) spaced early =
+      let here = one-early c (early c refl) in
+      let rest = none c cs (early c refl) spaced.0 spaced.2 in omega arith
+  first (suc j) (c ∷ cs) spaced early =
+      let here = one-most c in
+      let rest = first j cs spaced.2 early in omega arith
 
-  moments-late : (end : ℕ) (ms : List ℕ) → Inside per end ms → from + per + per ≤ end → moments_within from per ms ≡ 0
-  moments-late end [] inside late = refl
-  moments-late end (m ∷ ms) inside late =
-      let here = one-late m (omega (arith, inside.0)) in let rest = moments-late end ms inside.2 late in omega arith
+  most-at : (late : Bool) (m : ℕ) (ms : List ℕ) → nat_le (from + per) m ≡ late → Spaced k per (m ∷ ms)
+      → moments_within from per ms ≤ k + 1 → moments_within from per (m ∷ ms) ≤ k + 1
+  most-at true m ms is spaced rest = let here = one-late m (leb-true (from + per) m is) in omega arith
+  most-at false m ms is spaced rest =
+      let here = one-most m in
+      let before = leb-false (from + per) m is in
+      let older = first k ms spaced.2 (λ (c : ℕ) e. let apart = spaced.1 c e in omega arith) in omega arith
 
-  ends-earlier : (top end : ℕ) (ws : List Window) → EndsBefore per end ws → end ≤ top + per → EndsBy top ws
-  ends-earlier top end [] before within = tt
-  ends-earlier top end (w ∷ ws) before within = omega (arith, before)
-
-  -- windows that end by the beginning have no call in the interval
-  none : (ws : List Window) → Laid num per ws → EndsBy from ws → windows_within from per ws ≡ 0
-  none [] laid ends = refl
-  none (w ∷ ws) laid ends =
-      let here = moments-early w.end w.calls laid.0 ends in
-      let rest = none ws laid.3 (ends-earlier from w.end ws laid.2 (omega (arith, ends))) in omega arith
-
-  -- windows that end by the end of the interval: only the newest has calls there
-  once : (ws : List Window) → Laid num per ws → EndsBy (from + per) ws → windows_within from per ws ≤ num
-  once [] laid ends = omega arith
-  once (w ∷ ws) laid ends =
-      let here = moments-most w.calls in
-      let rest = none ws laid.3 (ends-earlier from w.end ws laid.2 ends) in omega (arith, laid.1)
-
-  -- of all windows at most two have calls there
-  twice-at : (past : Bool) (w : Window) (ws : List Window) → nat_le w.end (from + per + per) ≡ past
-      → Laid num per (w ∷ ws) → windows_within from per ws ≤ 2 * num → windows_within from per (w ∷ ws) ≤ 2 * num
-  twice-at true w ws past laid rest =
-      let ends = leb-true w.end (from + per + per) past in
-      let here = moments-most w.calls in
-      let older = once ws laid.3 (ends-earlier (from + per) w.end ws laid.2 ends) in omega (arith, laid.1)
-  twice-at false w ws past laid rest =
-      let ends = leb-false w.end (from + per + per) past in
-      let here = moments-late w.end w.calls laid.0 (omega arith) in omega arith
-
-  twice : (ws : List Window) → Laid num per ws → windows_within from per ws ≤ 2 * num
-  twice [] laid = omega arith
-  twice (w ∷ ws) laid = twice-at (nat_le w.end (from + per + per)) w ws refl laid (twice ws laid.3)
+  most : (ms : List ℕ) → Spaced k per ms → moments_within from per ms ≤ k + 1
+  most [] spaced = omega arith
+  most (m ∷ ms) spaced = most-at (nat_le (from + per) m) m ms refl spaced (most ms spaced.2)
 
   -- what every fair run keeps
-  record Good (w : Windows) (now : ℕ) : Type 0 where
-    number : w.num ≡ num
-    period : w.per ≡ per
-    laid : Laid num per (w.last ∷ w.earlier)
-    recent : w.last.end ≤ now + per
+  record Good (plain : Calls) (now : ℕ) : Type 0 where
+    number : plain.num ≡ k + 1
+    period : plain.per ≡ per
+    spaced : Spaced k per plain.moments
+    recent : NoLater now plain.moments
+    pass : plain.passed ≡ true → Apart k per now plain.moments
 
-  abbrev all_within : Windows → ℕ
-  all_within w = windows_within from per (w.last ∷ w.earlier)
+  -- a poll that passes finds the last calls apart
+  passed-apart : (limited : Bool) (plain : Calls) (m : ℕ) → plain.num ≡ k + 1 → plain.per ≡ per → is_limited plain ≡ limited
+      → (if limited then nat_le (oldest plain + plain.per) m else true) ≡ true → Apart k per m plain.moments
+  passed-apart true plain m number period is passed = λ c e.
+      let at : plain.num - 1 ≡ k = omega (arith, number) in
+      let value : slice_index plain.moments k ≡ c = get_or_from_slice_get plain.moments k c 0 e in
+      let same : oldest plain ≡ c = ap (λ (i : ℕ). slice_index plain.moments i) at ∙ value in
+      let past = leb-true (oldest plain + plain.per) m passed in omega (arith, period, same)
+  passed-apart false plain m number period is passed = λ c e.
+      let within = slice_get_within plain.moments k c e in
+      let few = leb-false plain.num (length plain.moments) is in absurd (omega (arith, number))
 
-  later : (w : Windows) (now m : ℕ) → Good w now → now ≤ m → Good w m
-  later w now m good le = record {
+  -- a call finds them apart
+  may-apart : (limited passed : Bool) (plain : Calls) (m : ℕ) → plain.num ≡ k + 1 → is_limited plain ≡ limited → plain.passed ≡ passed
+      → (plain.passed ≡ true → Apart k per m plain.moments) → not limited || passed ≡ true → Apart k per m plain.moments
+  may-apart true true plain m number is pass apart may = apart pass
+  may-apart true false plain m number is pass apart may = absurd (cc may)
+  may-apart false passed plain m number is pass apart may = λ c e.
+      let within = slice_get_within plain.moments k c e in
+      let few = leb-false plain.num (length plain.moments) is in absurd (omega (arith, number))
+
+  later : (a b : ℕ) (ms : List ℕ) → a ≤ b → Apart k per a ms → Apart k per b ms
+  later a b ms le apart = λ c e. let before = apart c e in omega arith
+
+  poll-good : (plain : Calls) (now m : ℕ) → Good plain now → now ≤ m → Good (after_poll plain m) m
+  poll-good plain now m good le = record {
     number = good.number;
     period = good.period;
-    laid = good.laid;
-    recent = omega (arith, good.recent);
+    spaced = good.spaced;
+    recent = no-later now m plain.moments le good.recent;
+    pass = λ passed. passed-apart (is_limited plain) plain m good.number good.period refl passed;
   }
 
-  open-good : (w : Windows) (now m : ℕ) → Good w now → w.last.end ≤ m → Good (opened w m) m
-  open-good w now m good over = record {
-    number = good.number;
-    period = good.period;
-    laid = (tt, omega arith, omega (arith, good.period), good.laid);
-    recent = omega (arith, good.period);
-  }
+  call-good : (plain : Calls) (now m : ℕ) → Good plain now → now ≤ m → may_call plain ≡ true → Good (after_call plain m) m
+  call-good plain now m good le may =
+      let apart = may-apart (is_limited plain) plain.passed plain m good.number refl refl (λ p. later now m plain.moments le (good.pass p)) may in
+      record {
+        number = good.number;
+        period = good.period;
+        spaced = (no-later now m plain.moments le good.recent, apart, good.spaced);
+        recent = omega arith;
+        pass = λ shut. absurd (cc shut);
+      }
 
-  join-good : (w : Windows) (m : ℕ) → Good w m → m < w.last.end → length w.last.calls < num → Good (joined w m) m
-  join-good w m good before room = record {
-    number = good.number;
-    period = good.period;
-    laid = ((good.recent, before, good.laid.0), omega arith, good.laid.2, good.laid.3);
-    recent = good.recent;
-  }
-
-  -- a poll keeps it and adds no call
-  poll-good : (full over : Bool) (w : Windows) (now m : ℕ) → is_over w m ≡ over → Good w now → now ≤ m
-      → Good (if full then (if over then opened w m else w) else w) m
-  poll-good true true w now m is good le = open-good w now m good (leb-true w.last.end m is)
-  poll-good true false w now m is good le = later w now m good le
-  poll-good false over w now m is good le = later w now m good le
-
-  poll-adds : (full over : Bool) (w : Windows) (m : ℕ) → all_within (if full then (if over then opened w m else w) else w) ≡ all_within w
-  poll-adds true true w m = omega arith
-  poll-adds true false w m = refl
-  poll-adds false over w m = refl
-
-  -- a call keeps it and adds one
-  call-good : (over : Bool) (w : Windows) (now m : ℕ) → is_over w m ≡ over → is_full w ≡ false → 0 < num → 0 < per → Good w now → now ≤ m
-      → Good (joined (if over then opened w m else w) m) m
-  call-good true w now m is free some long good le =
-      join-good (opened w m) m (open-good w now m good (leb-true w.last.end m is)) (omega (arith, good.period)) some
-  call-good false w now m is free some long good le =
-      join-good w m (later w now m good le) (leb-false w.last.end m is)
-      (let other = eqb-false (length w.last.calls) w.num free in let most = good.laid.1 in omega (arith, good.number, other))
-
-  call-adds : (over : Bool) (w : Windows) (m : ℕ) → all_within (joined (if over then opened w m else w) m) ≡ one_within from per m + all_within w
-  call-adds true w m = omega arith
-  call-adds false w m = omega arith
-
-  runs : (w : Windows) (now : ℕ) (steps : List Step) → 0 < num → 0 < per → Fair w now steps → Good w now
-      → calls_within from per steps + all_within w ≤ 2 * num
-  runs w now [] some long fair good = let all = twice (w.last ∷ w.earlier) good.laid in omega arith
-  runs w now (Step.poll m ∷ steps) some long fair good =
-      let adds = poll-adds (is_full w) (is_over w m) w m in
-      let kept = poll-good (is_full w) (is_over w m) w now m refl good fair.0 in
-      let rest = runs (after_poll w m) m steps some long fair.1 kept in omega arith
-  runs w now (Step.call m ∷ steps) some long fair good =
-      let adds = call-adds (is_over w m) w m in
-      let kept = call-good (is_over w m) w now m refl fair.1 some long good fair.0 in
-      let rest = runs (after_call w m) m steps some long fair.2 kept in omega arith
+  runs : (plain : Calls) (now : ℕ) (steps : List Step) → Good plain now → Fair plain now steps
+      → calls_within from per steps + moments_within from per plain.moments ≤ k + 1
+  runs plain now [] good fair = let all = most plain.moments good.spaced in omega arith
+  runs plain now (Step.poll m ∷ steps) good fair = runs (after_poll plain m) m steps (poll-good plain now m good fair.0) fair.1
+  runs plain now (Step.call m ∷ steps) good fair =
+      let rest = runs (after_call plain m) m steps (call-good plain now m good fair.0 fair.1) fair.2 in omega arith
 
 pub bounded : Bounded
-bounded num per made steps some long fair from =
-    let good : Good num per from (opening num per made) made =
-    record { number = refl; period = refl; laid = (tt, omega arith, tt, tt); recent = omega arith } in
-    let all = runs num per from (opening num per made) made steps some long fair good in omega arith
+bounded zero per steps some fair from = absurd (omega arith)
+bounded (suc k) per steps some fair from =
+    let good : Good k per from (opening (suc k) per) 0 =
+    record { number = omega arith; period = refl; spaced = tt; recent = tt; pass = λ shut. absurd (cc shut) } in
+    let all = runs k per from (opening (suc k) per) 0 steps good fair in omega arith

@@ -108,27 +108,27 @@ module _ {D K S E C : Type 0} (discovered : D → Found K S E → D → Type 0) 
     may : (key : K) (service : S) → MayInsert discovered d.discover key service → MayInsert discovered first.discover key service
     completion : d.completion ≡ first.completion
 
-  module _ {L : Type 0} where
-    -- what the inner one may insert, with the completion
+  module _ {L : Type 0} (is_first : L → Type 0) where
+    -- what the inner one may insert, with the completion, over a latch that is no share of another
     abbrev Counts : K → PendingRequestsView S L C → Type 0
-    Counts key made = MayInsert discovered first.discover key made.service × (made.completion ≡ first.completion)
+    Counts key made = MayInsert discovered first.discover key made.service × (made.completion ≡ first.completion) × is_first made.latch
 
     pending_keeps : (d : PendingRequestsDiscoverView D C) (a : Found K (PendingRequestsView S L C) (Error E)) (e : PendingRequestsDiscoverView D C)
-        → IsAfter d → Discovered discovered d a e → Inserts Counts a × IsAfter e
+        → IsAfter d → Discovered is_first discovered d a e → Inserts Counts a × IsAfter e
     pending_keeps d a e after (inl none) = (subst (Inserts Counts) (sym none.0) tt, subst IsAfter (sym none.1) after)
     pending_keeps d a e after (inr h) = (
       subst (Inserts Counts) (sym h.answers)
           (through (counted d.completion h.latch) Inner Counts h.inner
-          (each_more (λ key service may. (after.may key service may, after.completion)) h.inner (each_now discovered d.discover e.discover h.inner h.found))),
+          (each_more (λ key service may. (after.may key service may, after.completion, h.first)) h.inner (each_now discovered d.discover e.discover h.inner h.found))),
       record {
         may = λ key service may. after.may key service (inserts_later discovered d.discover h.inner e.discover h.found key service may);
         completion = h.same ∙ after.completion;
       },
     )
 
-    -- a discovery that counts requests inserts what the inner one may insert, with its completion
-    pub pending_inserts : (key : K) (made : PendingRequestsView S L C) → MayInsert (Discovered discovered) first key made
-        → MayInsert discovered first.discover key made.service × (made.completion ≡ first.completion)
+    -- a discovery that counts requests inserts what the inner one may insert, with its completion, each over a latch that is no share of another
+    pub pending_inserts : (key : K) (made : PendingRequestsView S L C) → MayInsert (Discovered is_first discovered) first key made
+        → MayInsert discovered first.discover key made.service × (made.completion ≡ first.completion) × is_first made.latch
     pending_inserts key made may =
-        inserts_kept (Discovered discovered) IsAfter Counts pending_keeps first key made
+        inserts_kept (Discovered is_first discovered) IsAfter Counts pending_keeps first key made
         (record { may = λ _ _ m. m; completion = refl }) may

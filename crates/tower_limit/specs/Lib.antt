@@ -14,9 +14,11 @@ pub mod LineCore
 pub mod LineHistory
 pub mod LineLaws
 pub mod PendingRequests
+pub mod Projections
 pub mod Rate
 pub mod RateLaws
 pub mod RateLends
 pub mod RateReady
+pub mod RateRun
 pub mod RotatingHistogram
 pub mod Waiters

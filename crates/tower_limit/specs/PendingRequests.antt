@@ -30,10 +30,11 @@ pub record PendingRequestsDiscoverView (D C : Type 0) : Type 0 where
   pub discover : D
   pub completion : C
 
--- round the service, with this completion, over a latch of its own
-pub record New {S L C : Type 0} (service : S) (completion : C) (made : PendingRequestsView S L C) : Type 0 where
+-- round the service, with this completion, over the first latch of a core of its own
+pub record New {S L C : Type 0} (is_first : L → Type 0) (service : S) (completion : C) (made : PendingRequestsView S L C) : Type 0 where
   pub inside : made.service ≡ service
   pub same : made.completion ≡ completion
+  pub first : is_first made.latch
 
 module _ {L : Type 0} (l : LatchOf L CountCore CountStep CountReply) where
   -- the second is a share of the first, which that made: what it gave, the first gave
@@ -90,10 +91,11 @@ module _ {L : Type 0} (l : LatchOf L CountCore CountStep CountReply) where
 abbrev pub counted : {S L C : Type 0} → C → L → S → PendingRequestsView S L C
 counted completion latch service = record { service = service; latch = latch; completion = completion }
 
-module _ {D K S E L C : Type 0} (discovered : D → Found K S E → D → Type 0) where
-  -- the latch of a further service is there, and the inner discovery is polled once
+module _ {D K S E L C : Type 0} (is_first : L → Type 0) (discovered : D → Found K S E → D → Type 0) where
+  -- the latch of a further service is there, no share of another's, and the inner discovery is polled once
   pub record FoundInside (old : PendingRequestsDiscoverView D C) (answer : Found K (PendingRequestsView S L C) (Error E)) (new : PendingRequestsDiscoverView D C) : Type 0 where
     pub latch : L
+    pub first : is_first latch
     pub inner : Found K S E
     pub found : discovered old.discover inner new.discover
     pub answers : answer ≡ changed (counted old.completion latch) Inner inner

@@ -1,28 +1,24 @@
 -- The machine of `limit::rate`.
-use Rattle.std.specs.Prelude.{◌≡◌, ◌+◌, ◌<◌, ℕ, Bool, true, false, List, [], ◌∷◌, length, nat_eq, nat_le, if◌then◌else◌, Result}
+use Rattle.std.specs.Prelude.{◌≡◌, ◌+◌, ◌-◌, ◌<◌, ◌||◌, ℕ, Bool, true, false, not, List, [], ◌∷◌, length, take, slice_index, nat_le, if◌then◌else◌, Result}
 use Rattle.futures.specs.declared.task.Poll.{Poll}
 use Rattle.futures.specs.declared.task.Poll.TheVariants.{Pending}
 use Rattle.tower_base.specs.declared.service.Service.{Ghosts as ServiceOf}
 use Rattle.tower_base.specs.declared.service.Clock.{Ghosts as ClockOf}
 
--- a window: its end, and the moments of its calls
-pub record Window : Type 0 where
-  pub end : ℕ
-  pub calls : List ℕ
-
--- So many calls fit a window, which is so long. There is always a last window; those before it follow, the newest first.
-pub record Windows : Type 0 where
+-- So many calls fit an interval that is so long. The moments of all calls are listed, the newest first. A pass is open
+-- from a poll that passes until the next poll or call.
+pub record Calls : Type 0 where
   pub num : ℕ
   pub per : ℕ
-  pub last : Window
-  pub earlier : List Window
+  pub moments : List ℕ
+  pub passed : Bool
 
--- a `RateCore`: the rate, the end of the last window, and how many more calls fit it
+-- a `RateCore`: the rate, the moments that it keeps, and whether a pass is open
 pub record RateCoreView : Type 0 where
   pub num : ℕ
   pub per : ℕ
-  pub until : ℕ
-  pub rem : ℕ
+  pub kept : List ℕ
+  pub passed : Bool
 
 -- a `RateLimit`
 pub record RateLimitView (S C : Type 0) : Type 0 where
@@ -36,49 +32,45 @@ pub record RateLimitLayerView (C : Type 0) : Type 0 where
   pub per : ℕ
   pub clock : C
 
--- at first one empty window, which ends at the moment of making
-abbrev pub opening : ℕ → ℕ → ℕ → Windows
-opening num per made = record { num = num; per = per; last = record { end = made; calls = [] }; earlier = [] }
+-- at first there were no calls
+abbrev pub opening : ℕ → ℕ → Calls
+opening num per = record { num = num; per = per; moments = []; passed = false }
 
--- the last window has all its calls
-abbrev pub is_full : Windows → Bool
-is_full plain = nat_eq (length plain.last.calls) plain.num
+-- `num` or more calls were made
+abbrev pub is_limited : Calls → Bool
+is_limited plain = nat_le plain.num (length plain.moments)
 
--- the last window is over at this moment
-abbrev pub is_over : Windows → ℕ → Bool
-is_over plain moment = nat_le plain.last.end moment
+-- the moment of the `num`-th last call, if so many were made
+abbrev pub oldest : Calls → ℕ
+oldest plain = slice_index plain.moments (plain.num - 1)
 
--- a window opens, and is empty
-abbrev pub opened : Windows → ℕ → Windows
-opened plain moment = record plain { last = record { end = moment + plain.per; calls = [] }; earlier = plain.last ∷ plain.earlier }
+-- A poll passes unless the `num`-th last call plus the period is past this moment.
+abbrev pub passes : Calls → ℕ → Bool
+passes plain moment = if is_limited plain then nat_le (oldest plain + plain.per) moment else true
 
--- the moment joins the last window
-abbrev pub joined : Windows → ℕ → Windows
-joined plain moment = record plain { last = record plain.last { calls = moment ∷ plain.last.calls } }
+-- A call may be made.
+abbrev pub may_call : Calls → Bool
+may_call plain = not (is_limited plain) || plain.passed
 
--- A poll asks the inner service unless the last window is full and not over.
-abbrev pub asks : Windows → ℕ → Bool
-asks plain moment = if is_full plain then is_over plain moment else true
+-- A poll opens a pass, or closes it.
+abbrev pub after_poll : Calls → ℕ → Calls
+after_poll plain moment = record plain { passed = passes plain moment }
 
--- A poll opens a window where the last one is full and over.
-abbrev pub after_poll : Windows → ℕ → Windows
-after_poll plain moment = if is_full plain then (if is_over plain moment then opened plain moment else plain) else plain
+-- A call joins the list, and closes the pass.
+abbrev pub after_call : Calls → ℕ → Calls
+after_call plain moment = record plain { moments = moment ∷ plain.moments; passed = false }
 
--- A call opens a window where the last one is over, and its moment joins the last window.
-abbrev pub after_call : Windows → ℕ → Windows
-after_call plain moment = joined (if is_over plain moment then opened plain moment else plain) moment
-
--- a core stands for windows, which take calls
-pub record StandsFor (core : RateCoreView) (plain : Windows) : Type 0 where
+-- A core stands for a list of calls of which it keeps the last `num`.
+pub record StandsFor (core : RateCoreView) (plain : Calls) : Type 0 where
   pub takes : 0 < plain.num
   pub number : plain.num ≡ core.num
   pub period : plain.per ≡ core.per
-  pub ends : plain.last.end ≡ core.until
-  pub fills : length plain.last.calls + core.rem ≡ plain.num
+  pub last : core.kept ≡ take plain.num plain.moments
+  pub pass : plain.passed ≡ core.passed
 
--- the core stands for windows of which P holds
-abbrev pub Stands : RateCoreView → (Windows → Type 0) → Type 0
-Stands core P = (plain : Windows) × StandsFor core plain × P plain
+-- the core stands for calls of which P holds
+abbrev pub Stands : RateCoreView → (Calls → Type 0) → Type 0
+Stands core P = (plain : Calls) × StandsFor core plain × P plain
 
 module _ {S C Q A E F : Type 0} (s : ServiceOf S Q A E F) (c : ClockOf C) where
   -- the inner service is polled once, or the answer is pending without a poll
@@ -86,32 +78,32 @@ module _ {S C Q A E F : Type 0} (s : ServiceOf S Q A E F) (c : ClockOf C) where
   Asks true old answer new = s.polled old answer new
   Asks false old answer new = (answer ≡ Pending) × (new ≡ old)
 
-  -- A poll of readiness over these windows. Where the last one is full the clock is read once, else not at all.
-  abbrev pub PollsAt : Bool → Windows → RateLimitView S C → Poll (Result (Unit {0}) E) → RateLimitView S C → Type 0
+  -- A poll of readiness after these calls. If they limit it, the clock is read once, else not at all.
+  abbrev pub PollsAt : Bool → Calls → RateLimitView S C → Poll (Result (Unit {0}) E) → RateLimitView S C → Type 0
   PollsAt true plain old answer new = c.read old.clock new.clock
       × StandsFor new.core (after_poll plain (c.reading new.clock))
-      × Asks (asks plain (c.reading new.clock)) old.inner answer new.inner
+      × Asks (passes plain (c.reading new.clock)) old.inner answer new.inner
   PollsAt false plain old answer new = (new ≡ record old { inner = new.inner }) × s.polled old.inner answer new.inner
 
-  -- a poll of readiness, over all windows that the core stands for
+  -- a poll of readiness, over all calls that the core stands for
   pub record Polled (old : RateLimitView S C) (answer : Poll (Result (Unit {0}) E)) (new : RateLimitView S C) : Type 0 where
     pub stands : Stands old.core (λ plain. Unit {0})
-    pub polls : (plain : Windows) → StandsFor old.core plain → PollsAt (is_full plain) plain old answer new
+    pub polls : (plain : Calls) → StandsFor old.core plain → PollsAt (is_limited plain) plain old answer new
 
   -- a call: one reading of the clock, and one call of the inner service, which is ready
   pub record Called (old : RateLimitView S C) (request : Q) (future : F) (new : RateLimitView S C) : Type 0 where
-    pub free : Stands old.core (λ plain. is_full plain ≡ false)
+    pub may : Stands old.core (λ plain. may_call plain ≡ true)
     pub ready : s.ready old.inner
     pub read : c.read old.clock new.clock
-    pub windows : (plain : Windows) → StandsFor old.core plain → StandsFor new.core (after_call plain (c.reading new.clock))
+    pub joins : (plain : Calls) → StandsFor old.core plain → StandsFor new.core (after_call plain (c.reading new.clock))
     pub called : s.called old.inner request future new.inner
 
--- what is made of a service with this clock, which is read once
-pub record New {S C : Type 0} (c : ClockOf C) (num per : ℕ) (service : S) (clock : C) (made : RateLimitView S C) : Type 0 where
+-- what is made of a service with this clock, which isn't read
+pub record New {S C : Type 0} (num per : ℕ) (service : S) (clock : C) (made : RateLimitView S C) : Type 0 where
   pub inside : made.inner ≡ service
-  pub read : c.read clock made.clock
-  pub windows : StandsFor made.core (opening num per (c.reading made.clock))
+  pub unread : made.clock ≡ clock
+  pub core : StandsFor made.core (opening num per)
 
 -- what the layer makes: with a share of its clock
 abbrev pub Made : {S C : Type 0} → ClockOf C → RateLimitLayerView C → S → RateLimitView S C → Type 0
-Made {C = C} c layer service made = (share : C) × c.shared layer.clock share × New c layer.num layer.per service share made
+Made {C = C} c layer service made = (share : C) × c.shared layer.clock share × New layer.num layer.per service share made

@@ -1,6 +1,7 @@
 -- What a `RotatingHistogram` does at its latch.
-use Rattle.std.specs.Prelude.{◌≡◌, ℕ, List, [], ◌∷◌}
+use Rattle.std.specs.Prelude.{◌≡◌, ℕ, List, [], ◌∷◌, Result, Ok}
 use Rattle.std.specs.Int.{div_ceil}
+use Rattle.std.specs.declared.alloc.AllocError.{AllocError}
 use Rattle.tower_base.specs.declared.service.Clock.{Ghosts as ClockOf}
 use Rattle.tower_base.specs.declared.service.Fraction.{Fraction}
 use Rattle.tower_limit.specs.declared.hedge.rotating_histogram.steps.HistoStep.{HistoStep}
@@ -49,7 +50,9 @@ module _ {L C : Type 0} (gave : L → HistoStep → HistoReply → Type 0) (c : 
     pub gave_millis : gave old.latch (Quantile (c.reading new.clock) part) (Millis answer)
     pub same : new.latch ≡ old.latch
 
-  -- a clone: what its latch gives, the first one gives
-  pub record IsClone (old copy : RotatingHistogramView L C) : Type 0 where
-    pub latch : (s : HistoStep) (r : HistoReply) → gave copy.latch s r → gave old.latch s r
-    pub clock : c.shared old.clock copy.clock
+-- a clone: over a share that its latch made, and what that gives, the first one gives
+pub record IsClone {L C : Type 0} (gave : L → HistoStep → HistoReply → Type 0) (may_share : L → Result L AllocError → Type 0) (c : ClockOf C)
+    (old copy : RotatingHistogramView L C) : Type 0 where
+  pub shared : may_share old.latch (Ok copy.latch)
+  pub latch : (s : HistoStep) (r : HistoReply) → gave copy.latch s r → gave old.latch s r
+  pub clock : c.shared old.clock copy.clock

@@ -6,7 +6,7 @@ mod error;
 pub mod pending_requests;
 
 pub use completion::{CompleteOnResponse, TrackCompletion};
-pub use constant::Constant;
+pub use constant::{Constant, projection as constant_projection};
 pub use error::Error;
 pub use pending_requests::{PendingRequests, PendingRequestsDiscover};
 

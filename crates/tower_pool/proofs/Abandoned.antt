@@ -13,7 +13,7 @@ use Rattle.tower_pool.specs.declared.buffer.letter.Fate.{Fate}
 use Rattle.tower_pool.specs.declared.buffer.letter.Fate.TheVariants.{Open, Answered, Failed, Cancelled, Lost}
 use Rattle.tower_pool.specs.declared.buffer.letter.Message.{Message}
 use Rattle.tower_pool.proofs.Fates.{some_is}
-use Rattle.tower_pool.proofs.KeysLemmas.{has_first, has_without_other, has_without_same, not_both}
+use Rattle.tower_limit.proofs.KeysLemmas.{has_first, has_without_other, has_without_same, not_both}
 use Rattle.tower_pool.proofs.Messages.{Sorted, empty_queue, here_is, not_here}
 
 -- a list that has no key is empty

@@ -7,7 +7,7 @@ use Rattle.futures.specs.declared.task.Poll.{Poll}
 use Rattle.futures.specs.declared.task.Poll.TheVariants.{Ready, Pending}
 use Rattle.indexmap.specs.IndexMap.{insert_entry}
 use Rattle.tower_base.specs.declared.service.Service.{Ghosts as ServiceOf}
-use Rattle.tower_pool.specs.ReadyCache.{PendingView, ReadyCacheView, Sound}
+use Rattle.tower_pool.specs.ReadyCache.{Askable, PendingView, ReadyCacheView, Sound}
 use Rattle.tower_pool.specs.ReadyCachePoll.{Asked, AskedFirst, ByAnswer, ByTest, EachAsked, Ends, PendingPolled, rotated}
 use Rattle.tower_pool.specs.declared.ready_cache.error.Error.{Error}
 use Rattle.tower_pool.specs.declared.ready_cache.error.Error.TheVariants.{Failed, Memory}
@@ -58,47 +58,47 @@ module _ {K S : Type 0} (eq : K → K → Bool) (sound : S → Type 0) (was old 
   back : Sound sound was
   back = subst (Sound sound) (sym same) h
 
-  parts : AllByRecursion (λ p. sound p.service) (q ∷ mid)
-  parts = recursion_from_All (λ p. sound p.service) (q ∷ mid) (subst (All (λ p. sound p.service)) there back.pending)
+  parts : AllByRecursion (Askable sound) (q ∷ mid)
+  parts = recursion_from_All (Askable sound) (q ∷ mid) (subst (All (Askable sound)) there back.pending)
 
-  -- the first entry's service
-  pub sound_first : sound q.service
+  -- the first entry's service, unless the entry is cancelled
+  pub sound_first : Askable sound q
   sound_first = parts.0
 
-  rest : All (λ p. sound p.service) mid
-  rest = All-from_recursion (λ p. sound p.service) mid parts.1
+  rest : All (Askable sound) mid
+  rest = All-from_recursion (Askable sound) mid parts.1
 
   pub sound_gone : (es : List (K × S)) (ps : List (PendingView K S)) → es ≡ was.ready → ps ≡ mid → Sound sound (record { ready = es; pending = ps })
   sound_gone es ps e gone = record {
     ready = subst (All (λ e. sound e.1)) (sym e) back.ready;
-    pending = subst (All (λ p. sound p.service)) (sym gone) rest;
+    pending = subst (All (Askable sound)) (sym gone) rest;
   }
 
   pub sound_last : (es : List (K × S)) (ps : List (PendingView K S)) (w : PendingView K S) → es ≡ was.ready → sound w.service → ps ≡ mid ++ w ∷ [] → Sound sound (record { ready = es; pending = ps })
   sound_last es ps w e now last = record {
     ready = subst (All (λ e. sound e.1)) (sym e) back.ready;
-    pending = subst (All (λ p. sound p.service)) (sym last) (All-append (λ p. sound p.service) mid (w ∷ []) rest (All-cons (λ p. sound p.service) w [] now (All-nil (λ p. sound p.service))));
+    pending = subst (All (Askable sound)) (sym last) (All-append (Askable sound) mid (w ∷ []) rest (All-cons (Askable sound) w [] (λ _. now) (All-nil (Askable sound))));
   }
 
   pub sound_ready : (es : List (K × S)) (ps : List (PendingView K S)) (k : K) (v : S) → sound v → es ≡ insert_entry eq was.ready k v → ps ≡ mid → Sound sound (record { ready = es; pending = ps })
   sound_ready es ps k v now e gone = record {
     ready = subst (All (λ e. sound e.1)) (sym e) (All-insert_entry eq sound was.ready k v now back.ready);
-    pending = subst (All (λ p. sound p.service)) (sym gone) rest;
+    pending = subst (All (Askable sound)) (sym gone) rest;
   }
 
 -- services stay where the first ones go last
 pub sound_rotated : {K S : Type 0} → (sound : S → Type 0) (es es' : List (K × S)) (ps ps' : List (PendingView K S)) (n : ℕ) → es' ≡ es → ps' ≡ rotated n ps → Sound sound (record { ready = es; pending = ps }) → Sound sound (record { ready = es'; pending = ps' })
 sound_rotated {K} {S} sound es es' ps ps' n e is h = record {
   ready = subst (All (λ e. sound e.1)) (sym e) h.ready;
-  pending = subst (All (λ p. sound p.service)) (sym is) (by n ps h.pending);
+  pending = subst (All (Askable sound)) (sym is) (by n ps h.pending);
 }
   where
-    by : (n : ℕ) (ps : List (PendingView K S)) → All (λ p. sound p.service) ps → All (λ p. sound p.service) (rotated n ps)
+    by : (n : ℕ) (ps : List (PendingView K S)) → All (Askable sound) ps → All (Askable sound) (rotated n ps)
     by zero ps h = h
     by (suc n) [] h = by n [] h
     by (suc n) (p ∷ ps) h =
-        let r = recursion_from_All (λ p. sound p.service) (p ∷ ps) h in
-        by n (ps ++ p ∷ []) (All-append (λ p. sound p.service) ps (p ∷ []) (All-from_recursion (λ p. sound p.service) ps r.1) (All-cons (λ p. sound p.service) p [] r.0 (All-nil (λ p. sound p.service))))
+        let r = recursion_from_All (Askable sound) (p ∷ ps) h in
+        by n (ps ++ p ∷ []) (All-append (Askable sound) ps (p ∷ []) (All-from_recursion (Askable sound) ps r.1) (All-cons (Askable sound) p [] r.0 (All-nil (Askable sound))))
 
 -- the cases of a test
 by_test : {P P' Q Q' : Type 0} → (b : Bool) → (P → P') → (Q → Q') → ByTest b P Q → ByTest b P' Q'

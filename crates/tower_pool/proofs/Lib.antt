@@ -15,5 +15,4 @@ pub mod PendingLemmas
 pub mod PlaceLemmas
 pub mod Queues
 pub mod Replies
-pub mod Waiters
 pub mod WaitersLemmas

@@ -10,9 +10,10 @@ use Rattle.tower_limit.specs.LineCore.{Stands, StandsAt}
 use Rattle.tower_limit.specs.declared.limit.concurrency.line_core.LineStep.TheVariants.{Join, Look, Cancel, Release, Free}
 use Rattle.tower_limit.specs.declared.limit.concurrency.line_core.LineReply.TheVariants.{Granted, Waiting, Left, Count, Unknown, Memory}
 use Rattle.tower_pool.specs.Waiting.{Admits, are_apart}
-use Rattle.tower_pool.proofs.KeysLemmas.{append_assoc, apart_front, apart_is, at_has, behind, has_append, in_front, is_apart, length_without, or_right, without_append, without_at, without_lacks}
+use Rattle.tower_limit.proofs.KeysLemmas.{append_assoc, apart_front, at_has, behind, has_append, in_front, length_without, or_right, without_append, without_at, without_lacks}
+use Rattle.tower_pool.proofs.KeysLemmas.{apart_is, is_apart}
 use Rattle.tower_pool.proofs.Lines.{counted, held_last, waits_last, found, lacks, leaves, no_holder}
-use Rattle.tower_pool.proofs.Waiters.{admitted, granted_has, grown, pushed, removed, outside_waits, waits_apart, waits_count, waits_present}
+use Rattle.tower_limit.proofs.Waiters.{admitted, granted_has, grown, pushed, removed, outside_waits, waits_apart, waits_count, waits_present}
 
 -- so many were granted, and wait with those in the order
 pub record Kept (count : ℕ) (waiters : LinksView (Unit {0})) : Type 0 where

@@ -4,7 +4,7 @@ use Rattle.tower_base.specs.Order.{has}
 use Rattle.tower_limit.specs.Line.{Ticket, At, Lacks, keys_of}
 use Rattle.tower_limit.specs.LineCore.{holders, HoldersBelow, Stands}
 use Rattle.tower_pool.specs.Mail.{Leave, holding}
-use Rattle.tower_pool.proofs.KeysLemmas.{has_at, not_both}
+use Rattle.tower_limit.proofs.KeysLemmas.{has_at, not_both}
 
 pub counted : (line : List Ticket) → length line ≡ holders line + length (keys_of line)
 counted [] = refl

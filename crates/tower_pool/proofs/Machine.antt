@@ -14,10 +14,11 @@ use Rattle.tower_pool.specs.declared.buffer.mail.MailStep.{MailStep}
 use Rattle.tower_pool.specs.declared.buffer.mail.MailReply.{MailReply}
 use Rattle.tower_pool.specs.declared.buffer.mailbox.Mailbox.{Mailbox}
 use Rattle.tower_pool.proofs.Fates.{queued_some, some_is}
-use Rattle.tower_pool.proofs.KeysLemmas.{apart_cross, apart_is, at_has, has_at, has_first, not_both, or_right}
+use Rattle.tower_limit.proofs.KeysLemmas.{apart_cross, at_has, has_at, has_first, not_both, or_right}
+use Rattle.tower_pool.proofs.KeysLemmas.{apart_is}
 use Rattle.tower_pool.proofs.Lines.{some_line}
 use Rattle.tower_pool.proofs.Messages.{Sorted, here_is, not_here}
-use Rattle.tower_pool.proofs.Waiters.{outside_waits}
+use Rattle.tower_limit.proofs.Waiters.{outside_waits}
 
 -- a key stands at one place
 same_place : (keys : List ℕ) (i j key : ℕ) → Apart keys → slice_get keys i ≡ Some key → slice_get keys j ≡ Some key → i ≡ j

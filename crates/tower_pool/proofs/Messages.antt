@@ -12,7 +12,8 @@ use Rattle.tower_pool.specs.declared.buffer.letter.Fate.{Fate}
 use Rattle.tower_pool.specs.declared.buffer.letter.Fate.TheVariants.{Open}
 use Rattle.tower_pool.specs.declared.buffer.letter.Message.{Message}
 use Rattle.tower_pool.proofs.Fates.{not_none, not_some, some_is}
-use Rattle.tower_pool.proofs.KeysLemmas.{apart_is, apart_push, apart_without, has_append, has_without_other, has_without_same, is_apart}
+use Rattle.tower_limit.proofs.KeysLemmas.{apart_push, apart_without, has_append, has_without_other, has_without_same}
+use Rattle.tower_pool.proofs.KeysLemmas.{apart_is, is_apart}
 
 module _ {X : Type 0} where
   -- ---- places of a list

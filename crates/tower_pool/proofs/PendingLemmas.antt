@@ -5,7 +5,7 @@ use Rattle.std.specs.List.{AllByRecursion}
 use Rattle.std.proofs.lemmas.List.Folds.{list_any-append}
 use Rattle.std.proofs.lemmas.List.Elements.{All-from_recursion, recursion_from_All, All-append, All-cons, All-nil}
 use Rattle.tower_pool.specs.ReadyCache.{PendingView}
-use Rattle.tower_pool.specs.ReadyCache.{Apart, awaited, cancel, put_back, waiting, waits}
+use Rattle.tower_pool.specs.ReadyCache.{Apart, Askable, awaited, cancel, put_back, waiting, waits}
 
 pub left_false : (a b : Bool) → (a || b) ≡ false → a ≡ false
 left_false true b h = absurd (true≢false h)
@@ -25,22 +25,22 @@ module _ {K S : Type 0} (eq : K → K → Bool) where
         by rest true = refl
         by rest false = ap suc rest
 
-    each_cancel : (P : S → Type 0) (ps : List (PendingView K S)) → AllByRecursion (λ p. P p.service) ps → AllByRecursion (λ p. P p.service) (cancel eq k ps)
+    each_cancel : (P : S → Type 0) (ps : List (PendingView K S)) → AllByRecursion (Askable P) ps → AllByRecursion (Askable P) (cancel eq k ps)
     each_cancel P [] h = h
     each_cancel P (p ∷ ps) h = by (each_cancel P ps h.1) (waits eq k p)
       where
-        by : AllByRecursion (λ p. P p.service) (cancel eq k ps) → (b : Bool) → AllByRecursion (λ p. P p.service) (if b then (record p { cancelled = true }) ∷ ps else p ∷ cancel eq k ps)
-        by rest true = h
+        by : AllByRecursion (Askable P) (cancel eq k ps) → (b : Bool) → AllByRecursion (Askable P) (if b then (record p { cancelled = true }) ∷ ps else p ∷ cancel eq k ps)
+        by rest true = (λ e. absurd (true≢false e), h.1)
         by rest false = (h.0, rest)
 
-    -- the services stay
-    pub All-cancel : (P : S → Type 0) (ps : List (PendingView K S)) → All (λ p. P p.service) ps → All (λ p. P p.service) (cancel eq k ps)
+    -- the services stay, and one more of them may not be asked
+    pub All-cancel : (P : S → Type 0) (ps : List (PendingView K S)) → All (Askable P) ps → All (Askable P) (cancel eq k ps)
     All-cancel P ps h = All-from_recursion _ _ (each_cancel P ps (recursion_from_All _ ps h))
 
     -- also with a new one behind
-    pub All-new : (P : S → Type 0) (s : S) (ps : List (PendingView K S)) → P s → All (λ p. P p.service) ps → All (λ p. P p.service) (cancel eq k ps ++ waiting k s ∷ [])
+    pub All-new : (P : S → Type 0) (s : S) (ps : List (PendingView K S)) → P s → All (Askable P) ps → All (Askable P) (cancel eq k ps ++ waiting k s ∷ [])
     All-new P s ps now h =
-        All-append (λ p. P p.service) (cancel eq k ps) (waiting k s ∷ []) (All-cancel P ps h) (All-cons (λ p. P p.service) (waiting k s) [] now (All-nil (λ p. P p.service)))
+        All-append (Askable P) (cancel eq k ps) (waiting k s ∷ []) (All-cancel P ps h) (All-cons (Askable P) (waiting k s) [] (λ _. now) (All-nil (Askable P)))
 
     -- no other entry comes to wait
     still_none : (j : K) (ps : List (PendingView K S)) → awaited eq j ps ≡ false → awaited eq j (cancel eq k ps) ≡ false
@@ -116,9 +116,9 @@ module _ {K S : Type 0} (eq : K → K → Bool) where
         by false = omega (arith, length-append ps (waiting k s ∷ []))
 
     -- and its service is sound
-    pub All-put_back : (P : S → Type 0) (k : K) (s : S) (ps : List (PendingView K S)) → P s → All (λ p. P p.service) ps → All (λ p. P p.service) (put_back eq k s ps)
+    pub All-put_back : (P : S → Type 0) (k : K) (s : S) (ps : List (PendingView K S)) → P s → All (Askable P) ps → All (Askable P) (put_back eq k s ps)
     All-put_back P k s ps now h = by (awaited eq k ps)
       where
-        by : (b : Bool) → All (λ p. P p.service) (if b then ps else ps ++ waiting k s ∷ [])
+        by : (b : Bool) → All (Askable P) (if b then ps else ps ++ waiting k s ∷ [])
         by true = h
-        by false = All-append (λ p. P p.service) ps (waiting k s ∷ []) h (All-cons (λ p. P p.service) (waiting k s) [] now (All-nil (λ p. P p.service)))
+        by false = All-append (Askable P) ps (waiting k s ∷ []) h (All-cons (Askable P) (waiting k s) [] (λ _. now) (All-nil (Askable P)))

@@ -1,10 +1,10 @@
 -- The machine of `Buffer` and of its response future.
-use Rattle.std.specs.Prelude.{◌≡◌, ◌⊎◌, ℕ, Option, None, Some, Result, Ok, Err, IsSome}
+use Rattle.std.specs.Prelude.{◌≡◌, ◌⊎◌, ℕ, Option, None, Some, Result, Ok, Err}
 use Rattle.std.specs.declared.alloc.AllocError.{AllocError}
 use Rattle.futures.specs.declared.task.Poll.{Poll}
 use Rattle.futures.specs.declared.task.Poll.TheVariants.{Ready, Pending}
 use Rattle.tower_pool.specs.declared.buffer.error.Error.{Error}
-use Rattle.tower_pool.specs.declared.buffer.error.Error.TheVariants.{Service as HasFailed, Closed as IsClosed, Memory as NoMemory}
+use Rattle.tower_pool.specs.declared.buffer.error.Error.TheVariants.{Inner, Service as HasFailed, Closed as IsClosed, Memory as NoMemory}
 use Rattle.tower_pool.specs.declared.buffer.seat.Seat.{Seat}
 use Rattle.tower_pool.specs.declared.buffer.seat.Seat.TheVariants.{Away, Asking, Reserved}
 use Rattle.tower_pool.specs.declared.buffer.seat.Stage.{Stage}
@@ -25,7 +25,7 @@ abbrev pub step_of : {Q F E : Type 0} → Seat → MailStep Q F E
 step_of (Asking key) = Look key
 step_of _ = Reserve
 
--- the service's own error, as callers get it
+-- the error of a service that failed to be ready, as callers get it
 abbrev pub failed : {E : Type 0} → E → Error E
 failed e = HasFailed (record { error = e })
 
@@ -80,10 +80,10 @@ module _ {L Q F E : Type 0} (gave : L → MailStep Q F E → MailReply Q F E →
     pub gave_reply : gave old.latch (Send request) reply
     pub sends : Sends old share reply future new
 
--- the inner future's answer, with the service's own error
+-- the inner future's answer, whose error is `Inner`
 abbrev pub outward : {A E : Type 0} → Poll (Result A E) → Poll (Result A (Error E))
 outward (Ready (Ok x)) = Ready (Ok x)
-outward (Ready (Err e)) = Ready (Err (failed e))
+outward (Ready (Err e)) = Ready (Err (Inner e))
 outward Pending = Pending
 
 -- one poll of the inner future
@@ -137,7 +137,3 @@ pub record IsClone {L Q F E : Type 0} (gave : L → MailStep Q F E → MailReply
   pub latch : (step : MailStep Q F E) (reply : MailReply Q F E) → gave copy.latch step reply → gave old.latch step reply
   pub joined : gave old.latch Join Done
   pub away : copy ≡ record { latch = copy.latch; seat = Away; share = None }
-
--- with a place reserved, the response's share is there
-abbrev pub HasShare : {L : Type 0} → BufferView L → Type 0
-HasShare buffer = buffer.seat ≡ Reserved → IsSome buffer.share

@@ -15,16 +15,16 @@ away latch = record { latch = latch; seat = Away; share = None }
 abbrev pub idle : {L S Q : Type 0} → L → S → WorkerView L S Q
 idle latch service = record { latch = latch; service = service; message = None; has_failed = false }
 
--- a `Buffer` and a worker of the service
-pub record IsPair {L S Q : Type 0} (service : S) (buffer : BufferView L) (worker : WorkerView L S Q) : Type 0 where
+-- a `Buffer` and a worker of the service, whose latch is a share of the `Buffer`'s
+pub record Paired {L S Q : Type 0} (shares : L → Result L AllocError → Type 0) (service : S) (buffer : BufferView L) (worker : WorkerView L S Q) : Type 0 where
   pub seat : buffer ≡ away buffer.latch
   pub work : worker ≡ idle worker.latch service
+  pub shared : shares buffer.latch (Ok worker.latch)
 
--- over this latch and a share that it made
-pub record Paired {L S Q : Type 0} (shares : L → Result L AllocError → Type 0) (latch : L) (service : S) (buffer : BufferView L) (worker : WorkerView L S Q) : Type 0 where
-  pub shared : shares latch (Ok worker.latch)
+-- over this latch
+pub record PairedOver {L S Q : Type 0} (shares : L → Result L AllocError → Type 0) (latch : L) (service : S) (buffer : BufferView L) (worker : WorkerView L S Q) : Type 0 where
   pub first : buffer.latch ≡ latch
-  pub pair : IsPair service buffer worker
+  pub pair : Paired shares service buffer worker
 
 -- the executor takes the task, and the other value is the answer; or it gives the task back
 abbrev pub HandsOver : {X T B E : Type 0} → (X → T → Result (Unit {0}) T → Type 0) → X → T → B → Result B (Error E) → Type 0
@@ -36,15 +36,15 @@ HandsOver spawned executor task other (Err _) = ⊥
 abbrev pub Tries : {X T : Type 0} → (X → T → Result (Unit {0}) T → Type 0) → X → T → Type 0
 Tries {T = T} spawned executor task = (answer : Result (Unit {0}) T) × spawned executor task answer
 
-module _ {L S Q X : Type 0} (spawned : X → WorkerView L S Q → Result (Unit {0}) (WorkerView L S Q) → Type 0) where
+module _ {L S Q X : Type 0} (shares : L → Result L AllocError → Type 0) (spawned : X → WorkerView L S Q → Result (Unit {0}) (WorkerView L S Q) → Type 0) where
   -- of a pair the executor takes the worker, and the answer is its `Buffer`; or it gives the worker back; or there is no memory
   abbrev pub Begins : {E : Type 0} → X → S → Result (BufferView L) (Error E) → Type 0
   Begins executor service answer = (answer ≡ Err NoMemory)
-      ⊎ ((buffer : BufferView L) × (worker : WorkerView L S Q) × IsPair service buffer worker × HandsOver spawned executor worker buffer answer)
+      ⊎ ((buffer : BufferView L) × (worker : WorkerView L S Q) × Paired shares service buffer worker × HandsOver spawned executor worker buffer answer)
 
   -- a `Buffer` of a pair, whose worker the executor took, or gave back
   abbrev pub Wraps : X → S → BufferView L → Type 0
-  Wraps executor service buffer = (worker : WorkerView L S Q) × IsPair service buffer worker × Tries spawned executor worker
+  Wraps executor service buffer = (worker : WorkerView L S Q) × Paired shares service buffer worker × Tries spawned executor worker
 
 -- a `BufferLayer`
 pub record BufferLayerView (X : Type 0) : Type 0 where

@@ -20,6 +20,11 @@ pub record ReadyCacheView (K S : Type 0) : Type 0 where
   pub ready : List (K × S)
   pub pending : List (PendingView K S)
 
+-- what the calls of a `ReadyCache` see: the two lists, and how many entries of the slab of pending ones were reached so far
+pub record CountedView (K S : Type 0) : Type 0 where
+  pub lists : ReadyCacheView K S
+  pub touches : ℕ
+
 -- a new pending endpoint
 abbrev pub waiting : {K S : Type 0} → K → S → PendingView K S
 waiting k s = record { key = k; service = s; cancelled = false }
@@ -59,10 +64,14 @@ module _ {K S : Type 0} (eq : K → K → Bool) where
     pub known : (k : K) → knows k ≡ (is_some (lookup (eq k) ready) || awaited k pending)
     pub fits : length ready + length pending ≤ room
 
--- each service is sound
+-- a pending endpoint's service is sound, unless the endpoint is cancelled
+abbrev pub Askable : {K S : Type 0} → (S → Type 0) → PendingView K S → Type 0
+Askable sound p = p.cancelled ≡ false → sound p.service
+
+-- Each service that may be asked is sound. Of a cancelled endpoint nothing is known, so it can't be asked once more.
 pub record Sound {K S : Type 0} (sound : S → Type 0) (v : ReadyCacheView K S) : Type 0 where
   pub ready : All (λ e. sound e.1) v.ready
-  pub pending : All (λ p. sound p.service) v.pending
+  pub pending : All (Askable sound) v.pending
 
 -- what stands at the index, which is there, meets P
 abbrev pub At : {X : Type 0} → List X → ℕ → (X → Type 0) → Type 0

@@ -5,13 +5,13 @@ use Rattle.std.specs.Option.{option_map_or}
 use Rattle.std.specs.declared.clone.Clone.{Ghosts as CloneOf}
 use Rattle.indexmap.specs.IndexMap.{set_value_at}
 use Rattle.std.specs.HashMap.Lent.{HashMembers}
-use Rattle.tower_pool.specs.ReadyCache.{ReadyCacheView}
+use Rattle.tower_pool.specs.ReadyCache.{CountedView}
 use Rattle.tower_pool.specs.contracts.ready_cache.cache.ReadyCache.{the_row}
 
 -- c, with w as the ready service at the index, if there is one
-abbrev pub with_ready_at : {K S : Type 0} → ReadyCacheView K S → Option ℕ → S → ReadyCacheView K S
-with_ready_at c i w = record c { ready = option_map_or (λ i. set_value_at c.ready i w) i c.ready }
+abbrev pub with_ready_at : {K S : Type 0} → CountedView K S → Option ℕ → S → CountedView K S
+with_ready_at c i w = record c { lists = record c.lists { ready = option_map_or (λ i. set_value_at c.lists.ready i w) i c.lists.ready } }
 
 -- c ends with the last value behind r as the ready service at the index; at `None` it stays as it is
-abbrev pub LendsReady : (K S Q : RattleType) → HashMembers K.Denot → CloneOf K.Denot → MutBor (ReadyCacheView K.Denot S.Denot) → Option ℕ → Option (MutBor S.Denot) → Fml
+abbrev pub LendsReady : (K S Q : RattleType) → HashMembers K.Denot → CloneOf K.Denot → MutBor (CountedView K.Denot S.Denot) → Option ℕ → Option (MutBor S.Denot) → Fml
 LendsReady K S Q key clone c i r = LendsIf (the_row K S Q (record { eq = key.eq }) (record { hash_input = key.hash_input }) clone) S c r (with_ready_at c.now i) c.now

@@ -1,15 +1,17 @@
 -- Cores and the ledgers that they stand for.
 use Rattle.std.proofs.Common.{◌≡◌, ℕ, zero, suc, ◌+◌, ◌-◌, ◌<◌, ◌≤◌, ◌^◌, ◌⊎◌, nat_lt, true, false, List, [], ◌∷◌, arith, refl, ap, sym, subst, ◌∙◌, Bool, inl, inr, ◌/◌, ◌*◌, ◌%◌}
-use Rattle.std.specs.Prelude.{ℤ, pos, int_le, ◌+ℤ◌, nat_abs, nat_eq}
-use Rattle.std.specs.Int.{w128, saturate_signed, div_ceil}
-use Rattle.std.proofs.Math.Nat.{eq-zero-or-pos}
+use Rattle.std.specs.Prelude.{ℤ, pos, int_le, ◌+ℤ◌, nat_abs, nat_eq, max, min, if◌then◌else◌}
+use Rattle.std.specs.Int.{w128, saturate_signed}
+use Rattle.std.proofs.Math.Nat.{max-eq_left, max-eq_right, zero-div}
+use Rattle.std.proofs.lemmas.Nat.{div-add-mod', div_below, le-div}
 use Rattle.std.proofs.lemmas.Int.{ints}
+use Rattle.std.proofs.lemmas.Bool.{le-ltb, lt-ltb, ltb-false, ltb-true}
 use Rattle.std.proofs.lemmas.Bool.Decides.{nat_tests, leb_tells}
 use Rattle.tower_base.specs.LatchLemmas.{is_run}
 use Rattle.tower_retry.proofs.BudgetLemmas.{exact, older_sum, other_size, other_sum, size_parts, sum_size, total_parts}
 use Rattle.tower_retry.proofs.SlotLemmas.{back_size, none_keeps, saturates, triangle}
-use Rattle.tower_retry.specs.Budget.{Ledger, added, advanced, IsExact, Steps, balance}
-use Rattle.tower_retry.specs.BudgetCore.{StandsFor, SumsKept, kept_balance, later}
+use Rattle.tower_retry.specs.Budget.{Ledger, added, advanced, generation_at, IsExact, Steps, balance}
+use Rattle.tower_retry.specs.BudgetCore.{StandsFor, SumsKept, kept_balance}
 use Rattle.tower_retry.specs.Slots.{Each, Keeps, Moves, kept_sum, size_back, slot, sum_back}
 use Rattle.tower_retry.specs.declared.retry.budget.budget_core.BudgetCore.{BudgetCore}
 use Rattle.tower_retry.specs.declared.retry.budget.steps.Amount.{Amount}
@@ -31,58 +33,110 @@ balances core l s small =
     rw totals (omega (arith, ints, triangle (pos l.terms.reserve) (older_sum g 10 xs +ℤ sum_back g 0 xs), triangle (older_sum g 10 xs) (sum_back g 0 xs), sum_size g 10 xs, back_size g 0 xs)) in
     rw sum (saturates _ bound)
 
--- a core stands for the ledger of what it keeps, in which its generation is the tenth
+-- a core stands for the ledger of what it keeps
 
-kept_amounts : ℕ → List ℤ → ℕ → List Amount
-kept_amounts i slots zero = []
-kept_amounts i slots (suc n) = record { generation = 10 - suc n; amount = slot i slots (suc n) } ∷ kept_amounts i slots n
+kept_amounts : ℕ → ℕ → List ℤ → ℕ → List Amount
+kept_amounts g i slots zero = []
+kept_amounts g i slots (suc n) = record { generation = g - suc n; amount = slot i slots (suc n) } ∷ kept_amounts g i slots n
 
-others : (i : ℕ) (slots : List ℤ) (n b : ℕ) → n ≤ 10 → (b ≡ 0) ⊎ (n < b) → sum_back 10 b (kept_amounts i slots n) ≡ pos 0
+-- nothing was added before the first generation
+abbrev pub Begun : ℕ → ℕ → List ℤ → Type 0
+Begun g i slots = (back : ℕ) → g < back → back ≤ 10 → slot i slots back ≡ pos 0
+
+no_part : (b : Bool) (z : ℤ) → z ≡ pos 0 → (if b then z else pos 0) ≡ pos 0
+no_part true z none = none
+no_part false z none = refl
+
+others : (g i : ℕ) (slots : List ℤ) (n b : ℕ) → Begun g i slots → n ≤ 10 → (b ≡ 0) ⊎ (n < b) → sum_back g b (kept_amounts g i slots n) ≡ pos 0
 unfolding kept_amounts
-others i slots zero b few other = refl
-others i slots (suc n) b few other =
-    let rest = others i slots n b (omega arith) (elim other [ inl none ↦ inl none | inr far ↦ inr (omega arith) ]) in
-    let no : nat_eq (10 - suc n + b) 10 ≡ false = elim other [ inl none ↦ grind (arith, nat_tests) | inr far ↦ grind (arith, nat_tests) ] in
-    rw (no, rest) refl
+others g i slots zero b begun few other = refl
+others g i slots (suc n) b begun few other =
+    let rest = others g i slots n b begun (omega arith) (elim other [ inl none ↦ inl none | inr far ↦ inr (omega arith) ]) in
+    let here : (if nat_eq (g - suc n + b) g then slot i slots (suc n) else pos 0) ≡ pos 0 =
+    elim (leb_tells (suc n) g) [
+      | inl there ↦
+          let no : nat_eq (g - suc n + b) g ≡ false = elim other [ inl none ↦ grind (arith, nat_tests) | inr far ↦ grind (arith, nat_tests) ] in
+          rw no refl
+      | inr before ↦ no_part (nat_eq (g - suc n + b) g) (slot i slots (suc n)) (begun (suc n) (omega arith) few)
+    ] in
+    rw (here, rest) refl
 
-own : (i : ℕ) (slots : List ℤ) (n b : ℕ) → n ≤ 10 → 1 ≤ b → b ≤ n → sum_back 10 b (kept_amounts i slots n) ≡ slot i slots b
+own : (g i : ℕ) (slots : List ℤ) (n b : ℕ) → Begun g i slots → n ≤ 10 → 1 ≤ b → b ≤ n → sum_back g b (kept_amounts g i slots n) ≡ slot i slots b
 unfolding kept_amounts
-own i slots zero b few some within = absurd (omega arith)
-own i slots (suc n) b few some within =
-    elim (leb_tells b n) [
-      | inl low ↦
-          let no : nat_eq (10 - suc n + b) 10 ≡ false = grind (arith, nat_tests) in
-          other_sum 10 b _ (kept_amounts i slots n) no ∙ own i slots n b (omega arith) some (omega arith)
-      | inr last ↦
-          let is : b ≡ suc n = omega arith in
-          let yes : nat_eq (10 - suc n + b) 10 ≡ true = grind (arith, nat_tests) in
-          rw (yes, others i slots n b (omega arith) (inr (omega arith)), is) (omega (arith, ints))
+own g i slots zero b begun few some within = absurd (omega arith)
+own g i slots (suc n) b begun few some within =
+    elim (leb_tells (suc n) g) [
+      | inl there ↦ elim (leb_tells b n) [
+        | inl low ↦
+            let no : nat_eq (g - suc n + b) g ≡ false = grind (arith, nat_tests) in
+            other_sum g b _ (kept_amounts g i slots n) no ∙ own g i slots n b begun (omega arith) some (omega arith)
+        | inr last ↦
+            let is : b ≡ suc n = omega arith in
+            let yes : nat_eq (g - suc n + b) g ≡ true = grind (arith, nat_tests) in
+            rw (yes, others g i slots n b begun (omega arith) (inr (omega arith)), is) (omega (arith, ints))
+      ]
+      | inr before ↦
+          let none : slot i slots (suc n) ≡ pos 0 = begun (suc n) (omega arith) few in
+          let here = no_part (nat_eq (g - suc n + b) g) (slot i slots (suc n)) none in
+          let rest : sum_back g b (kept_amounts g i slots n) ≡ slot i slots b = elim (leb_tells b n) [
+            | inl low ↦ own g i slots n b begun (omega arith) some (omega arith)
+            | inr last ↦ others g i slots n b begun (omega arith) (inr (omega arith)) ∙ sym (begun b (omega arith) (omega arith))
+          ] in
+          rw (here, rest) (omega (arith, ints))
     ]
 
-all_early : (i : ℕ) (slots : List ℤ) (n : ℕ) → Each (λ a. a.generation ≤ 10) (kept_amounts i slots n)
+all_early : (g i : ℕ) (slots : List ℤ) (n : ℕ) → Each (λ a. a.generation ≤ g) (kept_amounts g i slots n)
 unfolding kept_amounts
-all_early i slots zero = tt
-all_early i slots (suc n) = (omega arith, all_early i slots n)
+all_early g i slots zero = tt
+all_early g i slots (suc n) = (omega arith, all_early g i slots n)
 
 pub itself : (core : BudgetCore) → (l : Ledger) × StandsFor core l
 itself core =
+    let g = core.generation in
     let i = core.slots.index in
     let slots = core.slots.amounts.items in
-    let older_amounts = kept_amounts i slots 10 in
-    let newest : Amount = record { generation = 10; amount = core.present } in (
-      record { terms = core.terms; generation = 10; moment = core.moment; amounts = newest ∷ older_amounts },
+    let older_amounts = kept_amounts g i slots 10 in
+    let newest : Amount = record { generation = g; amount = core.present } in
+    let yes : nat_eq (g + 0) g ≡ true = grind (arith, nat_tests) in (
+      record { terms = core.terms; made = core.made; generation = g; amounts = newest ∷ older_amounts },
       record {
         terms = refl;
-        moment = refl;
-        present = λ small. rw (others i slots 10 0 (omega arith) (inl refl)) (omega (arith, ints));
+        made = refl;
+        generation = refl;
+        present = λ small. rw (yes, others g i slots 10 0 core.begun (omega arith) (inl refl)) (omega (arith, ints));
         slots = record {
-          none_later = (omega arith, all_early i slots 10);
+          none_later = (omega arith, all_early g i slots 10);
           each = λ back some few. λ small.
-              let no : nat_eq (10 + back) 10 ≡ false = grind (arith, nat_tests) in
-              sym (other_sum 10 back newest older_amounts no ∙ own i slots 10 back (omega arith) some few);
+              let no : nat_eq (g + back) g ≡ false = grind (arith, nat_tests) in
+              sym (other_sum g back newest older_amounts no ∙ own g i slots 10 back core.begun (omega arith) some few);
         };
       },
     )
+
+-- no amount is of a generation before the first
+early_sum : (g b : ℕ) (xs : List Amount) → g < b → sum_back g b xs ≡ pos 0
+early_sum g b [] early = refl
+early_sum g b (a ∷ rest) early =
+    let no : nat_eq (a.generation + b) g ≡ false = grind (arith, nat_tests) in
+    other_sum g b a rest no ∙ early_sum g b rest early
+
+early_size : (g b : ℕ) (xs : List Amount) → g < b → size_back g b xs ≡ 0
+early_size g b [] early = refl
+early_size g b (a ∷ rest) early =
+    let no : nat_eq (a.generation + b) g ≡ false = grind (arith, nat_tests) in
+    other_size g b a rest no ∙ early_size g b rest early
+
+pub begun_later : (old : BudgetCore) (n j : ℕ) (present : ℤ) (new : List ℤ) → present ≡ old.present
+    → Moves n present old.slots.index old.slots.amounts.items j new → Begun (old.generation + n) j new
+begun_later old n j present new is moves = λ back early few.
+    let plain = itself old in
+    let l = plain.0 in
+    let s = plain.1 in
+    let same : l.generation ≡ old.generation = s.generation in
+    let early_there : l.generation + n < back = rw same early in
+    let slots = moves l.generation l.amounts (rw is s.present) s.slots in
+    let none = early_size (l.generation + n) back l.amounts early_there in
+    slots.each back (omega arith) few (rw none (omega arith)) ∙ early_sum (l.generation + n) back l.amounts early_there
 
 pub sums_kept : SumsKept
 sums_kept old new served plain serves stands =
@@ -91,14 +145,15 @@ sums_kept old new served plain serves stands =
 
 -- a further amount of the present generation
 pub adds : (old new : BudgetCore) (l : Ledger) (amount : ℤ) → new.present ≡ saturate_signed w128 (old.present +ℤ amount) → StandsFor old l
-    → new.terms ≡ old.terms → new.moment ≡ old.moment → new.slots ≡ old.slots → StandsFor new (added l amount)
-adds old new l amount is s terms moment slots =
+    → new.terms ≡ old.terms → new.made ≡ old.made → new.generation ≡ old.generation → new.slots ≡ old.slots → StandsFor new (added l amount)
+adds old new l amount is s terms made generation slots =
     let g = l.generation in
     let xs = l.amounts in
     let yes : nat_eq (g + 0) g ≡ true = grind (arith, nat_tests) in
     record {
       terms = s.terms ∙ sym terms;
-      moment = s.moment ∙ sym moment;
+      made = s.made ∙ sym made;
+      generation = s.generation ∙ sym generation;
       present = λ small. is ∙ rw yes (exact_more g xs old.present amount s.present (rw yes at small));
       slots = rw slots (record {
         none_later = (omega arith, s.slots.none_later);
@@ -117,39 +172,69 @@ adds old new l amount is s terms moment slots =
         let bound : nat_abs kept ≤ size_back g 0 xs = rw here (back_size g 0 xs) in
         saturates _ (omega (arith, triangle kept more)) ∙ omega (arith, ints, here)
 
--- so many generations later
-pub moved_on : (old new : BudgetCore) (l : Ledger) (n m moment : ℕ) (present : ℤ) → 0 < n → n ≡ m → present ≡ old.present
-    → new.terms ≡ old.terms → new.moment ≡ moment → new.present ≡ pos 0
-    → Moves n present old.slots.index old.slots.amounts.items new.slots.index new.slots.amounts.items → StandsFor old l → StandsFor new (later l m moment)
-moved_on old new l n m moment present some is kept terms at none moves s = subst (λ (x : ℕ). StandsFor new (later l x moment)) is (record {
-  terms = s.terms ∙ sym terms;
-  moment = sym at;
-  present = rw none (none_keeps (l.generation + n) 0 l.generation l.amounts s.slots.none_later (omega arith));
-  slots = moves l.generation l.amounts (rw kept s.present) s.slots;
-})
-
--- a gap of a window or more has some windows
-pub ceil_some : (gap window : ℕ) → 0 < window → window ≤ gap → 0 < div_ceil gap window
-ceil_some gap window some far =
-    elim (eq-zero-or-pos (gap / window)) [
-      | inl none ↦
-          let parts : window * (gap / window) + gap % window ≡ gap = omega arith in
-          let rest : window * 0 + gap % window ≡ gap = subst (λ (x : ℕ). window * x + gap % window ≡ gap) none parts in
-          omega arith
-      | inr more ↦ omega arith
+-- the last moment of a generation
+pub ends_at : (made window g last : ℕ) → 0 < window → last ≡ min (made + g * window + (window - 1)) (2 ^ 64 - 1)
+    → (moment : ℕ) → moment < 2 ^ 64 → nat_lt last moment ≡ nat_lt g (generation_at made window moment)
+ends_at made window g last some is moment fits =
+    elim (leb_tells moment (made + g * window + (window - 1))) [
+      | inl near ↦
+          let low : (moment - made) / window < g + 1 = div_below (moment - made) window (g + 1) some (omega arith) in
+          let here : moment ≤ last = rw is (omega arith) in
+          le-ltb last moment here ∙ sym (le-ltb g ((moment - made) / window) (omega arith))
+      | inr far ↦
+          let high : g + 1 ≤ (moment - made) / window = le-div (g + 1) (moment - made) window some (omega arith) in
+          let past : last < moment = rw is (omega arith) in
+          lt-ltb last moment past ∙ sym (lt-ltb g ((moment - made) / window) (omega arith))
     ]
 
--- an advance by a window or more
-pub advances : (l : Ledger) (moment : ℕ) → l.terms.window ≤ moment - l.moment → advanced l moment ≡ later l (div_ceil (moment - l.moment) l.terms.window) moment
-advances l moment far =
-    let past : nat_lt (moment - l.moment) l.terms.window ≡ false = grind (arith, nat_tests) in
-    rw past refl
+pub ends_here : (made window moment last : ℕ) → 0 < window → made ≤ moment → last ≡ min (moment - (moment - made) % window + (window - 1)) (2 ^ 64 - 1)
+    → (later : ℕ) → later < 2 ^ 64 → nat_lt last later ≡ nat_lt (generation_at made window moment) (generation_at made window later)
+ends_here made window moment last some late is =
+    let begins : moment - (moment - made) % window ≡ made + (moment - made) / window * window = omega (arith, div-add-mod' (moment - made) window) in
+    ends_at made window ((moment - made) / window) last some (is ∙ ap (λ (b : ℕ). min (b + (window - 1)) (2 ^ 64 - 1)) begins)
 
--- a shorter one
-pub stays : (l : Ledger) (moment : ℕ) → moment - l.moment < l.terms.window → advanced l moment ≡ l
-stays l moment near =
-    let short : nat_lt (moment - l.moment) l.terms.window ≡ true = grind (arith, nat_tests) in
-    rw short refl
+-- a moment in the present generation
+pub stays : (core : BudgetCore) (l : Ledger) (moment : ℕ) → moment < 2 ^ 64 → moment ≤ core.last → StandsFor core l → StandsFor core (advanced l moment)
+stays core l moment fits near s =
+    let here : generation_at core.made core.terms.window moment ≤ core.generation =
+    ltb-false core.generation _ (sym (core.ends moment fits) ∙ le-ltb core.last moment near) in
+    let terms = s.terms in
+    let made = s.made in
+    let generation = s.generation in
+    let same : max l.generation (generation_at l.made l.terms.window moment) ≡ l.generation = max-eq_left (rw (terms, made, generation) here) in
+    subst (λ (g : ℕ). StandsFor core (record l { generation = g })) (sym same) s
+
+-- a moment past it
+pub is_later : (core : BudgetCore) (moment : ℕ) → moment < 2 ^ 64 → core.last < moment → core.generation < generation_at core.made core.terms.window moment
+is_later core moment fits past = ltb-true core.generation _ (sym (core.ends moment fits) ∙ lt-ltb core.last moment past)
+
+pub is_after : (made window moment : ℕ) → 0 < generation_at made window moment → made < moment
+is_after made window moment some =
+    elim (leb_tells moment made) [
+      | inl early ↦
+          let none : moment - made ≡ 0 = omega arith in
+          let first : (moment - made) / window ≡ 0 = rw none (zero-div window) in
+          absurd (omega (arith, some, first))
+      | inr late ↦ late.1
+    ]
+
+-- at that moment, so many generations later
+pub moved_on : (old new : BudgetCore) (l : Ledger) (n moment : ℕ) (present : ℤ) → 0 < n → old.generation + n ≡ generation_at old.made old.terms.window moment → present ≡ old.present
+    → new.terms ≡ old.terms → new.made ≡ old.made → new.generation ≡ generation_at old.made old.terms.window moment → new.present ≡ pos 0
+    → Moves n present old.slots.index old.slots.amounts.items new.slots.index new.slots.amounts.items → StandsFor old l → StandsFor new (advanced l moment)
+moved_on old new l n moment present some is kept terms made generation none moves s =
+    let old_terms = s.terms in
+    let old_made = s.made in
+    let old_generation = s.generation in
+    let there : generation_at l.made l.terms.window moment ≡ l.generation + n = rw (old_terms, old_made, old_generation) (sym is) in
+    let later : max l.generation (generation_at l.made l.terms.window moment) ≡ l.generation + n = rw there (max-eq_right (omega arith)) in
+    subst (λ (g : ℕ). StandsFor new (record l { generation = g })) (sym later) (record {
+      terms = s.terms ∙ sym terms;
+      made = s.made ∙ sym made;
+      generation = rw old_generation (is ∙ sym generation);
+      present = rw none (none_keeps (l.generation + n) 0 l.generation l.amounts s.slots.none_later (omega arith));
+      slots = moves l.generation l.amounts (rw kept s.present) s.slots;
+    })
 
 -- whether a core affords a withdrawal is whether its ledger does
 pub affords : (core : BudgetCore) (l : Ledger) → StandsFor core l → (answer : Bool)

@@ -1,7 +1,6 @@
 -- The history of a budget is a run of its machine.
-use Rattle.std.proofs.Common.{◌≡◌, ℕ, ◌+◌, ◌-◌, List, [], ◌∷◌, take, nat_lt, if◌then◌else◌, Bool, true, false, refl, ap, subst, ◌∙◌}
+use Rattle.std.proofs.Common.{◌≡◌, ℕ, List, [], ◌∷◌, take, if◌then◌else◌, Bool, true, false, refl, ap, subst, ◌∙◌}
 use Rattle.std.specs.Prelude.{ℤ, pos, neg_ℤ, int_le}
-use Rattle.std.specs.Int.{div_ceil}
 use Rattle.tower_base.specs.Latch.{Serves}
 use Rattle.tower_base.specs.HistoryLemmas.{serves_at, plain_run}
 use Rattle.tower_retry.specs.Budget.{Ledger, Steps, added, advanced, balance, blank}
@@ -14,24 +13,17 @@ use Rattle.tower_retry.specs.declared.retry.budget.steps.BudgetReply.TheVariants
 use Rattle.tower_retry.specs.declared.retry.budget.steps.Terms.{Terms}
 
 -- the terms stay
-advanced_terms : (ledger : Ledger) (moment : ℕ) → (advanced ledger moment).terms ≡ ledger.terms
-advanced_terms ledger moment = of (nat_lt (moment - ledger.moment) ledger.terms.window)
-  where
-    of : (short : Bool) → (if short then ledger else record ledger { generation = ledger.generation + div_ceil (moment - ledger.moment) ledger.terms.window; moment = moment }).terms ≡ ledger.terms
-    of true = refl
-    of false = refl
-
 added_terms : (ledger : Ledger) (amount : ℤ) (allowed : Bool) → (if allowed then added ledger amount else ledger).terms ≡ ledger.terms
 added_terms ledger amount true = refl
 added_terms ledger amount false = refl
 
 step_terms : (old : Ledger) (step : BudgetStep) (reply : BudgetReply) (new : Ledger) → Steps old step reply new → new.terms ≡ old.terms
-step_terms old (Deposit moment) Done new step = ap (λ (l : Ledger). l.terms) step ∙ advanced_terms old moment
+step_terms old (Deposit moment) Done new step = ap (λ (l : Ledger). l.terms) step
 step_terms old (Deposit moment) (Allowed allowed) new step = absurd step
 step_terms old (Withdraw moment) Done new step = absurd step
 step_terms old (Withdraw moment) (Allowed allowed) new step =
     let at = advanced old moment in
-    ap (λ (l : Ledger). l.terms) step.after ∙ added_terms at (neg_ℤ (pos at.terms.withdrawal)) allowed ∙ advanced_terms old moment
+    ap (λ (l : Ledger). l.terms) step.after ∙ added_terms at (neg_ℤ (pos at.terms.withdrawal)) allowed
 
 serves_terms : (old new : Ledger) (served : List (BudgetStep × BudgetReply)) → Serves Steps old served new → new.terms ≡ old.terms
 serves_terms old new [] run = ap (λ (l : Ledger). l.terms) run
@@ -42,5 +34,5 @@ answered_by_sums terms made budget opening history held is legal place moment al
     let run = plain_run Opens StandsFor Steps budget (blank terms made) opening history held is legal in
     let here = serves_at Steps (blank terms made) run.0 history place (Withdraw moment) (Allowed allowed) run.1 at in
     let past = here.0 in
-    let same : (advanced past moment).terms ≡ terms = advanced_terms past moment ∙ serves_terms (blank terms made) past (take place history) here.2 in
+    let same : (advanced past moment).terms ≡ terms = serves_terms (blank terms made) past (take place history) here.2 in
     (past, here.2, λ small. subst (λ (t : Terms). allowed ≡ int_le (pos t.withdrawal) (balance (advanced past moment))) same (here.3.made small))

@@ -1,6 +1,7 @@
 pub mod BudgetCoreLemmas
 pub mod BudgetHistoryLemmas
 pub mod BudgetLemmas
+pub mod BudgetWindowLemmas
 pub mod HedgeLemmas
 pub mod RetryLemmas
 pub mod SlotLemmas

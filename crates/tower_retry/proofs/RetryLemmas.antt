@@ -3,6 +3,7 @@ use Rattle.std.proofs.Common.{◌≡◌, ℕ, zero, suc, Option, Some, None, Res
 use Rattle.futures.specs.declared.task.Poll.{Poll}
 use Rattle.futures.specs.declared.task.Poll.TheVariants.{Ready, Pending}
 use Rattle.tower_base.specs.Gives.{GivesAfter, MayGive}
+use Rattle.std.specs.declared.clone.Clone.{Ghosts as CloneOf}
 use Rattle.tower_base.specs.GivesLemmas.{gives_same, gives_value}
 use Rattle.tower_base.specs.Passes.{Goes, Passes}
 use Rattle.tower_base.specs.declared.service.Service.{Ghosts as ServiceOf}
@@ -251,7 +252,7 @@ module _ {P S Q A E F W : Type 0} (s : ServiceOf S Q A E F) (stepped : F → Pol
   none_gives zero output (new, (is, same)) = cc (is)
   none_gives (suc polls) output (new, (is, same), more) = absurd (cc (is))
 
-  pub gives_answers : (policy_clone : P → P → Type 0) (service_clone : S → S → Type 0) → GivesAnswers s stepped p waited policy_clone service_clone
+  pub gives_answers : (policy_clone : CloneOf P) (service_clone : CloneOf S) → GivesAnswers s stepped p waited policy_clone service_clone
   unfolding MayGive
   gives_answers policy_clone service_clone old request (Some first) new output call gives =
       attempts_at first call.response output call.begins.3 (rest_gives gives.0 first output gives.1) request

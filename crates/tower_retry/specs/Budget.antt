@@ -1,6 +1,5 @@
 -- A budget as a plain list of the amounts of its generations.
-use Rattle.std.specs.Prelude.{◌≡◌, ◌<◌, ◌≤◌, ℕ, ◌+◌, ◌-◌, ◌*◌, ◌/◌, ◌^◌, nat_lt, nat_le, nat_eq, if◌then◌else◌, ◌&&◌, Bool, List, [], ◌∷◌, ℤ, pos, neg_ℤ, nat_abs, ◌+ℤ◌, int_le}
-use Rattle.std.specs.Int.{div_ceil}
+use Rattle.std.specs.Prelude.{◌≡◌, ◌<◌, ◌≤◌, ℕ, ◌+◌, ◌-◌, ◌*◌, ◌/◌, ◌^◌, max, nat_le, nat_eq, if◌then◌else◌, ◌&&◌, Bool, List, [], ◌∷◌, ℤ, pos, neg_ℤ, nat_abs, ◌+ℤ◌, int_le}
 use Rattle.tower_base.specs.declared.service.Fraction.{Fraction}
 use Rattle.tower_retry.specs.declared.retry.budget.steps.Amount.{Amount}
 use Rattle.tower_retry.specs.declared.retry.budget.steps.BudgetStep.{BudgetStep}
@@ -9,11 +8,11 @@ use Rattle.tower_retry.specs.declared.retry.budget.steps.BudgetReply.{BudgetRepl
 use Rattle.tower_retry.specs.declared.retry.budget.steps.BudgetReply.TheVariants.{Done, Allowed}
 use Rattle.tower_retry.specs.declared.retry.budget.steps.Terms.{Terms}
 
--- The present generation and its moment, and every amount so far, the newest first.
+-- The moment of making, the present generation, and every amount so far, the newest first.
 pub record Ledger : Type 0 where
   pub terms : Terms
+  pub made : ℕ
   pub generation : ℕ
-  pub moment : ℕ
   pub amounts : List Amount
 
 -- The time of an amount is 1 to 60 seconds, the reserve of a second is below 2147483647, and the fraction is 1000 at most.
@@ -43,14 +42,15 @@ terms_of ttl min_per_sec fraction =
 
 -- at the moment of making
 abbrev pub blank : Terms → ℕ → Ledger
-blank terms moment = record { terms = terms; generation = 0; moment = moment; amounts = [] }
+blank terms made = record { terms = terms; made = made; generation = 0; amounts = [] }
 
--- The generation grows by the gap over the window, rounded up, where the gap is a window or more. A clock that went back leaves no gap.
+-- The whole windows from the moment of making to this moment: none where the clock went back.
+abbrev pub generation_at : ℕ → ℕ → ℕ → ℕ
+generation_at made window moment = (moment - made) / window
+
+-- The generation is that of the moment, or the present one where that is greater.
 abbrev pub advanced : Ledger → ℕ → Ledger
-advanced ledger moment =
-    let gap = moment - ledger.moment in
-    if nat_lt gap ledger.terms.window then ledger
-    else record ledger { generation = ledger.generation + div_ceil gap ledger.terms.window; moment = moment }
+advanced ledger moment = record ledger { generation = max ledger.generation (generation_at ledger.made ledger.terms.window moment) }
 
 abbrev pub added : Ledger → ℤ → Ledger
 added ledger amount = record ledger { amounts = record { generation = ledger.generation; amount = amount } ∷ ledger.amounts }

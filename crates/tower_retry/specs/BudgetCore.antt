@@ -1,5 +1,5 @@
 -- Which plain ledgers a `BudgetCore` stands for.
-use Rattle.std.specs.Prelude.{◌≡◌, ℕ, ◌+◌, List, ℤ, pos, ◌+ℤ◌}
+use Rattle.std.specs.Prelude.{◌≡◌, ℕ, List, ℤ, pos, ◌+ℤ◌}
 use Rattle.std.specs.Int.{w128, saturate_signed}
 use Rattle.tower_base.specs.Latch.{Serves, StepsAs}
 use Rattle.tower_base.specs.declared.service.Fraction.{Fraction}
@@ -10,10 +10,10 @@ use Rattle.tower_retry.specs.declared.retry.budget.steps.BudgetStep.{BudgetStep}
 use Rattle.tower_retry.specs.declared.retry.budget.steps.BudgetReply.{BudgetReply}
 
 -- The slots keep the ten generations before the ledger's, and the present amount is that of its own generation.
--- (A core keeps no number of its generation: it is told by where the amounts stand.)
 pub record StandsFor (core : BudgetCore) (ledger : Ledger) : Type 0 where
   pub terms : ledger.terms ≡ core.terms
-  pub moment : ledger.moment ≡ core.moment
+  pub made : ledger.made ≡ core.made
+  pub generation : ledger.generation ≡ core.generation
   pub present : Keeps ledger.generation 0 ledger.amounts core.present
   pub slots : Slotted ledger.generation ledger.amounts core.slots.index core.slots.amounts.items
 
@@ -25,10 +25,6 @@ Opens core = (ttl : ℕ) × (min_per_sec : ℕ) × (fraction : Fraction) × (mom
 -- where the old core stands for a ledger, the new one stands for that ledger changed in this way
 abbrev pub Changes : (Ledger → Ledger) → BudgetCore → BudgetCore → Type 0
 Changes change old new = (ledger : Ledger) → StandsFor old ledger → StandsFor new (change ledger)
-
--- a ledger so many generations later, at this moment
-abbrev pub later : Ledger → ℕ → ℕ → Ledger
-later ledger generations moment = record ledger { generation = ledger.generation + generations; moment = moment }
 
 -- how many slots a core has written since it was made
 abbrev pub writes : BudgetCore → ℕ

@@ -1,5 +1,6 @@
 -- The machine of `hedge::delay`.
 use Rattle.std.specs.Prelude.{◌≡◌, ℕ, ⊤, ◌+◌, Result, Err}
+use Rattle.std.specs.declared.clone.Clone.{Ghosts as CloneOf}
 use Rattle.futures.specs.declared.task.Poll.{Poll}
 use Rattle.futures.specs.declared.task.Poll.TheVariants.{Ready, Pending}
 use Rattle.tower_base.specs.Answers.{answered}
@@ -22,13 +23,13 @@ pub record DelayView (P S C : Type 0) : Type 0 where
   pub service : S
   pub clock : C
 
-module _ {P S C Q O : Type 0} (p : PolicyOf P Q) (is_clone : S → S → Type 0) (c : ClockOf C) where
-  -- A future's first value: the delay is from one reading on, and then a clone gets the request. There is none where the clone was refused.
+module _ {P S C Q O : Type 0} (p : PolicyOf P Q) (clones : CloneOf S) (c : ClockOf C) where
+  -- A future's first value: the delay is from one reading on, and then a clone gets the request. There is none where the clone was refused, which may be where cloning may fail.
   abbrev pub Begins : DelayView P S C → Q → ℕ → State (SleepView C) S Q O → Type 0
   Begins old request delay (Delaying sleep service kept) = ((clock : C) × c.shared old.clock clock × c.read clock sleep.clock)
-      × (sleep.deadline ≡ c.reading sleep.clock + delay) × is_clone old.service service × (kept ≡ request)
+      × (sleep.deadline ≡ c.reading sleep.clock + delay) × clones.is_clone old.service service × (kept ≡ request)
   Begins old request delay (InFlight oneshot) = ⊥
-  Begins old request delay NoClone = ⊤
+  Begins old request delay NoClone = ¬ (clones.is_infallible old.service)
 
   -- a call: the policy is asked for the delay
   pub record Called (old : DelayView P S C) (request : Q) (future : State (SleepView C) S Q O) (new : DelayView P S C) : Type 0 where

@@ -1,5 +1,6 @@
 -- How a `Hedge` is made.
-use Rattle.std.specs.Prelude.{◌≡◌, ℕ, List}
+use Rattle.std.specs.Prelude.{◌≡◌, ℕ, List, Result}
+use Rattle.std.specs.declared.alloc.AllocError.{AllocError}
 use Rattle.tower_base.specs.declared.service.Clock.{Ghosts as ClockOf}
 use Rattle.tower_base.specs.declared.service.Fraction.{Fraction}
 use Rattle.tower_retry.specs.Hedge.{HedgeView}
@@ -9,23 +10,23 @@ use Rattle.tower_limit.specs.declared.hedge.rotating_histogram.steps.HistoReply.
 
 -- The first side is a clone of the service, and the second the service itself. Both are recorded, by clones of the one histogram. The
 -- second is filtered by a clone of the policy, and delayed by a clone of the histogram. The clocks are shares of the one.
-pub record Made {S P L C : Type 0} (service_clone : S → S → Type 0) (policy_clone : P → P → Type 0) (gave : L → HistoStep → HistoReply → Type 0) (c : ClockOf C)
+pub record Made {S P L C : Type 0} (service_clone : S → S → Type 0) (policy_clone : P → P → Type 0) (gave : L → HistoStep → HistoReply → Type 0) (may_share : L → Result L AllocError → Type 0) (c : ClockOf C)
     (histogram : RotatingHistogramView L C) (service : S) (policy : P) (min_data_points : ℕ) (percentile : Fraction) (clock : C) (made : HedgeView S P L C) : Type 0 where
-  pub first_rec : IsClone gave c histogram made.a.rec
+  pub first_rec : IsClone gave may_share c histogram made.a.rec
   pub first_service : service_clone service made.a.service
   pub first_clock : c.shared clock made.a.clock
-  pub second_rec : IsClone gave c histogram made.b.service.inner.rec
+  pub second_rec : IsClone gave may_share c histogram made.b.service.inner.rec
   pub second_service : made.b.service.inner.service ≡ service
   pub second_clock : c.shared clock made.b.service.inner.clock
   pub second_policy : policy_clone policy made.b.service.predicate
-  pub delay_histogram : IsClone gave c histogram made.b.policy.histogram
+  pub delay_histogram : IsClone gave may_share c histogram made.b.policy.histogram
   pub delay_percentile : made.b.policy.percentile ≡ percentile
   pub delay_clock : c.shared clock made.b.clock
   pub select_policy : made.policy.policy ≡ policy
   pub select_histogram : made.policy.histogram ≡ histogram
   pub select_min : made.policy.min_data_points ≡ min_data_points
 
-module _ {S P L C : Type 0} (service_clone : S → S → Type 0) (policy_clone : P → P → Type 0) (gave : L → HistoStep → HistoReply → Type 0) (c : ClockOf C) where
+module _ {S P L C : Type 0} (service_clone : S → S → Type 0) (policy_clone : P → P → Type 0) (gave : L → HistoStep → HistoReply → Type 0) (may_share : L → Result L AllocError → Type 0) (c : ClockOf C) where
   -- over a latch: the histogram has the latch and a share of the clock, and got these latencies at first
   pub record MadeFrom (latencies : List ℕ) (latch : L) (service : S) (policy : P) (min_data_points : ℕ) (percentile : Fraction) (clock : C) (made : HedgeView S P L C) : Type 0 where
     pub empty : RotatingHistogramView L C
@@ -33,7 +34,7 @@ module _ {S P L C : Type 0} (service_clone : S → S → Type 0) (policy_clone :
     pub shares : c.shared clock empty.clock
     pub histogram : RotatingHistogramView L C
     pub seeded : SeededAll gave c empty latencies histogram
-    pub parts : Made service_clone policy_clone gave c histogram service policy min_data_points percentile clock made
+    pub parts : Made service_clone policy_clone gave may_share c histogram service policy min_data_points percentile clock made
 
   -- with a latch of its own: the clock is read once before
   pub record MadeAt (latencies : List ℕ) (service : S) (policy : P) (min_data_points : ℕ) (percentile : Fraction) (clock : C) (made : HedgeView S P L C) : Type 0 where

@@ -2,6 +2,7 @@ pub mod Backoff
 pub mod Budget
 pub mod BudgetCore
 pub mod BudgetHistory
+pub mod BudgetWindows
 pub mod Delay
 pub mod Hedge
 pub mod HedgeCheck

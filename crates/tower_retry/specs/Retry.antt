@@ -1,5 +1,6 @@
 -- The machine of `retry`.
 use Rattle.std.specs.Prelude.{◌≡◌, ℕ, ⊤, Option, Some, None, Result, Ok, Err, IsSome}
+use Rattle.std.specs.declared.clone.Clone.{Ghosts as CloneOf}
 use Rattle.futures.specs.declared.task.Poll.{Poll}
 use Rattle.futures.specs.declared.task.Poll.TheVariants.{Ready, Pending}
 use Rattle.tower_base.specs.Answers.{answered}
@@ -95,14 +96,14 @@ module _ {P S Q A E F W : Type 0} (s : ServiceOf S Q A E F) (p : PolicyOf P Q A 
     pub answers : answer ≡ answered Inner inner
     pub same : new ≡ record old { service = new.service }
 
-  -- a future's first value, of the inner future and of clones; where a clone was refused, there is none
-  abbrev pub Begins : (P → P → Type 0) → (S → S → Type 0) → RetryView P S → Option Q → F → ResponseFutureView P S Q F W → Type 0
-  Begins policy_clone service_clone retry kept response (Some first) = policy_clone retry.policy first.policy × service_clone retry.service first.service
+  -- A future's first value, of the inner future and of clones. There is none where a clone was refused, which may be where cloning may fail.
+  abbrev pub Begins : CloneOf P → CloneOf S → RetryView P S → Option Q → F → ResponseFutureView P S Q F W → Type 0
+  Begins policy_clone service_clone retry kept response (Some first) = policy_clone.is_clone retry.policy first.policy × service_clone.is_clone retry.service first.service
       × (first.request ≡ kept) × (first.state ≡ InFlight response)
-  Begins policy_clone service_clone retry kept response None = ⊤
+  Begins policy_clone service_clone retry kept response None = ¬ (policy_clone.is_infallible retry.policy × service_clone.is_infallible retry.service)
 
   -- a call: the policy is asked for a copy of the request, and then the inner service, which is ready, is called
-  pub record Called (policy_clone : P → P → Type 0) (service_clone : S → S → Type 0) (old : RetryView P S) (request : Q)
+  pub record Called (policy_clone : CloneOf P) (service_clone : CloneOf S) (old : RetryView P S) (request : Q)
       (future : ResponseFutureView P S Q F W) (new : RetryView P S) : Type 0 where
     pub kept : Option Q
     pub response : F

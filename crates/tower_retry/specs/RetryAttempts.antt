@@ -1,5 +1,6 @@
 -- What a `Retry`'s future gives, over all its polls: the answer of a list of attempts.
 use Rattle.std.specs.Prelude.{◌≡◌, ℕ, zero, suc, Some, None, Result, Ok, Err, List, [], ◌∷◌}
+use Rattle.std.specs.declared.clone.Clone.{Ghosts as CloneOf}
 use Rattle.futures.specs.declared.task.Poll.{Poll}
 use Rattle.futures.specs.declared.task.Poll.TheVariants.{Ready, Pending}
 use Rattle.tower_base.specs.Answers.{answered}
@@ -79,7 +80,7 @@ module _ {P S Q A E F W : Type 0} (s : ServiceOf S Q A E F) (stepped : F → Pol
   IsAnswer request None output = output ≡ Err Memory
 
   -- Whatever the future of a call gives, over all its polls, is such an answer.
-  abbrev pub GivesAnswers : (P → P → Type 0) → (S → S → Type 0) → Type 0
+  abbrev pub GivesAnswers : CloneOf P → CloneOf S → Type 0
   GivesAnswers policy_clone service_clone = (old : RetryView P S) (request : Q) (future : ResponseFutureView P S Q F W) (new : RetryView P S)
       (output : Result A (Error E)) → Called s p policy_clone service_clone old request future new
       → MayGive (Stepped s stepped p waited) future output → IsAnswer request future output

@@ -1,5 +1,6 @@
 -- What a `TpsBudget` does at its latch.
-use Rattle.std.specs.Prelude.{◌≡◌, Bool}
+use Rattle.std.specs.Prelude.{◌≡◌, Bool, Result, Ok}
+use Rattle.std.specs.declared.alloc.AllocError.{AllocError}
 use Rattle.tower_base.specs.declared.service.Clock.{Ghosts as ClockOf}
 use Rattle.tower_retry.specs.declared.retry.budget.steps.BudgetStep.{BudgetStep}
 use Rattle.tower_retry.specs.declared.retry.budget.steps.BudgetStep.TheVariants.{Deposit, Withdraw}
@@ -24,7 +25,9 @@ module _ {L C : Type 0} (gave : L → BudgetStep → BudgetReply → Type 0) (c 
     pub gave_answer : gave old.latch (Withdraw (c.reading new.clock)) (Allowed allowed)
     pub same : new.latch ≡ old.latch
 
-  -- a clone: what its latch gives, the first one gives
-  pub record IsClone (old new : TpsBudgetView L C) : Type 0 where
-    pub latch : (s : BudgetStep) (r : BudgetReply) → gave new.latch s r → gave old.latch s r
-    pub clock : c.shared old.clock new.clock
+-- a clone: over a share that its latch made, and what that gives, the first one gives
+pub record IsClone {L C : Type 0} (gave : L → BudgetStep → BudgetReply → Type 0) (may_share : L → Result L AllocError → Type 0) (c : ClockOf C)
+    (old new : TpsBudgetView L C) : Type 0 where
+  pub shared : may_share old.latch (Ok new.latch)
+  pub latch : (s : BudgetStep) (r : BudgetReply) → gave new.latch s r → gave old.latch s r
+  pub clock : c.shared old.clock new.clock

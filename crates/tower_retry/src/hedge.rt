@@ -13,7 +13,6 @@ mod policy;
 mod predicate;
 pub mod select;
 
-pub use check::CheckFuture;
 use delay::Delay;
 pub use error::Error;
 pub use flat::Flat;
@@ -38,7 +37,7 @@ pub type Delayed<S, P, L, C> = Delay<
 >;
 
 /// The two sides of a hedge.
-pub type Nest<S, P, L, C> = Select<SelectPolicy<P, L, C>, Recorded<S, L, C>, Delayed<S, P, L, C>>;
+type Nest<S, P, L, C> = Select<SelectPolicy<P, L, C>, Recorded<S, L, C>, Delayed<S, P, L, C>>;
 
 /// Makes a request a second time where its response takes longer than most, and answers what comes
 /// first: the Rust's `tower::hedge::Hedge`.

@@ -69,7 +69,7 @@ where
 
     ghost polled = { Polled S.Service P.Policy };
 
-    ghost called = { Called S.Service P.Policy P.is_clone S.is_clone };
+    ghost called = { Called S.Service P.Policy P.Clone S.Clone };
 
     ghost readies = { λ old new poll. S.readies old.service new.service (let ready = answered_ok Inner poll.inner tt poll.answers in Prim.rw ready at poll.polled) };
 
@@ -99,6 +99,8 @@ where
 
 impl<P: Clone, S: Clone> Clone for Retry<P, S> {
     ghost is_clone = { λ old new. P.is_clone old.policy new.policy × S.is_clone old.service new.service };
+
+    ghost is_infallible = { λ retry. P.is_infallible retry.policy × S.is_infallible retry.service };
 
     fn clone(&self) -> Result<Retry<P, S>, AllocError> {
         Ok(Retry {

@@ -16,6 +16,8 @@ pub enum Fault {
     CannotRead,
     #[error("cannot write")]
     CannotWrite,
+    #[error("cannot start a thread")]
+    CannotStart,
 }
 
 impl Fault {
@@ -24,7 +26,7 @@ impl Fault {
         match self {
             Fault::BadLine(_) | Fault::TooLong | Fault::Usage => 2,
             Fault::Memory => 1,
-            Fault::CannotRead | Fault::CannotWrite => 3,
+            Fault::CannotRead | Fault::CannotWrite | Fault::CannotStart => 3,
         }
     }
 }

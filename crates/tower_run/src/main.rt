@@ -7,6 +7,7 @@ mod refusal;
 mod script;
 mod scripted;
 mod stacks;
+mod storm;
 #[cfg(test)]
 mod tests;
 mod transcript;

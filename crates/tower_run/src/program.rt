@@ -4,19 +4,22 @@ use crate::fault::Fault;
 use crate::script;
 use crate::script::MAX_BYTES;
 use crate::stacks::Stack;
+use crate::storm::{Open, Storm};
 use std::alloc::{AllocGlobal, Global};
 use std::env;
 use std::io::{ErrorKind, Read, Write};
+use std::random::RandomSource;
 use std::rt::Env;
 use std::sync::Wait;
+use std::thread::Threads;
 
 /// The program: `words` are the arguments after its name. It answers the status: 0; 1 for want of memory; 2 for
-/// wrong arguments, a bad line or a script that is too long; 3 where reading or writing failed.
+/// wrong arguments, a bad line or a script that is too long; 3 where reading or writing failed, or a thread can't be started.
 ///
 /// The whole script is read before anything runs, and the whole output is built before the first write.
 pub fn run<H, R, O, E>(rt: &H, words: &[String], reader: R, out: O, err: E) -> u8
 where
-    H: Wait + AllocGlobal,
+    H: Threads + Wait + RandomSource + AllocGlobal + Copy + Send + Drop + 'static,
     R: Read + Drop,
     O: Write + Drop,
     E: Write + Drop,
@@ -35,11 +38,16 @@ pub fn report<E: Write + Drop>(fault: Fault, mut err: E) -> u8 {
 
 fn play<H, R>(rt: &H, words: &[String], reader: R) -> Result<String, Fault>
 where
-    H: Wait + AllocGlobal,
+    H: Threads + Wait + RandomSource + AllocGlobal + Copy + Send + Drop + 'static,
     R: Read + Drop,
 {
-    let [name] = words else {
-        return Err(Fault::Usage);
+    let name = match words {
+        [name] => name,
+        [name, threads, rounds, permits] if name.as_str() == "storm" => {
+            let storm = Storm::parse(threads.as_str(), rounds.as_str(), permits.as_str());
+            return storm.ok_or(Fault::Usage)?.run(rt, &Open);
+        }
+        _ => return Err(Fault::Usage),
     };
     let stack = Stack::named(name.as_str()).ok_or(Fault::Usage)?;
     let script = read(rt.alloc(), reader)?;

@@ -107,7 +107,7 @@ fn after<'a>(text: &'a [u8], prefix: &[u8]) -> Option<&'a [u8]>
 }
 
 // A decimal number without leading zeros.
-fn read_number(text: &[u8]) -> Option<u64>
+pub(crate) fn read_number(text: &[u8]) -> Option<u64>
     ensures { MatchOption result ((n : ℕ) → n < 2 ^ 64 → text.now ≢ decimal n) (λ n. text.now ≡ decimal n) }
 {
     if text == b"0".as_slice() {

@@ -224,6 +224,10 @@ impl<'a> Future for Answer<'_, 'a> {
 }
 
 impl<'a> Steps for Answer<'_, 'a> {
+    type Output = Result<Word<'a>, Word<'a>>;
+
+    ghost needs = { λ _ _. ⊤ };
+
     ghost stepped = { λ _ _ _. ⊤ };
 
     fn step(&mut self, cx: &mut Context<'_>) -> Poll<Self::Output> {

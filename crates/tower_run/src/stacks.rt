@@ -1,5 +1,4 @@
 //! The stacks that a script can drive.
-ghost use Rattle.std.specs.Prelude.{◌≡◌, false};
 
 use crate::refusal::Refusal;
 use crate::script::{Command, Word};
@@ -23,7 +22,7 @@ use tower_ware::timeout::Timeout;
 pub enum Stack {
     /// A response may take 10 nanoseconds.
     Timeout,
-    /// Two calls in each 10 nanoseconds.
+    /// Two calls in any 10 nanoseconds.
     Rate,
     /// One call in flight.
     Limit,
@@ -95,7 +94,8 @@ fn rated<'a>(
     stage: &Stage<'a>,
     commands: Vec<Command<'a>>,
 ) -> Result<String, AllocError> {
-    let service = RateLimit::new(Scripted::new(stage), Rate::new(2, 10), stage.clock());
+    let inner = Scripted::new(stage);
+    let service = RateLimit::new(alloc, inner, Rate::new(2, 10), stage.clock())?;
     perform(alloc, stage, service, commands)
 }
 
@@ -130,25 +130,8 @@ where
         .timeout(10, clock.share())
         .load_shed()
         .concurrency_limit(rt, alloc, 1)
-        .rate_limit(2, 10, clock);
+        .rate_limit(alloc, 2, 10, clock);
     let service = layers.service(inner)?;
-    shed_in_time(alloc, stage, service, commands)
-}
-
-// As `perform`, for a service under the refusal and the time. (At all four at once the check gives up.)
-fn shed_in_time<'a, S, C>(
-    alloc: Global,
-    stage: &Stage<'a>,
-    service: Timeout<LoadShed<S>, C>,
-    commands: Vec<Command<'a>>,
-) -> Result<String, AllocError>
-where
-    S: Service<Word<'a>, Response = Word<'a>>,
-    S::Error: Refusal,
-    C: Clock,
-    requires sound { S.sound service.inner.inner }
-    requires idle { service.inner.is_ready ≡ false }
-{
     perform(alloc, stage, service, commands)
 }
 

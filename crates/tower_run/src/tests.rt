@@ -5,3 +5,4 @@ mod program;
 mod refused;
 mod script;
 mod stacks;
+mod storm;

@@ -1,20 +1,26 @@
--- The machines of `Then` and `AndThen`: the inner future, and then the future that the closure gave, which is polled in the poll that gave the inner answer.
+-- The machines of `Then` and `AndThen`: the inner future, then the future that the closure gave, which is polled in the poll that gave the inner answer, and
+-- nothing once there is an answer.
 use Rattle.std.specs.Prelude.{◌≡◌, Result, Ok, Err}
 use Rattle.futures.specs.declared.task.Poll.{Poll}
 use Rattle.futures.specs.declared.task.Poll.TheVariants.{Ready, Pending}
 use Rattle.tower_util.specs.Maps.{MapView}
 use Rattle.tower_util.specs.declared.util.chain.Chain.{Chain}
-use Rattle.tower_util.specs.declared.util.chain.Chain.TheVariants.{First, Second}
+use Rattle.tower_util.specs.declared.util.chain.Chain.TheVariants.{First, Second, Done}
 
 -- a call: one of the inner service, which is ready, and the closure goes into the future
 module _ {S Q F1 F2 N : Type 0} (ready : S → Type 0) (called : S → Q → F1 → S → Type 0) where
   abbrev pub Called : MapView S N → Q → Chain F1 F2 N → MapView S N → Type 0
   Called old request future new = (first : F1) × ready old.inner × called old.inner request first new.inner × (future ≡ First first old.f) × (new.f ≡ old.f)
 
+-- a poll of the second future, which is there no more if it answers
+module _ {F1 F2 N O : Type 0} (second : F2 → Poll O → F2 → Type 0) where
+  abbrev pub SecondStepped : F2 → Poll O → Chain F1 F2 N → Type 0
+  SecondStepped old answer new = (left : F2) × second old answer left × (new ≡ elim answer [ Ready x ↦ Done | Pending ↦ Second left ])
+
 -- the closure gave a future, which is polled at once
 module _ {F1 F2 N A O : Type 0} (given : N → A → F2 → Type 0) (second : F2 → Poll O → F2 → Type 0) where
   abbrev pub Begun : N → A → Poll O → Chain F1 F2 N → Type 0
-  Begun f value answer new = (made : F2) × (left : F2) × given f value made × second made answer left × (new ≡ Second left)
+  Begun f value answer new = (made : F2) × given f value made × SecondStepped second made answer new
 
 -- a poll of a chain, which goes on from the inner result by the relation
 module _ {F1 F2 N R O : Type 0} (first : F1 → Poll R → F1 → Type 0) (second : F2 → Poll O → F2 → Type 0)
@@ -26,7 +32,8 @@ module _ {F1 F2 N R O : Type 0} (first : F1 → Poll R → F1 → Type 0) (secon
 
   abbrev pub Stepped : Chain F1 F2 N → Poll O → Chain F1 F2 N → Type 0
   Stepped (First old f) answer new = (inner : Poll R) × (left : F1) × first old inner left × FirstStepped left f inner answer new
-  Stepped (Second old) answer new = (left : F2) × second old answer left × (new ≡ Second left)
+  Stepped (Second old) answer new = SecondStepped second old answer new
+  Stepped Done answer new = ⊥
 
 -- `Then`: the result to the output of the future `f(result)`
 module _ {F1 F2 N R O : Type 0} (first : F1 → Poll R → F1 → Type 0) (given : N → R → F2 → Type 0) (second : F2 → Poll O → F2 → Type 0) where
@@ -38,7 +45,7 @@ module _ {F1 F2 N A E T U : Type 0} (first : F1 → Poll (Result A E) → F1 →
     (second : F2 → Poll (Result T U) → F2 → Type 0) (from : E → U → Type 0) where
   abbrev pub GoesOn : F1 → N → Result A E → Poll (Result T U) → Chain F1 F2 N → Type 0
   GoesOn left f (Ok v) answer new = Begun given second f v answer new
-  GoesOn left f (Err e) answer new = (error : U) × from e error × (answer ≡ Ready (Err error)) × (new ≡ First left f)
+  GoesOn left f (Err e) answer new = (error : U) × from e error × (answer ≡ Ready (Err error)) × (new ≡ Done)
 
   abbrev pub AndThenStepped : Chain F1 F2 N → Poll (Result T U) → Chain F1 F2 N → Type 0
   AndThenStepped = Stepped first second GoesOn

@@ -9,11 +9,12 @@
 --   `MapFuture`     ready: Err(e) to Err(From(e))   inside: request      response: the output of the future f(inner future)
 --
 -- `given x y` says that the closure, given x, may answer y. The responses of `Then` and `AndThen` are in Chain.
-use Rattle.std.specs.Prelude.{◌≡◌, Result}
+use Rattle.std.specs.Prelude.{◌≡◌, Option, Some, Result}
 use Rattle.futures.specs.declared.task.Poll.{Poll}
 use Rattle.tower_base.specs.Answers.{Lifts, Sides, Same, Readies}
+use Rattle.tower_util.specs.Fuse.{Stepped as FuseStepped}
 
--- what a map shows, and its future: what it wraps, and the closure
+-- what a map shows: what it wraps, and the closure; and its future, which wraps a future until that answers
 pub record MapView (S F : Type 0) : Type 0 where
   pub inner : S
   pub f : F
@@ -41,10 +42,24 @@ module _ {S F E U : Type 0} (polled : S → Poll (Result (Unit {0}) E) → S →
 
 -- a call: one of the inner service, which is ready, and the closure goes into the future
 module _ {S Q T F : Type 0} (ready : S → Type 0) (called : S → Q → T → S → Type 0) where
-  abbrev pub Called : MapView S F → Q → MapView T F → MapView S F → Type 0
-  Called old request future new = ready old.inner × called old.inner request future.inner new.inner × (future.f ≡ old.f) × (new.f ≡ old.f)
+  abbrev pub Called : MapView S F → Q → MapView (Option T) F → MapView S F → Type 0
+  Called old request future new = (inner : T) × ready old.inner × called old.inner request inner new.inner
+      × (future ≡ record { inner = Some inner; f = old.f }) × (new.f ≡ old.f)
 
--- a poll of a future: one of the inner future, whose answer is changed by the relation
+-- a poll of a future: one of the inner future, whose answer is changed by the relation; with that the inner future is dropped
 module _ {T F A B : Type 0} (stepped : T → Poll A → T → Type 0) (changed : F → Poll A → Poll B → Type 0) where
-  abbrev pub Stepped : MapView T F → Poll B → MapView T F → Type 0
-  Stepped old answer new = (inner : Poll A) × stepped old.inner inner new.inner × (new.f ≡ old.f) × changed old.f inner answer
+  abbrev pub Stepped : MapView (Option T) F → Poll B → MapView (Option T) F → Type 0
+  Stepped old answer new = (inner : Poll A) × FuseStepped stepped old.inner inner new.inner × (new.f ≡ old.f) × changed old.f inner answer
+
+-- a poll of the future of each map, by the closure's own relation
+module _ {T F A B E : Type 0} (stepped : T → Poll (Result A E) → T → Type 0) (post : F → A → B → Type 0) where
+  abbrev pub MapResponseStepped : MapView (Option T) F → Poll (Result B E) → MapView (Option T) F → Type 0
+  MapResponseStepped = Stepped stepped (λ f. MapsResponse (post f))
+
+module _ {T F A E U : Type 0} (stepped : T → Poll (Result A E) → T → Type 0) (post : F → E → U → Type 0) where
+  abbrev pub MapErrStepped : MapView (Option T) F → Poll (Result A U) → MapView (Option T) F → Type 0
+  MapErrStepped = Stepped stepped (λ f. MapsErr (post f))
+
+module _ {T F A B : Type 0} (stepped : T → Poll A → T → Type 0) (post : F → A → B → Type 0) where
+  abbrev pub MapResultStepped : MapView (Option T) F → Poll B → MapView (Option T) F → Type 0
+  MapResultStepped = Stepped stepped (λ f. MapsResult (post f))

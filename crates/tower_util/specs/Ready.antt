@@ -3,6 +3,9 @@ use Rattle.std.specs.Borrow.{MutBor}
 use Rattle.std.specs.Prelude.{◌≡◌, Option, Some, None, Result, Ok, Err, IfOk, IsSomeAnd}
 use Rattle.futures.specs.declared.task.Poll.{Poll}
 use Rattle.futures.specs.declared.task.Poll.TheVariants.{Ready, Pending}
+use Rattle.futures.specs.Task.{Covers, Keeps}
+use Rattle.futures.specs.declared.task.context.Context.{Context}
+use Rattle.tower_base.specs.Gives.{MayGive}
 
 module _ {S E : Type 0} (sound ready : S → Type 0) (polled : S → Poll (Result (Unit {0}) E) → S → Type 0) where
   -- the poll of readiness answered this, and left the service so: one that is ready is given back, and an error passed on
@@ -31,3 +34,14 @@ module _ {S E : Type 0} (sound ready : S → Type 0) where
   -- an output that hands the same loan back, of a service that is ready
   abbrev pub HandsBack : Option (MutBor S) → Result (MutBor S) E → Type 0
   HandsBack old out = IfOk out (λ back. sound back.now × ready back.now × IsSomeAnd old (λ lent. back.ghost_name ≡ lent.ghost_name))
+
+module _ {S E : Type 0} (sound ready : S → Type 0) (polled : S → Poll (Result (Unit {0}) E) → S → Type 0) where
+  -- what a `ReadyOneshot` may give: an output of its steps, and a service that is given back is sound and ready
+  abbrev pub MayGiveBack : Option S → Result S E → Type 0
+  MayGiveBack old out = MayGive (ReadyOneshotStepped sound ready polled) old out × GivesBack sound ready out
+
+  -- All that a poll of a `ReadyOneshot` says: `IsStep`, and that of what is given back.
+  abbrev pub IsReadyOneshotStep : Option S → Poll (Result S E) → Option S → Context → Context → Type 0
+  IsReadyOneshotStep old (Ready out) new before after = ReadyOneshotStepped sound ready polled old (Ready out) new × MayGiveBack old out × Keeps before after
+  IsReadyOneshotStep old Pending new before after = ReadyOneshotStepped sound ready polled old Pending new × IsSomeAnd new sound
+      × ((out : Result S E) → MayGiveBack new out → MayGiveBack old out) × Covers after (λ _. ⊥) × Keeps before after

@@ -4,7 +4,7 @@ use Rattle.std.proofs.lemmas.List.{get_or-set_other}
 use Rattle.std.proofs.lemmas.Grind.{get_or-set_at}
 use Rattle.std.proofs.lemmas.Bool.Decides.{eqb_tells}
 use Rattle.std.proofs.lemmas.List.Elements.{All-drop}
-use Rattle.tower_ware.specs.Steer.{Listed, Rested, Standing}
+use Rattle.tower_ware.specs.Steer.{Listed, Rested}
 
 module _ {S : Type 0} (ready : S → Type 0) where
   -- what stood elsewhere stands there after a write
@@ -12,13 +12,6 @@ module _ {S : Type 0} (ready : S → Type 0) where
       → slice_index_or (slice_set ss i w) j v ≡ v → ready v ⊎ Listed is j
   elsewhere ss is i j v w other h below there =
       h j v (simp length-set at below) (sym (get_or-set_other ss i j w v other) ∙ there)
-
-  -- a write at the index in front
-  pub rested_write : (ss : List S) (is : List ℕ) (i : ℕ) (w : S) → slice_index_or is 0 i ≡ i → 0 < length is
-      → Rested ready ss is → Rested ready (slice_set ss i w) is
-  rested_write ss [] i w front some h = absurd (omega arith)
-  rested_write ss (k ∷ is) i w front some h = λ j v below there.
-      ⊎_elim (λ t. inr (inl (front ∙ sym t.1))) (λ f. elsewhere ss (k ∷ is) i j v w f.1 h below there) (eqb_tells j i)
 
   -- a write of a service that is ready at the index in front, which leaves the list
   pub rested_next : (ss : List S) (is : List ℕ) (i : ℕ) (w : S) → slice_index_or is 0 i ≡ i → 0 < length is → i < length ss → ready w
@@ -29,36 +22,37 @@ module _ {S : Type 0} (ready : S → Type 0) where
       (λ f. ⊎_elim inl (⊎_elim (λ e. absurd (f.1 (sym e ∙ front))) inr) (elsewhere ss (k ∷ is) i j v w f.1 h below there))
       (eqb_tells j i)
 
+  -- a call of a service, while none is listed, of which the list then has the index
+  pub rested_called : (ss : List S) (i : ℕ) (w : S) → Rested ready ss [] → Rested ready (slice_set ss i w) (i ∷ [])
+  rested_called ss i w h = λ j v below there.
+      ⊎_elim (λ t. inr (inl (sym t.1))) (λ f. ⊎_elim inl (λ x. absurd x) (elsewhere ss [] i j v w f.1 h below there)) (eqb_tells j i)
+
+  -- a service, while none is listed
+  pub rested_at : (ss : List S) (i : ℕ) (v : S) → Rested ready ss [] → i < length ss → slice_index_or ss i v ≡ v → ready v
+  rested_at ss i v h below there = ⊎_elim (λ now. now) (λ x. absurd x) (h i v below there)
+
 -- what stands in front
 front_is : (is : List ℕ) (i : ℕ) (P : ℕ → Type 0) → All P is → slice_index_or is 0 i ≡ i → 0 < length is → P i
 front_is is i P all front some = subst P front (all 0 i some)
 
-module _ {S : Type 0} (sound ready : S → Type 0) where
-  each_write : (ss : List S) (i : ℕ) (w : S) → sound w → All sound ss → All sound (slice_set ss i w)
-  each_write ss i w now h k d below =
-      let size = simp length-set at below in
-      ⊎_elim (λ t. subst sound (sym (get_or-set_at ss i k w d t.1 (subst (λ x. x < length ss) t.1 size))) now)
-      (λ f. subst sound (sym (get_or-set_other ss i k w d f.1)) (h k d size)) (eqb_tells k i)
+-- a write of a service that is sound
+pub each_write : {S : Type 0} (sound : S → Type 0) (ss : List S) (i : ℕ) (w : S) → sound w → All sound ss → All sound (slice_set ss i w)
+each_write sound ss i w now h k d below =
+    let size = simp length-set at below in
+    ⊎_elim (λ t. subst sound (sym (get_or-set_at ss i k w d t.1 (subst (λ x. x < length ss) t.1 size))) now)
+    (λ f. subst sound (sym (get_or-set_other ss i k w d f.1)) (h k d size)) (eqb_tells k i)
 
-  inside_write : (ss : List S) (is : List ℕ) (i : ℕ) (w : S) → All (λ k. k < length ss) is → All (λ k. k < length (slice_set ss i w)) is
-  inside_write ss is i w h = λ k d below. simp length-set (h k d below)
+-- no write changes how many services there are
+inside_write : {S : Type 0} (ss : List S) (is : List ℕ) (i : ℕ) (w : S) → All (λ k. k < length ss) is
+    → All (λ k. k < length (slice_set ss i w)) is
+inside_write ss is i w h = λ k d below. simp length-set (h k d below)
 
-  -- a write of a service at the index in front
-  pub standing_write : (ss : List S) (is : List ℕ) (i : ℕ) (w : S) → slice_index_or is 0 i ≡ i → 0 < length is → sound w
-      → Standing sound ready ss is → Standing sound ready (slice_set ss i w) is
-  standing_write ss is i w front some now h = record {
-    each = each_write ss i w now h.each;
-    some = simp length-set h.some;
-    inside = inside_write ss is i w h.inside;
-    rested = rested_write ready ss is i w front some h.rested;
-  }
+-- after a write of a service, and without the index in front
+pub inside_after : {S : Type 0} (ss : List S) (is : List ℕ) (i : ℕ) (w : S) → All (λ k. k < length ss) is
+    → All (λ k. k < length (slice_set ss i w)) (drop 1 is)
+inside_after ss is i w h = All-drop (λ k. k < length (slice_set ss i w)) 1 is (inside_write ss is i w h)
 
-  -- a write of one that is ready there, which leaves the list
-  pub standing_next : (ss : List S) (is : List ℕ) (i : ℕ) (w : S) → slice_index_or is 0 i ≡ i → 0 < length is → sound w → ready w
-      → Standing sound ready ss is → Standing sound ready (slice_set ss i w) (drop 1 is)
-  standing_next ss is i w front some now ok h = record {
-    each = each_write ss i w now h.each;
-    some = simp length-set h.some;
-    inside = All-drop (λ k. k < length (slice_set ss i w)) 1 is (inside_write ss is i w h.inside);
-    rested = rested_next ready ss is i w front some (front_is is i (λ k. k < length ss) h.inside front some) ok h.rested;
-  }
+-- after a write of a service that is ready at the index in front, which leaves the list
+pub rested_after : {S : Type 0} (ready : S → Type 0) (ss : List S) (is : List ℕ) (i : ℕ) (w : S) → slice_index_or is 0 i ≡ i → 0 < length is
+    → All (λ k. k < length ss) is → ready w → Rested ready ss is → Rested ready (slice_set ss i w) (drop 1 is)
+rested_after ready ss is i w front some inside now h = rested_next ready ss is i w front some (front_is is i (λ k. k < length ss) inside front some) now h

@@ -19,7 +19,7 @@ pub record FilterView (S U : Type 0) : Type 0 where
   pub inner : S
   pub predicate : U
 
--- the future of a `Filter` may be polled: a response that may be, or a refusal that wasn't given yet
+-- the future of a `Filter` may be polled: a response that may be, or a refusal, unless it has answered
 abbrev pub ResponseFutureCanPoll : {F P : Type 0} → (F → Type 0) → State F P → Type 0
 ResponseFutureCanPoll can_poll (Response f) = can_poll f
 ResponseFutureCanPoll can_poll (Refusal p) = ⊤
@@ -74,11 +74,11 @@ module _ {A E F P : Type 0} (f : StepsOf F (Result A E)) where
     pub stepped : f.stepped old inner new
     pub answers : answer ≡ answered Inner inner
 
-  -- a poll of the future: one poll of the response, or the refusal, which is given away
+  -- a poll of the future: one poll of the response, which is there no more if it answers, or the refusal, which is given away
   abbrev pub ResponseFutureStepped : State F P → Poll (Result A (Error E P)) → State F P → Type 0
-  ResponseFutureStepped (Response old) answer (Response new) = InFlightStepped old answer new
+  ResponseFutureStepped (Response old) answer new = (left : F) × InFlightStepped old answer left × (new ≡ elim answer [ Ready x ↦ Answered | Pending ↦ Response left ])
   ResponseFutureStepped (Refusal p) answer new = (answer ≡ Ready (Err (Rejected p))) × (new ≡ Answered)
-  ResponseFutureStepped old answer new = ⊥
+  ResponseFutureStepped Answered answer new = ⊥
 
 module _ {S Q A E F C P : Type 0} (s : ServiceOf S Q A E F) (f : StepsOf F (Result A E)) (c : StepsOf C (Result Q P)) where
   -- What follows of the check's answer: the service that was polled is called with the checked request, and the response is polled.

@@ -26,6 +26,10 @@ flag_of (Ready (Err e)) = false
 flag_of Pending = false
 
 module _ {S Q A E F : Type 0} (s : ServiceOf S Q A E F) where
+  -- It may be called: where the flag is set, the inner service is ready.
+  abbrev pub IsReady : LoadShedView S → Type 0
+  IsReady v = v.is_ready ≡ true → s.ready v.inner
+
   -- a poll of readiness: one poll of the inner service
   pub record Polled (old : LoadShedView S) (answer : Poll (Result (Unit {0}) (Error E))) (new : LoadShedView S) : Type 0 where
     pub inner : Poll (Result (Unit {0}) E)
@@ -37,6 +41,14 @@ module _ {S Q A E F : Type 0} (s : ServiceOf S Q A E F) where
   abbrev pub Called : LoadShedView S → Q → Option F → LoadShedView S → Type 0
   Called old request (Some future) new = (old.is_ready ≡ true) × s.ready old.inner × s.called old.inner request future new.inner × (new.is_ready ≡ false)
   Called old request None new = (old.is_ready ≡ false) × (new ≡ old)
+
+-- what is just made: the flag isn't set
+abbrev pub new_of : {S : Type 0} → S → LoadShedView S
+new_of inner = record { inner = inner; is_ready = false }
+
+-- a clone: one of the inner service, and the flag isn't set
+abbrev pub IsClone : {S : Type 0} → (S → S → Type 0) → LoadShedView S → LoadShedView S → Type 0
+IsClone inner old clone = inner old.inner clone.inner × (clone.is_ready ≡ false)
 
 module _ {F A E : Type 0} (f : StepsOf F (Result A E)) where
   -- a poll of the future: one poll of the response, or the refusal

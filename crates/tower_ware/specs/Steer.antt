@@ -27,18 +27,17 @@ upto (suc n) = upto n ++ n ∷ []
 abbrev pub Rested : {S : Type 0} → (S → Type 0) → List S → List ℕ → Type 0
 Rested ready services listed = (j : ℕ) (v : _) → j < length services → slice_index_or services j v ≡ v → ready v ⊎ Listed listed j
 
--- Each service is sound, the listed indexes are theirs, and each service that isn't listed is ready.
-pub record Standing {S : Type 0} (sound ready : S → Type 0) (services : List S) (listed : List ℕ) : Type 0 where
-  pub each : All sound services
+-- What is true of every `Steer`: there is a service, the listed indexes are those of services, and there is room for the index of a call.
+pub record Fits {S : Type 0} (services : List S) (listed : List ℕ) (room : ℕ) : Type 0 where
   pub some : 0 < length services
   pub inside : All (λ i. i < length services) listed
-  pub rested : Rested ready services listed
+  pub fits : 0 < room
 
--- what constructors make: there is room for the index of a call
+-- The picker and each service are sound, and each service that isn't listed is ready, as the poll left it that took it off the list.
 pub record Sound {S F : Type 0} (picker : F → Type 0) (sound ready : S → Type 0) (v : SteerView S F) : Type 0 where
   pub chooses : picker v.picker
-  pub standing : Standing sound ready v.services v.listed
-  pub fits : 0 < v.room
+  pub each : All sound v.services
+  pub rested : Rested ready v.services v.listed
 
 -- a clone: clones of the picker and of each service, every one of which is to be asked
 pub record IsClone {S F : Type 0} (picker : F → F → Type 0) (service : S → S → Type 0) (old new : SteerView S F) : Type 0 where

@@ -4,9 +4,9 @@ use Rattle.std.proofs.lemmas.Grind.{common_steps}
 use Rattle.std.proofs.lemmas.Bool.Decides.{eqb_tells}
 use Rattle.std.proofs.lemmas.List.Elements.{All-append, AllZip-get_or, length_all_zip}
 use Rattle.std.specs.List.{AllZip}
-use Rattle.tower_ware.specs.Steer.{IsClone, Listed, Sound, Standing, SteerView, upto}
+use Rattle.tower_ware.specs.Steer.{IsClone, Listed, Rested, Sound, SteerView, upto}
 
-all_upto : (n m : ℕ) → n ≤ m → All (λ i. i < m) (upto n)
+pub all_upto : (n m : ℕ) → n ≤ m → All (λ i. i < m) (upto n)
 all_upto zero m below = λ k d at. absurd (omega arith)
 all_upto (suc n) m below = All-append (λ i. i < m) (upto n) (n ∷ []) (all_upto n m (omega arith)) (λ k d at. grind (arith, common_steps))
 
@@ -25,13 +25,8 @@ listed_upto (suc n) j below =
     (λ f. let less : j < n = (let other = f.1 in omega arith) in listed_more (upto n) n j (listed_upto n j less)) (eqb_tells j n)
 
 -- all are listed at first
-pub standing_new : {S : Type 0} (sound ready : S → Type 0) (ss : List S) → 0 < length ss → All sound ss → Standing sound ready ss (upto (length ss))
-standing_new sound ready ss some each = record {
-  each = each;
-  some = some;
-  inside = all_upto (length ss) (length ss) (omega arith);
-  rested = λ j v below there. inr (listed_upto (length ss) j below);
-}
+pub rested_new : {S : Type 0} (ready : S → Type 0) (ss : List S) → Rested ready ss (upto (length ss))
+rested_new ready ss = λ j v below there. inr (listed_upto (length ss) j below)
 
 -- A clone is sound where clones of its parts are.
 module _ {S F : Type 0} (picker : F → F → Type 0) (service : S → S → Type 0) (chooses : F → Type 0) (sound ready : S → Type 0) where
@@ -43,12 +38,8 @@ module _ {S F : Type 0} (picker : F → F → Type 0) (service : S → S → Typ
 
   pub cloned_sound : ((x y : F) → picker x y → chooses x → chooses y) → ((x y : S) → service x y → sound x → sound y)
       → (old new : SteerView S F) → IsClone picker service old new → Sound chooses sound ready old → Sound chooses sound ready new
-  cloned_sound picks keeps old new cloned h =
-      let size = length_all_zip service old.services new.services cloned.services in
-      let some : 0 < length new.services = (let was = h.standing.some in omega arith) in
-      record {
-        chooses = picks _ _ cloned.chooses h.chooses;
-        standing = rw cloned.listed (standing_new sound ready new.services some
-            (each_sound keeps old.services new.services cloned.services h.standing.each));
-        fits = (let room = cloned.room in omega arith);
-      }
+  cloned_sound picks keeps old new cloned h = record {
+    chooses = picks _ _ cloned.chooses h.chooses;
+    each = each_sound keeps old.services new.services cloned.services h.each;
+    rested = rw cloned.listed (rested_new ready new.services);
+  }

@@ -3,6 +3,10 @@ ghost use Rattle.std.specs.Prelude.{◌≡◌};
 ghost use Rattle.tower_base.specs.AnswersLemmas.{answered_ok};
 ghost use Rattle.tower_ware.specs.Filter.{AsyncFilterCalled, FilterCalled, FilterView, IsClone, Polled};
 ghost use Rattle.tower_ware.specs.declared.filter.error.Error.TheVariants.{Inner};
+ghost use Rattle.tower_base.specs.ServiceRun.{relations};
+ghost use Rattle.tower_base.specs.Projection.{MappedOrNone, Projects, Through};
+ghost use Rattle.tower_base.specs.ProjectionLemmas.{composed};
+ghost use Rattle.tower_ware.specs.Projections.{LetsThrough, filter as filter_projects};
 
 mod error;
 pub mod future;
@@ -19,6 +23,7 @@ use state::{AsyncState, State};
 use std::alloc::AllocError;
 use std::marker::Model;
 use std::mem;
+use tower_base::run::Contains;
 use tower_base::service::{Service, Steps};
 
 /// Calls the inner service with the checked request, or answers `Rejected`: the Rust's
@@ -88,6 +93,25 @@ where
             Err(error) => ResponseFuture::new(State::Refusal(error)),
         }
     }
+}
+
+/// Of each call the checked request goes inside, or nothing.
+pub fn projection<R, P, S: Service<P>, U: Predicate<R, Request = P>>()
+    ensures { Projects (relations ⟦<Filter<S, U> as Service<R>>⟧) (relations S.Service) (λ f. f.inner) (MappedOrNone (LetsThrough U.Predicate)) }
+{}
+
+/// What its inner service contains.
+impl<R, P, Passed, L, S, U> Contains<R, Passed, L> for Filter<S, U>
+where
+    L: Service<Passed>,
+    S: Contains<P, Passed, L>,
+    U: Predicate<R, Request = P>,
+{
+    ghost inside = { λ f. S.inside f.inner };
+
+    ghost goes = { Through (MappedOrNone (LetsThrough U.Predicate)) S.goes };
+
+    ghost projects = { composed _ _ _ (λ f. f.inner) S.inside _ S.goes (filter_projects _ U.Predicate) S.projects };
 }
 
 /// A clone has clones of both parts.

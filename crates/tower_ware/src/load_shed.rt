@@ -1,6 +1,12 @@
 //! Refuses the calls that the inner service isn't ready for: the Rust's `tower::load_shed`.
-ghost use Rattle.std.specs.Prelude.{◌≡◌, true, false};
-ghost use Rattle.tower_ware.specs.LoadShed.{Called, LoadShedView, Polled};
+ghost use Rattle.std.specs.Prelude.{◌≡◌, true, false, Result};
+ghost use Rattle.tower_ware.specs.LoadShed.{Called, IsClone, IsReady, LoadShedView, Polled, new_of};
+ghost use Rattle.tower_ware.specs.declared.load_shed.error.Error.{Error as ShedError};
+ghost use Rattle.tower_ware.specs.LoadShedReady.{ready_after};
+ghost use Rattle.tower_base.specs.ServiceRun.{relations};
+ghost use Rattle.tower_base.specs.Projection.{AtMostOnce, Projects, Through};
+ghost use Rattle.tower_base.specs.ProjectionLemmas.{composed};
+ghost use Rattle.tower_ware.specs.Projections.{load_shed as load_shed_projects};
 
 pub mod error;
 pub mod future;
@@ -12,6 +18,7 @@ use futures::task::{Context, Poll};
 pub use layer::LoadShedLayer;
 use std::alloc::AllocError;
 use std::marker::Model;
+use tower_base::run::Contains;
 use tower_base::service::Service;
 
 /// Is always ready, and answers `Overloaded` where the inner service wasn't: the Rust's
@@ -33,7 +40,7 @@ impl<S> Model for LoadShed<S> {
 impl<S> LoadShed<S> {
     /// The inner service counts as not ready until a poll of it answers `Ok`.
     pub fn new(inner: S) -> LoadShed<S>
-        ensures { result ≡ record { inner = inner; is_ready = false } }
+        ensures { result ≡ new_of inner }
     {
         LoadShed {
             inner,
@@ -49,16 +56,16 @@ impl<S: Service<Request>, Request: Drop> Service<Request> for LoadShed<S> {
 
     type Future = ResponseFuture<S::Future>;
 
-    // The flag says that the inner service is ready.
-    ghost sound = { λ s. S.sound s.inner × (s.is_ready ≡ true → S.ready s.inner) };
+    ghost sound = { λ s. S.sound s.inner };
 
-    ghost ready = { λ _. Unit {0} };
+    // Where the flag is set, the inner service is ready.
+    ghost ready = { IsReady S.Service };
 
     ghost polled = { Polled S.Service };
 
     ghost called = { Called S.Service };
 
-    ghost readies = { λ _ _ _. tt };
+    ghost readies = { λ old new p. ready_after S.readies old _ new p };
 
     fn poll_ready(&mut self, cx: &mut Context<'_>) -> Poll<Result<(), Error<S::Error>>> {
         self.is_ready = false;
@@ -82,11 +89,39 @@ impl<S: Service<Request>, Request: Drop> Service<Request> for LoadShed<S> {
     }
 }
 
+/// Some of the calls go inside, in their order: those that it doesn't shed.
+pub fn projection<Request: Drop, S: Service<Request>>()
+    ensures { Projects (relations ⟦<LoadShed<S> as Service<Request>>⟧) (relations S.Service) (λ l. l.inner) AtMostOnce }
+{}
+
+/// What its inner service contains.
+impl<Request, Passed, L, S> Contains<Request, Passed, L> for LoadShed<S>
+where
+    Request: Drop,
+    L: Service<Passed>,
+    S: Contains<Request, Passed, L>,
+{
+    ghost inside = { λ l. S.inside l.inner };
+
+    ghost goes = { Through AtMostOnce S.goes };
+
+    ghost projects = { composed _ _ _ (λ l. l.inner) S.inside AtMostOnce S.goes (load_shed_projects _) S.projects };
+}
+
 // What a clone's inner service is ready for isn't known.
 impl<S: Clone> Clone for LoadShed<S> {
-    ghost is_clone = { λ old clone. S.is_clone old.inner clone.inner × (clone.is_ready ≡ false) };
+    ghost is_clone = { IsClone S.is_clone };
 
     fn clone(&self) -> Result<LoadShed<S>, AllocError> {
         Ok(LoadShed::new(self.inner.clone()?))
     }
 }
+
+/// It may be called at each moment: as it is made, as a clone, after each poll of readiness, whatever that answers, and
+/// after each call.
+pub fn law<S: Service<Request> + Clone, Request: Drop>()
+    ensures new { (inner : S) → IsReady S.Service (new_of inner) }
+    ensures clone { (old clone : LoadShedView S) → IsClone S.is_clone old clone → IsReady S.Service clone }
+    ensures polled { (old : LoadShedView S) (answer : Poll (Result (Unit {0}) (ShedError S.Error))) (new : LoadShedView S) → Polled S.Service old answer new → IsReady S.Service new }
+    ensures called { (old : LoadShedView S) (request : Request) (future : _) (new : LoadShedView S) → Called S.Service old request future new → IsReady S.Service new }
+{}

@@ -14,7 +14,7 @@ pub use error::Error;
 pub use future::ResponseFuture;
 use futures::task::{Context, Poll};
 use state::{Reply, State};
-use tower_base::passes::PASSES;
+use tower_base::passes::TURNS;
 use tower_base::service::{Service, Steps};
 
 /// Connects to its target by its maker, and connects again where the connection's readiness fails: the
@@ -83,7 +83,7 @@ where
     ghost readies = { λ old new p. polled_ok S.readies (view_of old) (view_of new) p };
 
     fn poll_ready(&mut self, cx: &mut Context<'_>) -> Poll<Result<(), Self::Error>> {
-        for _pass in 0..PASSES {
+        for _pass in 0..TURNS {
             if let Some(answer) = pass::<Request, M, S, Target>(self, cx) {
                 return answer;
             }

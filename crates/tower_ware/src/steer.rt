@@ -1,7 +1,7 @@
 //! One of many services for each request: the Rust's `tower::steer`.
 ghost use Rattle.std.specs.Prelude.{◌≡◌, ◌<◌, ◌≤◌, [], All, IfOk, length};
 ghost use Rattle.std.specs.VecDeque.{deque_capacity};
-ghost use Rattle.tower_ware.specs.Steer.{Called, IsClone, Polled, Sound, Standing, SteerView, upto};
+ghost use Rattle.tower_ware.specs.Steer.{Called, Fits, IsClone, Polled, Sound, SteerView, upto};
 ghost use Rattle.tower_ware.specs.SteerReady.{polled_ok};
 
 mod picker;
@@ -35,6 +35,8 @@ impl<S, F, Req> Model for Steer<S, F, Req> {
       listed = m.listed.items;
       room = deque_capacity m.listed;
     } };
+
+    ghost invariant = { λ m. Fits m.services.items m.listed.items (deque_capacity m.listed) };
 }
 
 impl<S: Service<Req>, F: Picker<S, Req>, Req> Steer<S, F, Req> {

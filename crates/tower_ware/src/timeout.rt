@@ -3,6 +3,10 @@ ghost use Rattle.std.specs.Prelude.{◌≡◌};
 ghost use Rattle.tower_base.specs.AnswersLemmas.{answered_ok};
 ghost use Rattle.tower_ware.specs.declared.timeout.error.Error.TheVariants.{Inner};
 ghost use Rattle.tower_ware.specs.Timeout.{Called, IsClone, Polled, TimeoutView};
+ghost use Rattle.tower_base.specs.ServiceRun.{relations};
+ghost use Rattle.tower_base.specs.Projection.{Once, Projects};
+ghost use Rattle.tower_base.specs.ProjectionLemmas.{composed_once};
+ghost use Rattle.tower_ware.specs.Projections.{timeout as timeout_projects};
 
 pub mod error;
 pub mod future;
@@ -14,6 +18,7 @@ use futures::task::{Context, Poll};
 pub use layer::TimeoutLayer;
 use std::alloc::AllocError;
 use std::marker::Model;
+use tower_base::run::Contains;
 use tower_base::service::{Clock, Service};
 
 /// Answers `Elapsed` in place of a response that takes too long: the Rust's `tower::timeout::Timeout`.
@@ -76,6 +81,25 @@ impl<Request, S: Service<Request>, C: Clock> Service<Request> for Timeout<S, C> 
         let deadline = moment as u128 + self.duration as u128;
         ResponseFuture::new(response, deadline, self.clock.share())
     }
+}
+
+/// Each call goes inside, once.
+pub fn projection<Request, S: Service<Request>, C: Clock>()
+    ensures { Projects (relations ⟦<Timeout<S, C> as Service<Request>>⟧) (relations S.Service) (λ t. t.inner) Once }
+{}
+
+/// What its inner service contains.
+impl<Request, Passed, L, S, C> Contains<Request, Passed, L> for Timeout<S, C>
+where
+    L: Service<Passed>,
+    S: Contains<Request, Passed, L>,
+    C: Clock,
+{
+    ghost inside = { λ t. S.inside t.inner };
+
+    ghost goes = { S.goes };
+
+    ghost projects = { composed_once _ _ _ (λ t. t.inner) S.inside S.goes (timeout_projects _ _) S.projects };
 }
 
 /// A clone shares the clock.

@@ -1,53 +1,63 @@
 //! The response of a `SpawnReady`.
-ghost use Rattle.std.specs.Prelude.{◌≡◌};
+ghost use Rattle.std.specs.Prelude.{◌≡◌, Option, Some};
 ghost use Rattle.tower_base.specs.Gives.{IsStep, MayGive};
 ghost use Rattle.tower.specs.SpawnReady.{Stepped};
+ghost use Rattle.tower_util.specs.Fuse.{CanPoll, needs_of};
 
 use crate::spawn_ready::error::Error;
 use futures::future::Future;
 use futures::task::{Context, Poll};
 use std::marker::Model;
 use tower_base::service::Steps;
+use tower_util::util::Fuse;
 
-/// The service's response, or its error: the Rust's `tower::spawn_ready::future::ResponseFuture`.
+/// The service's response, which is dropped as it answers, or its error: the Rust's `tower::spawn_ready::future::ResponseFuture`.
 #[derive(Drop)]
 pub struct ResponseFuture<F> {
-    response: F,
+    response: Fuse<F>,
 }
 
 impl<F> Model for ResponseFuture<F> {
-    ghost Value = { F };
+    ghost Value = { Option F };
 
     ghost view = { λ f. f.response };
 }
 
 impl<F> ResponseFuture<F> {
     pub(crate) fn new(response: F) -> ResponseFuture<F>
-        ensures { result ≡ response }
+        ensures { result ≡ Some response }
     {
-        ResponseFuture { response }
+        ResponseFuture {
+            response: Fuse::new(response),
+        }
     }
 }
 
 impl<T, E, F: Steps<Output = Result<T, E>>> Future for ResponseFuture<F> {
     type Output = Result<T, Error<E>>;
 
-    ghost can_poll = { F.can_poll };
+    ghost can_poll = { CanPoll F.can_poll };
 
     ghost gives = { MayGive (Stepped F.Steps.own) };
 
-    ghost needs = { F.needs };
+    ghost needs = { needs_of F.needs };
 
     #[tactic(auto, using(tower_base::specs::GivesLemmas::one_step))]
     fn poll(&mut self, cx: &mut Context<'_>) -> Poll<Self::Output>
-        requires { F.can_poll self.old }
-        ensures { IsStep (Stepped F.Steps.own) F.can_poll F.needs self.old result self.new cx.old cx.new }
+        requires { CanPoll F.can_poll self.old }
+        ensures { IsStep (Stepped F.Steps.own) (CanPoll F.can_poll) (needs_of F.needs) self.old result self.new cx.old cx.new }
     {
         self.step(cx)
     }
 }
 
 impl<T, E, F: Steps<Output = Result<T, E>>> Steps for ResponseFuture<F> {
+    type Output = Result<T, Error<E>>;
+
+    ghost can_poll = { CanPoll F.can_poll };
+
+    ghost needs = { needs_of F.needs };
+
     ghost stepped = { Stepped F.Steps.own };
 
     fn step(&mut self, cx: &mut Context<'_>) -> Poll<Self::Output> {

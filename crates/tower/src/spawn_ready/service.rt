@@ -2,7 +2,7 @@
 ghost use Rattle.std.specs.Prelude.{◌≡◌, IfOk, IfSome, IsSome, IsSomeAnd, None, Some, true, false};
 ghost use Rattle.futures.specs.Task.{IsArmed, Keeps};
 ghost use Rattle.futures.specs.Poll.{OnPending};
-ghost use Rattle.tower.specs.SpawnReady.{Called, HandsOver, Looks, New, Pass, Polled, Sound, view_of};
+ghost use Rattle.tower.specs.SpawnReady.{Called, HandsOver, HandsTo, Looks, New, Pass, Polled, Sound, Starts, view_of};
 ghost use Rattle.tower.specs.SpawnReadyReady.{polled_ok};
 ghost use Rattle.tower.specs.declared.spawn_ready.slot_core.SlotStep.{SlotStep as Step};
 
@@ -17,7 +17,7 @@ use std::marker::PhantomData;
 use std::sync::Wait;
 use tower_base::latch::held::Viewed;
 use tower_base::latch::{Guarded, Latch};
-use tower_base::passes::PASSES;
+use tower_base::passes::TURNS;
 use tower_base::service::{Executor, Service};
 
 /// Hands its service, while that isn't ready, to a task of its own, which drives it to readiness and gives
@@ -134,7 +134,7 @@ where
     ghost readies = { λ old new p. polled_ok S.readies (view_of old) (view_of new) p };
 
     fn poll_ready(&mut self, cx: &mut Context<'_>) -> Poll<Result<(), Self::Error>> {
-        for _pass in 0..PASSES {
+        for _pass in 0..TURNS {
             if let Some(answer) = self.pass(cx) {
                 return answer;
             }
@@ -207,17 +207,37 @@ where
         ensures sound { Sound S.sound X.Executor (view_of self.new) }
         ensures ready { IfSome result (λ answer. OnPending answer ⊥) }
     {
-        let Ok(latch) = self.latch.share() else {
+        let Ok(share) = self.latch.share() else {
             return Some(Poll::Ready(Err(Error::Memory)));
         };
         let Some(service) = self.service.take() else {
             unreachable!();
         };
+        self.start();
+        self.spawn(service, share)
+    }
+
+    // The slot begins to run, unless it runs already.
+    fn start(&mut self)
+        ensures { Starts S.Service L.Latch X.Executor (view_of self.old) (view_of self.new) }
+    {
         if !self.is_running {
             self.latch.step(SlotStep::Start);
             self.is_running = true;
         }
-        match self.executor.spawn(ReadyTask::new(service, latch)) {
+    }
+
+    // Spawns a task, which puts the service into the slot. That runs by then.
+    fn spawn(&mut self, service: S, share: L) -> Answer<E>
+        requires sound { Sound S.sound X.Executor (view_of self.old) }
+        requires inner { S.sound service }
+        requires away { self.old.service ≡ None }
+        requires runs { self.old.is_running ≡ true }
+        ensures hands { HandsTo S.Service L.Latch X.Executor (view_of self.old) share service result (view_of self.new) }
+        ensures sound { Sound S.sound X.Executor (view_of self.new) }
+        ensures ready { IfSome result (λ answer. OnPending answer ⊥) }
+    {
+        match self.executor.spawn(ReadyTask::new(service, share)) {
             Ok(()) => None,
             Err(task) => {
                 self.service = Some(task.into_service());

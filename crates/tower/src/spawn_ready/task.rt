@@ -1,9 +1,9 @@
 //! The task that drives a service to readiness.
-ghost use Rattle.std.specs.Prelude.{◌≡◌, IfSome, IsSome, Some};
-ghost use Rattle.futures.specs.Poll.{IfReady, OnPending};
-ghost use Rattle.futures.specs.Task.{Covers, Keeps};
+ghost use Rattle.std.specs.Prelude.{◌≡◌, IfSome, IsSome, None, Some, false};
+ghost use Rattle.futures.specs.Poll.{OnPending};
+ghost use Rattle.futures.specs.Task.{IsArmed, Keeps};
 ghost use Rattle.tower_base.specs.Gives.{IsStep, MayGive};
-ghost use Rattle.tower.specs.SpawnReady.{CanPoll, StepMade, TaskStepped, held_of, tells};
+ghost use Rattle.tower.specs.SpawnReady.{CanPoll, Drives, IsWaitedFor, StepMade, TaskStepped, held_of, tells};
 ghost use Rattle.tower.specs.declared.spawn_ready.slot_core.SlotStep.{SlotStep as Step};
 
 use crate::spawn_ready::slot_core::{SlotCore, SlotReply, SlotStep};
@@ -63,14 +63,45 @@ where
         service
     }
 
-    // Whether nobody waits for the service any more.
+    // Whether nobody waits for the service any more. As long as it isn't so, the task is woken by the abort.
     fn is_aborted(latch: &L, cx: &mut Context<'_>) -> bool
         ensures asked { (reply : _) × L.gave latch.now Step.Aborted reply × (result ≡ tells reply) }
+        ensures armed { result ≡ false → IsArmed cx.new }
         ensures kept { Keeps cx.old cx.new }
     {
         match latch.wait(SlotStep::Aborted, cx) {
-            SlotReply::Truth(aborted) => aborted,
-            _ => false,
+            SlotReply::Truth(true) => true,
+            SlotReply::Truth(false) => false,
+            _ => {
+                let _: Poll<()> = cx.yield_now();
+                false
+            }
+        }
+    }
+
+    // Polls the service once. A look has said that somebody waits for it.
+    fn drive(&mut self, mut service: S, latch: L, cx: &mut Context<'_>) -> Poll<()>
+        requires sound { S.sound service }
+        requires looked { IsWaitedFor L.Latch latch }
+        requires taken { held_of self.old ≡ None }
+        ensures drives { Drives L.Latch S.Service false (record { service = service; latch = latch }) result (held_of self.new) }
+        ensures again { OnPending result (CanPoll S.sound (held_of self.new)) }
+        ensures armed { OnPending result (IsArmed cx.new) }
+        ensures kept { Keeps cx.old cx.new }
+    {
+        match service.poll_ready(cx) {
+            Poll::Pending => {
+                self.held = Some(Held { service, latch });
+                Poll::Pending
+            }
+            Poll::Ready(Ok(())) => {
+                Self::tell(&latch, SlotStep::Put(Viewed::new(service)));
+                Poll::Ready(())
+            }
+            Poll::Ready(Err(error)) => {
+                Self::tell(&latch, SlotStep::PutError(error));
+                Poll::Ready(())
+            }
         }
     }
 
@@ -127,28 +158,21 @@ where
     S: Service<Request, Error = E>,
     L: Latch<SlotCore<Viewed<S, Request>, E>>,
 {
+    type Output = ();
+
+    ghost can_poll = { λ task. CanPoll S.sound (held_of task) };
+
+    ghost needs = { λ _ _. ⊥ };
+
     ghost stepped = { λ old answer new. TaskStepped L.Latch S.Service (held_of old) answer (held_of new) };
 
     fn step(&mut self, cx: &mut Context<'_>) -> Poll<()> {
-        let Some(Held { mut service, latch }) = self.held.take() else {
+        let Some(Held { service, latch }) = self.held.take() else {
             unreachable!();
         };
         if Self::is_aborted(&latch, cx) {
             return Poll::Ready(());
         }
-        match service.poll_ready(cx) {
-            Poll::Pending => {
-                self.held = Some(Held { service, latch });
-                Poll::Pending
-            }
-            Poll::Ready(Ok(())) => {
-                Self::tell(&latch, SlotStep::Put(Viewed::new(service)));
-                Poll::Ready(())
-            }
-            Poll::Ready(Err(error)) => {
-                Self::tell(&latch, SlotStep::PutError(error));
-                Poll::Ready(())
-            }
-        }
+        self.drive(service, latch, cx)
     }
 }

@@ -38,60 +38,6 @@ pub trait ServiceExt<Request>: Service<Request> {
         ReadyOneshot::new(self)
     }
 
-    /// Waits on the calling thread until the service is ready, or answers an error: the Rust's
-    /// `service.ready().await`. The outer error says that the executor failed.
-    final fn block_on_ready<R>(&mut self, rt: &R) -> io::Result<Result<(), Self::Error>>
-    where
-        Self: Sized,
-        R: Wait + RandomSource + AllocGlobal,
-        requires { Self.sound self.old }
-        ensures sound { Self.sound self.new }
-        ensures ready { IfOk result (λ answer. OnOk answer (Self.ready self.new)) }
-        ensures waited { IfOk result (λ answer. Waited Self.Service self.old answer self.new) }
-    {
-        util::block_on_ready(self, rt)
-    }
-
-    /// Waits on the calling thread until the service is ready, calls it once, and waits for the
-    /// response: the Rust's `service.ready().await?.call(request).await`. An error of readiness is
-    /// answered, and then no call is made. The outer error says that the executor failed.
-    final fn block_on_call<R>(
-        &mut self,
-        rt: &R,
-        request: Request,
-    ) -> io::Result<Result<Self::Response, Self::Error>>
-    where
-        Self: Sized,
-        R: Wait + RandomSource + AllocGlobal,
-        Request: Drop,
-        requires { Self.sound self.old }
-        ensures sound { Self.sound self.new }
-        ensures answered { IfOk result (λ answer. Answered Self.Service Self.Future.stepped self.old request answer self.new) }
-    {
-        util::block_on_call(self, rt, request)
-    }
-
-    /// Calls the service with each of the requests, in order, as `block_on_call` does, and hands each
-    /// answer to the closure before the next call. An answer that is an error ends nothing.
-    final fn block_on_each<R, F>(
-        &mut self,
-        rt: &R,
-        requests: Vec<Request>,
-        each: F,
-    ) -> io::Result<()>
-    where
-        Self: Sized,
-        R: Wait + RandomSource + AllocGlobal,
-        Request: Drop,
-        F: FnMut(Result<Self::Response, Self::Error>) + Drop,
-        requires sound { Self.sound self.old }
-        requires callable { F.IsAlwaysCallable each }
-        ensures sound { Self.sound self.new }
-        ensures told { IfOk result (λ _. (last : F) × Each Self.Service Self.Future.stepped F.step requests.items self.old each self.new last) }
-    {
-        util::block_on_each(self, rt, requests, each)
-    }
-
     /// Waits until the service is ready, and calls it once.
     final fn oneshot(self, request: Request) -> Oneshot<Self, Request>
     where
@@ -215,3 +161,69 @@ impl<T, Request> ServiceExt<Request> for T
 where
     T: Service<Request>,
 {}
+
+/// Waits for a borrowed service on the calling thread. Own.
+///
+/// It has no bound, and each method asks for a service: by a bound of the trait, or of its impl, what a
+/// call of a method needs would be written out twice.
+pub trait BlockOnExt<Request> {
+    /// Waits on the calling thread until the service is ready, or answers an error: the Rust's
+    /// `service.ready().await`. The outer error says that the executor failed.
+    final fn block_on_ready<R>(
+        &mut self,
+        rt: &R,
+    ) -> io::Result<Result<(), <Self as Service<Request>>::Error>>
+    where
+        Self: Sized + Service<Request>,
+        R: Wait + RandomSource + AllocGlobal,
+        requires { Self.sound self.old }
+        ensures sound { Self.sound self.new }
+        ensures ready { IfOk result (λ answer. OnOk answer (Self.ready self.new)) }
+        ensures waited { IfOk result (λ answer. Waited Self.Service self.old answer self.new) }
+    {
+        util::block_on_ready(self, rt)
+    }
+
+    /// Waits on the calling thread until the service is ready, calls it once, and waits for the
+    /// response: the Rust's `service.ready().await?.call(request).await`. An error of readiness is
+    /// answered, and then no call is made. The outer error says that the executor failed.
+    final fn block_on_call<R>(
+        &mut self,
+        rt: &R,
+        request: Request,
+    ) -> io::Result<Result<<Self as Service<Request>>::Response, <Self as Service<Request>>::Error>>
+    where
+        Self: Sized + Service<Request>,
+        R: Wait + RandomSource + AllocGlobal,
+        Request: Drop,
+        requires { Self.sound self.old }
+        ensures sound { Self.sound self.new }
+        ensures answered { IfOk result (λ answer. Answered Self.Service Self.Future.stepped self.old request answer self.new) }
+    {
+        util::block_on_call(self, rt, request)
+    }
+
+    /// Calls the service with each of the requests, in order, as `block_on_call` does, and hands each
+    /// answer to the closure before the next call. An answer that is an error ends nothing.
+    final fn block_on_each<R, F>(
+        &mut self,
+        rt: &R,
+        requests: Vec<Request>,
+        each: F,
+    ) -> io::Result<()>
+    where
+        Self: Sized + Service<Request>,
+        R: Wait + RandomSource + AllocGlobal,
+        Request: Drop,
+        F: FnMut(Result<<Self as Service<Request>>::Response, <Self as Service<Request>>::Error>)
+            + Drop,
+        requires sound { Self.sound self.old }
+        requires callable { F.IsAlwaysCallable each }
+        ensures sound { Self.sound self.new }
+        ensures told { IfOk result (λ _. (last : F) × Each Self.Service Self.Future.stepped F.step requests.items self.old each self.new last) }
+    {
+        util::block_on_each(self, rt, requests, each)
+    }
+}
+
+impl<T, Request> BlockOnExt<Request> for T {}

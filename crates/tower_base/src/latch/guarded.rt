@@ -1,14 +1,18 @@
 //! One lock round one core.
-ghost use Rattle.std.specs.Prelude.{◌≡◌, true};
-ghost use Rattle.tower_base.specs.Latch.{Reached, Came};
+ghost use Rattle.std.specs.Prelude.{◌≡◌, true, false, [], None, IfOk, MatchOption};
+ghost use Rattle.std.specs.Arc.{arc_value};
 ghost use Rattle.futures.specs.Task.{IsArmed, Keeps};
+ghost use Rattle.tower_base.specs.Latch.{Reached, Came};
+ghost use Rattle.tower_base.specs.Guarded.{Rests, IsKept};
+
+mod waiters;
 
 use crate::latch::{Core, Latch};
-use futures::task::{Context, Poll, Source, Waker};
+use futures::task::{Context, Source};
 use std::alloc::{AllocError, Global};
-use std::mem;
 use std::sync::atomic::{AtomicU64, Ordering};
 use std::sync::{Arc, Mutex, MutexGuard, Wait};
+use waiters::{Free, Waiters, Woken};
 
 /// A `Latch` of one lock round the one core that it was handed.
 ///
@@ -18,6 +22,7 @@ use std::sync::{Arc, Mutex, MutexGuard, Wait};
 #[derive(Drop)]
 pub struct Guarded<C: Core, R> {
     rt: R,
+    // 0 at the first alone.
     share: u64,
     shared: Arc<Shared<C>, Global>,
 }
@@ -29,36 +34,27 @@ struct Shared<C: Core> {
     kept: Mutex<Kept<C>>,
 }
 
+// What the lock holds: the core, and the wakers of the tasks that wait.
 #[derive(Drop)]
 struct Kept<C: Core> {
     core: C,
-    alloc: Global,
-    waiters: Vec<Waiter>,
+    waiters: Waiters,
     // A run from an opening core leads to this one.
     ghost reached: { ∥ Reached C.opens C.steps core ∥₁ },
-}
-
-// A task's number is its own only among the tasks of its executor, so the share tells threads apart.
-#[derive(Drop)]
-struct Waiter {
-    share: u64,
-    task: usize,
-    waker: Option<Waker>,
+    // Where a waker is kept, the last reply waits.
+    ghost rests: { ∥ Rests C.opens C.steps C.is_wait core waiters ∥₁ },
 }
 
 impl<C: Core, R: Wait + Copy> Guarded<C, R> {
     /// A lock round the core. For want of memory it answers an error, and the core is dropped.
     pub fn new(rt: R, alloc: Global, core: C) -> Result<Guarded<C, R>, AllocError>
         requires { C.opens core }
+        ensures { IfOk result (λ latch. ⟦<Guarded<C, R> as Latch<C>>⟧.is_first latch) }
     {
         let shared = Shared {
             source: Source::new(),
             shares: AtomicU64::new(1),
-            kept: Mutex::new(Kept {
-                core,
-                alloc,
-                waiters: Vec::new(alloc),
-            }),
+            kept: Mutex::new(Kept::new(alloc, core)),
         };
         Ok(Guarded {
             rt,
@@ -69,22 +65,55 @@ impl<C: Core, R: Wait + Copy> Guarded<C, R> {
 }
 
 impl<C: Core> Kept<C> {
-    #[inline(always)]
-    fn step(&mut self, step: C::Step) -> C::Reply
-        requires { C.admits step }
-        ensures { Came C.opens C.steps step result }
+    // The core, with no waker beside it.
+    fn new(alloc: Global, core: C) -> Kept<C>
+        requires { C.opens core }
     {
-        self.core.step(step)
+        Kept {
+            core,
+            waiters: Waiters::new(alloc),
+        }
     }
 
-    // The last waiter of one or more, and the others.
-    fn take_waiters(&mut self) -> (Option<Waiter>, Vec<Waiter>) {
-        let last = self.waiters.pop();
-        if self.waiters.is_empty() {
-            return (last, Vec::new(self.alloc));
+    // Makes one step. Where the reply waits, the wakers stay.
+    #[inline(always)]
+    fn step(&mut self, step: C::Step) -> (C::Reply, Option<Woken>)
+        requires { C.admits step }
+        ensures came { Came C.opens C.steps step result.0 }
+        ensures waits { C.is_wait result.0 ≡ true → (result.1 ≡ None) × (self.new.waiters ≡ self.old.waiters) }
+        ensures left { C.is_wait result.0 ≡ false → self.new.waiters ≡ [] }
+        ensures handed { C.is_wait result.0 ≡ false → MatchOption result.1 (self.old.waiters ≡ []) (λ woken. woken ≡ self.old.waiters) }
+    {
+        let reply = self.core.step(step);
+        if C::waits(&reply) {
+            return (reply, None);
         }
-        let others = mem::replace(&mut self.waiters, Vec::new(self.alloc));
-        (last, others)
+        (reply, self.waiters.take())
+    }
+
+    // Makes one step. Where the reply waits, the waker of the task at this share is kept.
+    #[inline(always)]
+    fn wait(
+        &mut self,
+        step: C::Step,
+        share: u64,
+        source: &Source,
+        cx: &mut Context<'_>,
+    ) -> (C::Reply, Option<Woken>)
+        requires { C.admits step }
+        ensures came { Came C.opens C.steps step result.0 }
+        ensures armed { C.is_wait result.0 ≡ true → IsArmed cx.new }
+        ensures keeps { Keeps cx.old cx.new }
+        ensures waits { C.is_wait result.0 ≡ true → IsKept share cx.old cx.new self.new.waiters }
+        ensures left { C.is_wait result.0 ≡ false → self.new.waiters ≡ [] }
+        ensures handed { C.is_wait result.0 ≡ false → MatchOption result.1 (self.old.waiters ≡ []) (λ woken. woken ≡ self.old.waiters) }
+    {
+        let reply = self.core.step(step);
+        if !C::waits(&reply) {
+            return (reply, self.waiters.take());
+        }
+        self.waiters.keep(share, source, cx);
+        (reply, None)
     }
 }
 
@@ -103,53 +132,23 @@ fn locked_late<T, R: Wait + Copy>(lock: &Mutex<T>, rt: R) -> MutexGuard<'_, T> {
     lock.lock(&rt)
 }
 
-// Wakes all that wait, once the lock is free: a waiter is woken when it is dropped. Where one waits
-// alone, the list keeps its room.
-#[cold]
-#[inline(never)]
-fn wake<C: Core>(mut kept: MutexGuard<'_, Kept<C>>) {
-    let woken = kept.take_waiters();
-    drop(kept);
-    drop(woken);
-}
-
-// Keeps one waker of the task at this share, where there is room.
-#[inline(never)]
-fn keep(waiters: &mut Vec<Waiter>, share: u64, source: &Source, cx: &mut Context<'_>) -> bool
-    ensures armed { result ≡ true → IsArmed cx.new }
-    ensures kept { Keeps cx.old cx.new }
-{
-    let task = cx.task();
-    let is_its_own = |waiter: &Waiter| waiter.share == share && waiter.task == task;
-    let place = match waiters.iter().position(is_its_own) {
-        Some(place) => place,
-        None => {
-            let Ok(()) = waiters.push(Waiter {
-                share,
-                task,
-                waker: None,
-            }) else {
-                return false;
-            };
-            waiters.len() - 1
-        }
-    };
-    let _pending: Poll<()> = cx.register(source, &mut waiters[place].waker);
-    true
-}
-
 impl<C: Core, R: Wait + Copy> Latch<C> for Guarded<C, R> {
     // Somewhere in a run from an opening core, the step had this reply.
     ghost gave = { λ _ step reply. Came C.opens C.steps step reply };
+
+    ghost is_first = { λ latch. latch.share ≡ 0 };
+
+    // Both are of one core, as the source beside it is one.
+    ghost shares = { λ latch made. IfOk made (λ other. arc_value other.shared ≡ arc_value latch.shared) };
 
     ghost honest = { λ _ _ _ given. given };
 
     #[inline]
     fn step(&self, step: C::Step) -> C::Reply {
         let mut kept = locked(&self.shared.kept, self.rt);
-        let reply = kept.step(step);
-        if !C::waits(&reply) && !kept.waiters.is_empty() {
-            wake(kept);
+        let (reply, woken) = kept.step(step);
+        if let Some(woken) = woken {
+            woken.wake(Free::of(kept));
         }
         reply
     }
@@ -157,15 +156,9 @@ impl<C: Core, R: Wait + Copy> Latch<C> for Guarded<C, R> {
     #[inline(always)]
     fn wait(&self, step: C::Step, cx: &mut Context<'_>) -> C::Reply {
         let mut kept = locked(&self.shared.kept, self.rt);
-        let reply = kept.step(step);
-        if C::waits(&reply) {
-            let room = keep(&mut kept.waiters, self.share, &self.shared.source, cx);
-            drop(kept);
-            if !room {
-                let _pending: Poll<()> = cx.yield_now();
-            }
-        } else if !kept.waiters.is_empty() {
-            wake(kept);
+        let (reply, woken) = kept.wait(step, self.share, &self.shared.source, cx);
+        if let Some(woken) = woken {
+            woken.wake(Free::of(kept));
         }
         reply
     }

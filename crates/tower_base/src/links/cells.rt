@@ -4,7 +4,7 @@ ghost use Rattle.slab.specs.Slab.{get, slab_len, ContainsKey, HasRoomFor, Update
 ghost use Rattle.tower_base.specs.Cells.{place_at, entry, with_place};
 ghost use Rattle.tower_base.specs.Order.{with_next, with_previous};
 
-use crate::links::touches::Touches;
+use crate::counter::GhostCounter;
 use slab::Slab;
 use std::alloc::{AllocError, Global};
 use std::mem;
@@ -27,7 +27,7 @@ pub struct Entry<T> {
 #[derive(Drop)]
 pub struct Cells<T> {
     slab: Slab<Entry<T>>,
-    touches: Touches,
+    touches: GhostCounter,
 }
 
 impl<T> Cells<T> {
@@ -45,7 +45,7 @@ impl<T> Cells<T> {
     {
         Cells {
             slab: Slab::new(alloc),
-            touches: Touches::new(),
+            touches: GhostCounter::new(),
         }
     }
 

@@ -11,6 +11,12 @@ use futures::task::{Context, Poll};
 // An answer is the value that was put in. (The kit's contract leaves room for a pending poll,
 // after which the future gives no more than before.)
 impl<T: Drop> Steps for Ready<T> {
+    type Output = T;
+
+    ghost can_poll = { ⟦<Ready<T> as Future>⟧.can_poll };
+
+    ghost needs = { ⟦<Ready<T> as Future>⟧.needs };
+
     ghost stepped = { GivesOnly ⟦<Ready<T> as Future>⟧.gives };
 
     fn step(&mut self, cx: &mut Context<'_>) -> Poll<T> {
@@ -19,6 +25,12 @@ impl<T: Drop> Steps for Ready<T> {
 }
 
 impl<T: Drop> Steps for Pending<T> {
+    type Output = T;
+
+    ghost can_poll = { ⟦<Pending<T> as Future>⟧.can_poll };
+
+    ghost needs = { ⟦<Pending<T> as Future>⟧.needs };
+
     ghost stepped = { λ f answer g. answer ≡ Pending };
 
     fn step(&mut self, cx: &mut Context<'_>) -> Poll<T> {

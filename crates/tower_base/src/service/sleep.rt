@@ -2,7 +2,7 @@
 ghost use Rattle.std.specs.Prelude.{◌≡◌, ⊤, ◌+◌};
 ghost use Rattle.futures.specs.Poll.{IfReady, OnPending};
 ghost use Rattle.futures.specs.Task.{Covers, Keeps};
-ghost use Rattle.tower_base.specs.Gives.{MayGive};
+ghost use Rattle.tower_base.specs.Gives.{IsStep, MayGive};
 ghost use Rattle.tower_base.specs.Sleep.{SleepView, Stepped};
 
 use crate::service::{Clock, Steps};
@@ -43,20 +43,20 @@ impl<C: Clock> Future for Sleep<C> {
     // A pending poll wakes its own waker, whatever source is meant.
     ghost needs = { λ _ _. ⊤ };
 
-    #[tactic(auto, using(crate::specs::GivesLemmas::gives_value, crate::specs::GivesLemmas::gives_same))]
+    #[tactic(auto, using(crate::specs::GivesLemmas::one_step))]
     fn poll(&mut self, cx: &mut Context<'_>) -> Poll<()>
-        ensures step { Stepped C.Clock self.old result self.new }
-        ensures value { IfReady result (MayGive (Stepped C.Clock) self.old) }
-        ensures again { OnPending result ⊤ }
-        ensures same { OnPending result ((x : _) → MayGive (Stepped C.Clock) self.new x → MayGive (Stepped C.Clock) self.old x) }
-        ensures registered { OnPending result (Covers cx.new (λ _. ⊤)) }
-        ensures kept { Keeps cx.old cx.new }
+        ensures { IsStep (Stepped C.Clock) (λ _. ⊤) (λ _ _. ⊤) self.old result self.new cx.old cx.new }
     {
         self.step(cx)
     }
 }
 
 impl<C: Clock> Steps for Sleep<C> {
+    type Output = ();
+
+    // A pending poll wakes its own waker, whatever source is meant.
+    ghost needs = { λ _ _. ⊤ };
+
     ghost stepped = { Stepped C.Clock };
 
     fn step(&mut self, cx: &mut Context<'_>) -> Poll<()> {

@@ -2,7 +2,7 @@
 ghost use Rattle.std.specs.Prelude.{◌≡◌, IfOk};
 ghost use Rattle.tower_base.specs.SystemClock.{SystemClockView, Read};
 
-use crate::service::Clock;
+use crate::service::{Clock, Monotonic};
 use std::marker::Model;
 use std::time::Instant;
 use std::{io, rt};
@@ -10,7 +10,8 @@ use std::{io, rt};
 /// The machine's monotonic clock: a reading is the nanoseconds since it was made. It stands for
 /// tokio's timer.
 ///
-/// Where the clock can't be read, or is past 2^64 - 1, a reading is the last one again.
+/// No reading is before the last one. Where the clock can't be read, or is past 2^64 - 1 or before the last
+/// reading, a reading is the last one again.
 #[derive(Drop)]
 pub struct SystemClock<R> {
     rt: R,
@@ -44,7 +45,7 @@ impl<R: rt::Clock + Copy> Clock for SystemClock<R> {
     fn now(&mut self) -> u64 {
         if let Ok(elapsed) = self.start.elapsed(&self.rt) {
             if let Ok(moment) = u64::try_from(elapsed.as_nanos()) {
-                self.last = moment;
+                self.last = self.last.max(moment);
             }
         }
         self.last
@@ -57,4 +58,8 @@ impl<R: rt::Clock + Copy> Clock for SystemClock<R> {
             last: self.last,
         }
     }
+}
+
+impl<R: rt::Clock + Copy> Monotonic for SystemClock<R> {
+    ghost forward = { λ old new read. read.0 };
 }

@@ -112,7 +112,7 @@ impl<L: Latch<HistoCore>, C: Clock> Record for RotatingHistogram<L, C> {
 
 /// A clone shares the core and the clock.
 impl<L: Latch<HistoCore>, C: Clock> Clone for RotatingHistogram<L, C> {
-    ghost is_clone = { IsClone L.gave C.Clock };
+    ghost is_clone = { IsClone L.gave L.shares C.Clock };
 
     fn clone(&self) -> Result<RotatingHistogram<L, C>, AllocError> {
         let latch = self.latch.share()?;

@@ -14,4 +14,4 @@ pub use laws::law;
 pub use layer::{ConcurrencyLimitLayer, GlobalConcurrencyLimitLayer};
 pub use line_core::{LineCore, LineReply, LineStep};
 pub use semaphore::{Permit, PollSemaphore, Semaphore};
-pub use service::ConcurrencyLimit;
+pub use service::{ConcurrencyLimit, projection};

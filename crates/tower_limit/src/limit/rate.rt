@@ -1,16 +1,18 @@
 //! A limit on the calls in a time: the Rust's `tower::limit::rate`.
 //!
-//! Time is in windows. A window opens at the first call at or past the end of the last one, or at the
-//! first poll there where the last one is full, and takes so many calls.
+//! The moments of the last calls are kept. After so many calls a further one waits until the oldest of
+//! them is a period ago, so each half-open interval as long as the period has at most so many.
 
 mod laws;
 mod layer;
 mod number;
 mod rate_core;
+pub mod run;
 mod service;
 
 pub use laws::law;
 pub use layer::RateLimitLayer;
 pub use number::Rate;
 pub use rate_core::RateCore;
+pub use run::drive_within_rate;
 pub use service::RateLimit;

@@ -2,7 +2,7 @@
 ghost use Rattle.std.specs.Prelude.{◌≡◌, ⊤, Some, IsSome};
 ghost use Rattle.futures.specs.Poll.{IfReady, OnPending};
 ghost use Rattle.futures.specs.Task.{Covers, Keeps};
-ghost use Rattle.tower_base.specs.Gives.{MayGive};
+ghost use Rattle.tower_base.specs.Gives.{IsStep, MayGive};
 ghost use Rattle.tower_limit.specs.Completion.{TrackCompletionFutureView, Stepped};
 
 use futures::future::Future;
@@ -90,15 +90,10 @@ where
 
     ghost needs = { λ v. F.needs v.future };
 
-    #[tactic(auto, using(tower_base::specs::GivesLemmas::gives_value, tower_base::specs::GivesLemmas::gives_same))]
+    #[tactic(auto, using(tower_base::specs::GivesLemmas::one_step))]
     fn poll(&mut self, cx: &mut Context<'_>) -> Poll<Self::Output>
         requires { F.can_poll self.old.future × C.sound self.old.completion × IsSome self.old.handle }
-        ensures step { Stepped C.tracked F.Steps.own self.old result self.new }
-        ensures value { IfReady result (MayGive (Stepped C.tracked F.Steps.own) self.old) }
-        ensures again { OnPending result (F.can_poll self.new.future × C.sound self.new.completion × IsSome self.new.handle) }
-        ensures same { OnPending result ((x : _) → MayGive (Stepped C.tracked F.Steps.own) self.new x → MayGive (Stepped C.tracked F.Steps.own) self.old x) }
-        ensures registered { OnPending result (Covers cx.new (F.needs self.new.future)) }
-        ensures kept { Keeps cx.old cx.new }
+        ensures { IsStep (Stepped C.tracked F.Steps.own) (λ v. F.can_poll v.future × C.sound v.completion × IsSome v.handle) (λ v. F.needs v.future) self.old result self.new cx.old cx.new }
     {
         self.step(cx)
     }
@@ -110,6 +105,12 @@ where
     C: TrackCompletion<H, T>,
     H: Drop,
 {
+    type Output = Result<C::Output, E>;
+
+    ghost can_poll = { λ v. F.can_poll v.future × C.sound v.completion × IsSome v.handle };
+
+    ghost needs = { λ v. F.needs v.future };
+
     ghost stepped = { Stepped C.tracked F.Steps.own };
 
     fn step(&mut self, cx: &mut Context<'_>) -> Poll<Self::Output> {

@@ -1,11 +1,16 @@
 //! A load that never changes.
 ghost use Rattle.std.specs.Prelude.{◌≡◌};
 ghost use Rattle.tower_limit.specs.Constant.{ConstantView, Polled, Called, Discovered};
+ghost use Rattle.tower_base.specs.ServiceRun.{relations};
+ghost use Rattle.tower_base.specs.Projection.{Once, Projects};
+ghost use Rattle.tower_base.specs.ProjectionLemmas.{composed_once};
+ghost use Rattle.tower_limit.specs.Projections.{constant as constant_projects};
 
 use crate::discover::{Change, Discover};
 use crate::load::Load;
 use futures::task::{Context, Poll};
 use std::marker::Model;
+use tower_base::run::Contains;
 use tower_base::service::Service;
 
 /// A service, or a discovery of services, with a load that never changes: the Rust's `tower::load::Constant`.
@@ -64,6 +69,25 @@ impl<Request, S: Service<Request>, M: Copy> Service<Request> for Constant<S, M> 
     fn call(&mut self, request: Request) -> S::Future {
         self.inner.call(request)
     }
+}
+
+/// Each call goes inside, once.
+pub fn projection<Request, S: Service<Request>, M: Copy>()
+    ensures { Projects (relations ⟦<Constant<S, M> as Service<Request>>⟧) (relations S.Service) (λ k. k.inner) Once }
+{}
+
+/// What its inner service contains.
+impl<Request, Passed, I, S, M> Contains<Request, Passed, I> for Constant<S, M>
+where
+    I: Service<Passed>,
+    S: Contains<Request, Passed, I>,
+    M: Copy,
+{
+    ghost inside = { λ k. S.inside k.inner };
+
+    ghost goes = { S.goes };
+
+    ghost projects = { composed_once _ _ _ (λ k. k.inner) S.inside S.goes (constant_projects _) S.projects };
 }
 
 impl<D: Discover, M: Copy> Discover for Constant<D, M> {

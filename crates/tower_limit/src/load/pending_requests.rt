@@ -10,4 +10,4 @@ pub use count::Count;
 pub use count_core::{CountCore, CountReply, CountStep};
 pub use discover::PendingRequestsDiscover;
 pub use handle::Handle;
-pub use service::PendingRequests;
+pub use service::{PendingRequests, projection};

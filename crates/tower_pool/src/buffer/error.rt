@@ -3,7 +3,7 @@
 use std::fmt::Display;
 use std::{error, fmt};
 
-/// The service's own error, which every caller gets: the Rust's `tower::buffer::error::ServiceError`.
+/// The error of the service's readiness, which every caller gets: the Rust's `tower::buffer::error::ServiceError`.
 #[derive(Clone, Debug, Drop, PartialEq, Eq, thiserror::Error)]
 #[error_bound(E: Display)]
 #[error("buffered service failed: {error}")]
@@ -27,7 +27,10 @@ impl error::Error for Closed {}
 #[derive(Clone, Debug, Drop, PartialEq, Eq, thiserror::Error)]
 #[error_bound(E: Display)]
 pub enum Error<E> {
-    /// The service failed, at this message or at an earlier one.
+    /// The error of the call's own future.
+    #[error(transparent)]
+    Inner(E),
+    /// The service wasn't ready but failed, for this message or an earlier one.
     #[error(transparent)]
     Service(ServiceError<E>),
     /// The buffer is closed without an error, or the message was lost with the worker.

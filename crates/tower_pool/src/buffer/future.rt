@@ -1,8 +1,8 @@
 //! The response of a `Buffer`.
 ghost use Rattle.std.specs.Prelude.{◌≡◌, Some};
-ghost use Rattle.futures.specs.Poll.{IfReady, OnPending};
+ghost use Rattle.futures.specs.Poll.{OnPending};
 ghost use Rattle.futures.specs.Task.{Covers, Keeps};
-ghost use Rattle.tower_base.specs.Gives.{MayGive};
+ghost use Rattle.tower_base.specs.Gives.{IsStep, MayGive};
 ghost use Rattle.tower_pool.specs.Buffer.{CanPoll, Carries, Forgets, Needs, Stepped};
 ghost use Rattle.tower_pool.specs.declared.buffer.seat.Stage.{Stage};
 ghost use Rattle.tower_pool.specs.declared.buffer.seat.Stage.TheVariants.{Told, Sent as IsSent};
@@ -26,7 +26,7 @@ use tower_base::service::Steps;
 /// away before makes the mail forget its message.
 pub struct ResponseFuture<
     Request: Drop,
-    F: Future + Drop,
+    F: Steps + Drop,
     E: Clone,
     L: Latch<MailCore<Request, Pollable<F>, E>>,
 > {
@@ -34,14 +34,14 @@ pub struct ResponseFuture<
     of: PhantomData<(Request, E)>,
 }
 
-impl<Request: Drop, F: Future + Drop, E: Clone, L: Latch<MailCore<Request, Pollable<F>, E>>> Model
+impl<Request: Drop, F: Steps + Drop, E: Clone, L: Latch<MailCore<Request, Pollable<F>, E>>> Model
     for ResponseFuture<Request, F, E, L> {
     ghost Value = { Stage L F (BufferError E) };
 
     ghost view = { λ f. f.stage };
 }
 
-impl<Request: Drop, F: Future + Drop, E: Clone, L: Latch<MailCore<Request, Pollable<F>, E>>> Drop
+impl<Request: Drop, F: Steps + Drop, E: Clone, L: Latch<MailCore<Request, Pollable<F>, E>>> Drop
     for ResponseFuture<Request, F, E, L> {
     fn drop(self)
         ensures { Forgets L.gave self }
@@ -55,7 +55,7 @@ impl<Request: Drop, F: Future + Drop, E: Clone, L: Latch<MailCore<Request, Polla
 
 impl<
     Request: Drop,
-    F: Future + Drop,
+    F: Steps + Drop,
     E: Clone,
     L: Latch<MailCore<Request, Pollable<F>, E>>,
 > ResponseFuture<Request, F, E, L> {
@@ -93,14 +93,10 @@ where
 
     ghost needs = { Needs F.needs };
 
+    #[tactic(auto, using(tower_base::specs::GivesLemmas::one_step))]
     fn poll(&mut self, cx: &mut Context<'_>) -> Poll<Self::Output>
         requires { CanPoll F.can_poll self.old }
-        ensures step { Stepped L.gave F.stepped self.old result self.new }
-        ensures value { IfReady result (MayGive (Stepped L.gave F.stepped) self.old) }
-        ensures again { OnPending result (CanPoll F.can_poll self.new) }
-        ensures same { OnPending result ((x : _) → MayGive (Stepped L.gave F.stepped) self.new x → MayGive (Stepped L.gave F.stepped) self.old x) }
-        ensures registered { OnPending result (Covers cx.new (Needs F.needs self.new)) }
-        ensures kept { Keeps cx.old cx.new }
+        ensures { IsStep (Stepped L.gave F.stepped) (CanPoll F.can_poll) (Needs F.needs) self.old result self.new cx.old cx.new }
     {
         self.step(cx)
     }
@@ -113,6 +109,12 @@ where
     F: Steps<Output = Result<T, E>> + Drop,
     L: Latch<MailCore<Request, Pollable<F>, E>>,
 {
+    type Output = Result<T, Error<E>>;
+
+    ghost can_poll = { CanPoll F.can_poll };
+
+    ghost needs = { Needs F.needs };
+
     ghost stepped = { Stepped L.gave F.stepped };
 
     fn step(&mut self, cx: &mut Context<'_>) -> Poll<Self::Output> {
@@ -145,7 +147,7 @@ where
     }
 }
 
-// One poll of the inner future, with the service's own error.
+// One poll of the inner future, whose error is `Inner`.
 fn carry<T, E, F>(future: &mut F, cx: &mut Context<'_>) -> Poll<Result<T, Error<E>>>
 where
     F: Steps<Output = Result<T, E>>,
@@ -157,7 +159,7 @@ where
 {
     match future.step(cx) {
         Poll::Ready(Ok(value)) => Poll::Ready(Ok(value)),
-        Poll::Ready(Err(error)) => Poll::Ready(Err(Error::Service(ServiceError { error }))),
+        Poll::Ready(Err(error)) => Poll::Ready(Err(Error::Inner(error))),
         Poll::Pending => Poll::Pending,
     }
 }

@@ -5,14 +5,13 @@ ghost use Rattle.tower_pool.specs.Making.{BufferLayerView, ClonesLayer, Tries, W
 use crate::buffer::mail_core::MailCore;
 use crate::buffer::service::Buffer;
 use crate::buffer::worker::Worker;
-use futures::future::Future;
 use std::alloc::{AllocError, Global};
 use std::marker::{Model, PhantomData};
 use std::sync::Wait;
 use tower_base::latch::held::Pollable;
 use tower_base::latch::{Core, Guarded, Latch};
 use tower_base::layer::Layer;
-use tower_base::service::{Executor, Service};
+use tower_base::service::{Executor, Service, Steps};
 
 /// Gives each service a `Buffer` of its own, and its worker to the executor: the Rust's
 /// `tower::buffer::BufferLayer`.
@@ -74,7 +73,7 @@ impl<C: Core, R: Wait + Copy> Guard<C> for R {
 impl<Request, F, E, L, S, X, R> Layer<S> for BufferLayer<Request, E, X, R>
 where
     Request: Drop,
-    F: Future + Drop,
+    F: Steps + Drop,
     E: Clone,
     L: Latch<MailCore<Request, Pollable<F>, E>>,
     S: Service<Request, Error = E, Future = F>,
@@ -85,7 +84,7 @@ where
 
     ghost can_layer = { λ l service. (latch : _) → X.can_spawn l.executor (idle latch service) };
 
-    ghost made = { λ l service buffer. Wraps X.spawned l.executor service buffer };
+    ghost made = { λ l service buffer. Wraps L.shares X.spawned l.executor service buffer };
 
     fn layer(&self, service: S) -> Result<Self::Service, AllocError> {
         let core = MailCore::new(self.alloc, self.bound);

@@ -1,7 +1,7 @@
 //! What may be asked of mail, and what it answers.
 
 /// What may be asked of mail.
-#[derive(Clone, Copy, PartialEq, Eq, Drop)]
+#[derive(Clone, Copy, Debug, PartialEq, Eq, Drop)]
 pub enum MailStep<Request, F, E> {
     /// There is a `Buffer` more.
     Join,
@@ -36,7 +36,7 @@ pub enum MailStep<Request, F, E> {
 }
 
 /// What mail answers.
-#[derive(Clone, Copy, PartialEq, Eq, Drop)]
+#[derive(Clone, Copy, Debug, PartialEq, Eq, Drop)]
 pub enum MailReply<Request, F, E> {
     /// It was done.
     Done,

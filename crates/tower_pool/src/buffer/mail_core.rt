@@ -70,6 +70,7 @@ impl<Request: Drop, F: Drop, E: Clone> Core for MailCore<Request, F, E> {
     /// of the messages and of those who wait, for each message that leaves the queue, and any other step
     /// six, whatever is stored. Closing isn't counted: `WorkerGone` reaches every message, and `Fail` drops
     /// those who wait together with the count of their touches.
+    #[inline(always)]
     fn step(&mut self, step: MailStep<Request, F, E>) -> MailReply<Request, F, E>
         ensures steps { StepsAs StandsFor MailSteps self.old step result self.new }
         ensures excused { step ≡ MailStep.Reserve → result ≡ MailReply.Memory → self.old.closed ≡ false → ¬ (HasRoom self.old) }

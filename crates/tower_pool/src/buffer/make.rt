@@ -1,19 +1,18 @@
 //! How a `Buffer` and its worker are made.
 ghost use Rattle.std.specs.Prelude.{◌≡◌, ◌<◌, ◌↔◌, IfOk, IsTrue};
-ghost use Rattle.tower_pool.specs.Making.{Begins, HandsOver, IsPair, Paired, idle};
+ghost use Rattle.tower_pool.specs.Making.{Begins, HandsOver, Paired, PairedOver, idle};
 
 use crate::buffer::error::Error;
 use crate::buffer::mail_core::MailCore;
 use crate::buffer::service::Buffer;
 use crate::buffer::worker::Worker;
-use futures::future::Future;
 use std::alloc::{AllocError, Global};
 use std::sync::Wait;
 use tower_base::latch::held::Pollable;
 use tower_base::latch::{Guarded, Latch};
-use tower_base::service::{Executor, Service};
+use tower_base::service::{Executor, Service, Steps};
 
-impl<Request: Drop, F: Future + Drop, E: Clone, L: Latch<MailCore<Request, Pollable<F>, E>>> Buffer<
+impl<Request: Drop, F: Steps + Drop, E: Clone, L: Latch<MailCore<Request, Pollable<F>, E>>> Buffer<
     Request,
     F,
     E,
@@ -27,7 +26,7 @@ impl<Request: Drop, F: Future + Drop, E: Clone, L: Latch<MailCore<Request, Polla
     ) -> Result<(Self, Worker<S, Request, F, E, L>), AllocError>
     where
         S: Service<Request, Error = E, Future = F>,
-        ensures { IfOk result (λ made. Paired L.shares latch service made.0 made.1) }
+        ensures { IfOk result (λ made. PairedOver L.shares latch service made.0 made.1) }
     {
         let share = latch.share()?;
         Ok((Buffer::away(latch), Worker::idle(share, service)))
@@ -39,7 +38,7 @@ impl<Request: Drop, F: Future + Drop, E: Clone, L: Latch<MailCore<Request, Polla
         S: Service<Request, Error = E, Future = F>,
         X: Executor<Worker<S, Request, F, E, L>>,
         requires can_spawn { (share : _) → X.can_spawn executor.now (idle share service) }
-        ensures { Begins X.spawned executor.now service result }
+        ensures { Begins L.shares X.spawned executor.now service result }
     {
         let Ok((buffer, worker)) = Buffer::with_latch(latch, service) else {
             return Err(Error::Memory);
@@ -55,7 +54,7 @@ impl<Request: Drop, F: Future + Drop, E: Clone, L: Latch<MailCore<Request, Polla
     }
 }
 
-impl<Request: Drop, F: Future + Drop, E: Clone, R: Wait + Copy> Buffer<
+impl<Request: Drop, F: Steps + Drop, E: Clone, R: Wait + Copy> Buffer<
     Request,
     F,
     E,
@@ -80,7 +79,7 @@ impl<Request: Drop, F: Future + Drop, E: Clone, R: Wait + Copy> Buffer<
         S: Service<Request, Error = E, Future = F>,
         requires positive { 0 < bound }
         requires same { (x y : E) → E.is_clone x y → y ≡ x }
-        ensures { IfOk result (λ made. IsPair service made.0 made.1) }
+        ensures { IfOk result (λ made. Paired ⟦<Guarded<MailCore<Request, Pollable<F>, E>, R> as Latch<MailCore<Request, Pollable<F>, E>>>⟧.shares service made.0 made.1) }
     {
         let latch = Guarded::new(rt, alloc, MailCore::new(alloc, bound))?;
         Buffer::with_latch(latch, service)
@@ -102,7 +101,7 @@ impl<Request: Drop, F: Future + Drop, E: Clone, R: Wait + Copy> Buffer<
         requires positive { 0 < bound }
         requires same { (x y : E) → E.is_clone x y → y ≡ x }
         requires can_spawn { (latch : _) → X.can_spawn executor.now (idle latch service) }
-        ensures { Begins X.spawned executor.now service result }
+        ensures { Begins ⟦<Guarded<MailCore<Request, Pollable<F>, E>, R> as Latch<MailCore<Request, Pollable<F>, E>>>⟧.shares X.spawned executor.now service result }
     {
         let Ok(latch) = Guarded::new(rt, alloc, MailCore::new(alloc, bound)) else {
             return Err(Error::Memory);

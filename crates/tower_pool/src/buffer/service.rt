@@ -1,6 +1,6 @@
 //! A share of a bounded queue before a service.
 ghost use Rattle.std.specs.Prelude.{◌≡◌, Some, None, IfOk, IfErr, Err, IsSome};
-ghost use Rattle.tower_pool.specs.Buffer.{BufferView, Called, GivesUp, HasShare, IsClone, Polled};
+ghost use Rattle.tower_pool.specs.Buffer.{BufferView, Called, GivesUp, IsClone, Polled};
 ghost use Rattle.tower_pool.specs.BufferReady.{ready_after};
 ghost use Rattle.tower_pool.specs.declared.buffer.seat.Seat.TheVariants.{Away, Reserved};
 
@@ -9,7 +9,6 @@ use crate::buffer::future::ResponseFuture;
 use crate::buffer::mail::{MailReply, MailStep};
 use crate::buffer::mail_core::MailCore;
 use crate::buffer::seat::{Seat, Stage};
-use futures::future::Future;
 use futures::task::{Context, Poll};
 use std::alloc::AllocError;
 use std::marker::{Model, PhantomData};
@@ -25,7 +24,7 @@ use tower_base::service::{Service, Steps};
 /// worker is there. One that goes away gives up its place or its wait.
 pub struct Buffer<
     Request: Drop,
-    F: Future + Drop,
+    F: Steps + Drop,
     E: Clone,
     L: Latch<MailCore<Request, Pollable<F>, E>>,
 > {
@@ -35,15 +34,18 @@ pub struct Buffer<
     of: PhantomData<(Request, F, E)>,
 }
 
-impl<Request: Drop, F: Future + Drop, E: Clone, L: Latch<MailCore<Request, Pollable<F>, E>>> Model
+impl<Request: Drop, F: Steps + Drop, E: Clone, L: Latch<MailCore<Request, Pollable<F>, E>>> Model
     for Buffer<Request, F, E, L> {
     ghost Value = { BufferView L };
 
     ghost view = { λ b. record { latch = b.latch; seat = b.seat; share = b.share } };
+
+    // With a place reserved, the response's share is there.
+    ghost invariant = { λ b. b.seat ≡ Reserved → IsSome b.share };
 }
 
 /// It gives up its place or its wait, and is one less.
-impl<Request: Drop, F: Future + Drop, E: Clone, L: Latch<MailCore<Request, Pollable<F>, E>>> Drop
+impl<Request: Drop, F: Steps + Drop, E: Clone, L: Latch<MailCore<Request, Pollable<F>, E>>> Drop
     for Buffer<Request, F, E, L> {
     fn drop(self)
         ensures gives_up { GivesUp L.gave self.latch self.seat }
@@ -81,8 +83,6 @@ where
     type Error = Error<E>;
 
     type Future = ResponseFuture<Request, F, E, L>;
-
-    ghost sound = { HasShare };
 
     ghost ready = { λ b. b.seat ≡ Reserved };
 
@@ -150,7 +150,7 @@ where
 }
 
 /// A clone shares the mail. It has no place, and waits for none.
-impl<Request: Drop, F: Future + Drop, E: Clone, L: Latch<MailCore<Request, Pollable<F>, E>>> Clone
+impl<Request: Drop, F: Steps + Drop, E: Clone, L: Latch<MailCore<Request, Pollable<F>, E>>> Clone
     for Buffer<Request, F, E, L> {
     ghost is_clone = { IsClone L.gave L.shares };
 
@@ -164,7 +164,7 @@ impl<Request: Drop, F: Future + Drop, E: Clone, L: Latch<MailCore<Request, Polla
     }
 }
 
-impl<Request: Drop, F: Future + Drop, E: Clone, L: Latch<MailCore<Request, Pollable<F>, E>>> Buffer<
+impl<Request: Drop, F: Steps + Drop, E: Clone, L: Latch<MailCore<Request, Pollable<F>, E>>> Buffer<
     Request,
     F,
     E,

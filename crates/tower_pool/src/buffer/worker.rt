@@ -1,9 +1,9 @@
 //! What takes messages to the service.
 ghost use Rattle.std.specs.Prelude.{◌≡◌, Some, None, false};
-ghost use Rattle.futures.specs.Poll.{IfReady, OnPending};
-ghost use Rattle.futures.specs.Task.{Covers, IsArmed, Keeps};
+ghost use Rattle.futures.specs.Poll.{OnPending};
+ghost use Rattle.futures.specs.Task.{IsArmed, Keeps};
 ghost use Rattle.futures.specs.declared.task.Poll.TheVariants.{Pending};
-ghost use Rattle.tower_base.specs.Gives.{MayGive};
+ghost use Rattle.tower_base.specs.Gives.{IsStep, MayGive};
 ghost use Rattle.tower_pool.specs.WorkerOrder.{Orderly};
 ghost use Rattle.tower_pool.specs.Worker.{HandsOn, Pass, Serves, Stepped, WorkerView};
 
@@ -14,19 +14,19 @@ use futures::task::{Context, Poll};
 use std::marker::{Model, PhantomData};
 use tower_base::latch::Latch;
 use tower_base::latch::held::Pollable;
-use tower_base::passes::PASSES;
+use tower_base::passes::TURNS;
 use tower_base::service::{Service, Steps};
 
 /// Takes one message after another, waits until the service is ready, and calls it: the Rust's
 /// `tower::buffer::Worker`. It is handed to an executor, and ends once no message will come any more.
 ///
-/// After a failure of the service each message that it takes gets that error. A poll makes `PASSES` passes
+/// After a failure of the service each message that it takes gets that error. A poll makes `TURNS` passes
 /// at most; then it is pending and has woken its own task. One that goes away loses the messages without
 /// an outcome.
 pub struct Worker<
     S: Drop,
     Request: Drop,
-    F: Future + Drop,
+    F: Steps + Drop,
     E: Clone,
     L: Latch<MailCore<Request, Pollable<F>, E>>,
 > {
@@ -40,7 +40,7 @@ pub struct Worker<
 impl<
     S: Drop,
     Request: Drop,
-    F: Future + Drop,
+    F: Steps + Drop,
     E: Clone,
     L: Latch<MailCore<Request, Pollable<F>, E>>,
 > Model for Worker<S, Request, F, E, L> {
@@ -53,7 +53,7 @@ impl<
 impl<
     S: Drop,
     Request: Drop,
-    F: Future + Drop,
+    F: Steps + Drop,
     E: Clone,
     L: Latch<MailCore<Request, Pollable<F>, E>>,
 > Drop for Worker<S, Request, F, E, L> {
@@ -74,7 +74,7 @@ impl<
 impl<
     S: Drop,
     Request: Drop,
-    F: Future + Drop,
+    F: Steps + Drop,
     E: Clone,
     L: Latch<MailCore<Request, Pollable<F>, E>>,
 > Worker<S, Request, F, E, L> {
@@ -95,7 +95,7 @@ impl<
 impl<S, Request, F, E, L> Worker<S, Request, F, E, L>
 where
     Request: Drop,
-    F: Future + Drop,
+    F: Steps + Drop,
     E: Clone,
     S: Service<Request, Error = E, Future = F>,
     L: Latch<MailCore<Request, Pollable<F>, E>>,
@@ -187,7 +187,7 @@ where
         ensures armed { OnPending result (IsArmed cx.new) }
         ensures kept { Keeps cx.old cx.new }
     {
-        for _pass in 0..PASSES {
+        for _pass in 0..TURNS {
             if let Some(answer) = self.pass(cx) {
                 return answer;
             }
@@ -199,7 +199,7 @@ where
 impl<S, Request, F, E, L> Future for Worker<S, Request, F, E, L>
 where
     Request: Drop,
-    F: Future + Drop,
+    F: Steps + Drop,
     E: Clone,
     S: Service<Request, Error = E, Future = F>,
     L: Latch<MailCore<Request, Pollable<F>, E>>,
@@ -210,15 +210,11 @@ where
 
     ghost gives = { MayGive (Stepped L.gave S.Service) };
 
+    #[tactic(auto, using(tower_base::specs::GivesLemmas::one_step))]
     fn poll(&mut self, cx: &mut Context<'_>) -> Poll<()>
         requires { S.sound self.old.service }
-        ensures step { Stepped L.gave S.Service self.old result self.new }
+        ensures step { IsStep (Stepped L.gave S.Service) (λ w. S.sound w.service) (λ _ _. ⊥) self.old result self.new cx.old cx.new }
         ensures orderly { Orderly L.gave self.old self.new }
-        ensures value { IfReady result (MayGive (Stepped L.gave S.Service) self.old) }
-        ensures again { OnPending result (S.sound self.new.service) }
-        ensures same { OnPending result ((x : _) → MayGive (Stepped L.gave S.Service) self.new x → MayGive (Stepped L.gave S.Service) self.old x) }
-        ensures registered { OnPending result (Covers cx.new (⟦<Worker<S, Request, F, E, L> as Future>⟧.needs self.new)) }
-        ensures kept { Keeps cx.old cx.new }
     {
         self.step(cx)
     }
@@ -227,11 +223,15 @@ where
 impl<S, Request, F, E, L> Steps for Worker<S, Request, F, E, L>
 where
     Request: Drop,
-    F: Future + Drop,
+    F: Steps + Drop,
     E: Clone,
     S: Service<Request, Error = E, Future = F>,
     L: Latch<MailCore<Request, Pollable<F>, E>>,
 {
+    type Output = ();
+
+    ghost can_poll = { λ w. S.sound w.service };
+
     ghost stepped = { Stepped L.gave S.Service };
 
     fn step(&mut self, cx: &mut Context<'_>) -> Poll<()> {

@@ -37,12 +37,12 @@ pub struct ReadyCache<K: Eq + Hash + Clone, S, Req> {
 }
 
 impl<K: Eq + Hash + Clone, S, Req> Model for ReadyCache<K, S, Req> {
-    ghost use Rattle.tower_pool.specs.ReadyCache.{CacheInvariant, ReadyCacheView};
+    ghost use Rattle.tower_pool.specs.ReadyCache.{CacheInvariant, CountedView};
     ghost use Rattle.tower_pool.specs.Waiters.{knows};
 
-    ghost Value = { ReadyCacheView K S };
+    ghost Value = { CountedView K S };
 
-    ghost view = { λ c. record { ready = c.ready.entries; pending = c.pending.items } };
+    ghost view = { λ c. record { lists = record { ready = c.ready.entries; pending = c.pending.items }; touches = c.pending.touches } };
 
     ghost invariant = { λ c. CacheInvariant K.eq K.is_clone c.ready.entries c.pending.items (knows K.eq c.pending) c.pending.room };
 }
@@ -51,8 +51,8 @@ impl<K: Eq + Hash + Clone + Drop, S: Service<Req>, Req> ReadyCache<K, S, Req> {
     /// A cache without endpoints. It takes no memory. The Rust's `default`.
     pub fn new(alloc: Global) -> ReadyCache<K, S, Req>
         requires { (x y : K) → K.is_clone x y → y ≡ x }
-        ensures empty { result ≡ record { ready = []; pending = [] } }
-        ensures sound { Sound S.sound result }
+        ensures empty { result.lists ≡ record { ready = []; pending = [] } }
+        ensures sound { Sound S.sound result.lists }
     {
         ReadyCache {
             ready: IndexMap::new(alloc),
@@ -63,59 +63,59 @@ impl<K: Eq + Hash + Clone + Drop, S: Service<Req>, Req> ReadyCache<K, S, Req> {
 
     /// How many endpoints there are. Cancelled ones count until a poll removes them.
     pub fn len(&self) -> usize
-        ensures { result ≡ length self.now.ready + length self.now.pending }
+        ensures { result ≡ length self.now.lists.ready + length self.now.lists.pending }
     {
         self.ready.len() + self.pending.len()
     }
 
     /// Whether there is none, not even a cancelled one.
     pub fn is_empty(&self) -> bool
-        ensures { IsTrue result ↔ (length self.now.ready + length self.now.pending ≡ 0) }
+        ensures { IsTrue result ↔ (length self.now.lists.ready + length self.now.lists.pending ≡ 0) }
     {
         self.len() == 0
     }
 
     /// How many are ready.
     pub fn ready_len(&self) -> usize
-        ensures len { result ≡ length self.now.ready }
-        ensures distinct { IsDistinct K.eq (keys_of self.now.ready) }
+        ensures len { result ≡ length self.now.lists.ready }
+        ensures distinct { IsDistinct K.eq (keys_of self.now.lists.ready) }
     {
         self.ready.len()
     }
 
     /// How many are pending, cancelled ones among them.
     pub fn pending_len(&self) -> usize
-        ensures len { result ≡ length self.now.pending }
-        ensures apart { Apart K.eq self.now.pending }
+        ensures len { result ≡ length self.now.lists.pending }
+        ensures apart { Apart K.eq self.now.lists.pending }
     {
         self.pending.len()
     }
 
     /// Whether an endpoint of the key is pending and isn't cancelled.
     pub fn pending_contains(&self, key: &K) -> bool
-        ensures { result ≡ awaited K.eq key.now self.now.pending }
+        ensures { result ≡ awaited K.eq key.now self.now.lists.pending }
     {
         self.pending.awaited(key)
     }
 
     /// The key's ready endpoint: its index, its key as it was pushed, and its service.
     pub fn get_ready(&self, key: &K) -> Option<(usize, &K, &S)>
-        ensures index { option_map (λ p. p.0) result ≡ place K.eq key.now self.now.ready }
-        ensures entry { IfSome result (λ p. slice_get self.now.ready p.0 ≡ Some (p.1.now, p.2.now)) }
+        ensures index { option_map (λ p. p.0) result ≡ place K.eq key.now self.now.lists.ready }
+        ensures entry { IfSome result (λ p. slice_get self.now.lists.ready p.0 ≡ Some (p.1.now, p.2.now)) }
     {
         self.ready.get_full(key)
     }
 
     /// The ready endpoint at the index.
     pub fn get_ready_index(&self, index: usize) -> Option<(&K, &S)>
-        ensures { option_map deref_pair result ≡ slice_get self.now.ready index }
+        ensures { option_map deref_pair result ≡ slice_get self.now.lists.ready index }
     {
         self.ready.get_index(index)
     }
 
     /// The ready endpoints in the order of their indexes.
     pub fn iter_ready(&self) -> IterReady<'_, K, S>
-        ensures { result ≡ self.now.ready }
+        ensures { result ≡ self.now.lists.ready }
     {
         IterReady::new(self.ready.iter())
     }
@@ -124,11 +124,12 @@ impl<K: Eq + Hash + Clone + Drop, S: Service<Req>, Req> ReadyCache<K, S, Req> {
     /// which endpoints come back from the ready ones. Where that is refused, it gives back what it was given, and the
     /// cache stays as it was.
     pub fn push(&mut self, key: K, service: S) -> Result<(), (K, S)>
-        ensures ready { self.new.ready ≡ self.old.ready }
-        ensures pending { OnOk result (self.new.pending ≡ cancel K.eq key self.old.pending ++ waiting key service ∷ []) }
-        ensures same { OnErr result (self.new ≡ self.old) }
+        ensures ready { self.new.lists.ready ≡ self.old.lists.ready }
+        ensures pending { OnOk result (self.new.lists.pending ≡ cancel K.eq key self.old.lists.pending ++ waiting key service ∷ []) }
+        ensures same { OnErr result (self.new.lists ≡ self.old.lists) }
         ensures given_back { IfErr result (λ back. back ≡ (key, service)) }
-        ensures sound { Sound S.sound self.old → S.sound service → Sound S.sound self.new }
+        ensures sound { Sound S.sound self.old.lists → S.sound service → Sound S.sound self.new.lists }
+        ensures touches { self.new.touches ≤ self.old.touches + 2 }
     {
         self.pending.push(key, service, self.ready.len() + 1)
     }
@@ -136,10 +137,11 @@ impl<K: Eq + Hash + Clone + Drop, S: Service<Req>, Req> ReadyCache<K, S, Req> {
     /// Cancels the key's pending endpoint and removes its ready one, whose place the last one takes. Answers whether
     /// there was one.
     pub fn evict(&mut self, key: &K) -> bool
-        ensures found { result ≡ (awaited K.eq key.now self.old.pending || is_some (lookup (K.eq key.now) self.old.ready)) }
-        ensures ready { self.new.ready ≡ swap_remove_entry (K.eq key.now) self.old.ready }
-        ensures pending { self.new.pending ≡ cancel K.eq key.now self.old.pending }
-        ensures sound { Sound S.sound self.old → Sound S.sound self.new }
+        ensures found { result ≡ (awaited K.eq key.now self.old.lists.pending || is_some (lookup (K.eq key.now) self.old.lists.ready)) }
+        ensures ready { self.new.lists.ready ≡ swap_remove_entry (K.eq key.now) self.old.lists.ready }
+        ensures pending { self.new.lists.pending ≡ cancel K.eq key.now self.old.lists.pending }
+        ensures sound { Sound S.sound self.old.lists → Sound S.sound self.new.lists }
+        ensures touches { self.new.touches ≡ self.old.touches }
     {
         let was_pending = self.pending.evict(key);
         let was_ready = self.ready.swap_remove(key).is_some();
@@ -227,14 +229,16 @@ impl<K: Eq + Hash + Clone + Drop, S: Service<Req>, Req> ReadyCache<K, S, Req> {
     /// One that is ready goes last among the ready ones, or to the place of its key, whose older endpoint is dropped.
     /// One that fails leaves, and the poll stops with its error. `Memory` comes before an endpoint is asked, where there
     /// is no room for one more ready one; that endpoint is pending still. After `Ok` none is left, and after pending
-    /// each one left was asked in this poll.
+    /// each one left was asked in this poll. It reaches five entries of the pending ones' slab at most for each endpoint
+    /// that was pending as it began.
     pub fn poll_pending(&mut self, cx: &mut Context<'_>) -> Poll<Result<(), Error<K, S::Error>>>
-        requires { Sound S.sound self.old }
-        ensures polled { PendingPolled K.eq S.Service self.old result self.new }
-        ensures done { result ≡ Ready (Ok tt) → self.new.pending ≡ [] }
-        ensures sound { Sound S.sound self.new }
+        requires { Sound S.sound self.old.lists }
+        ensures polled { PendingPolled K.eq S.Service self.old.lists result self.new.lists }
+        ensures done { result ≡ Ready (Ok tt) → self.new.lists.pending ≡ [] }
+        ensures sound { Sound S.sound self.new.lists }
         ensures armed { OnPending result (IsArmed cx.new) }
         ensures kept { Keeps cx.old cx.new }
+        ensures touches { self.new.touches ≤ self.old.touches + 5 * length self.old.lists.pending }
     {
         Self::ask_each(&mut self.ready, &mut self.pending, cx)
     }
@@ -246,11 +250,12 @@ impl<K: Eq + Hash + Clone + Drop, S: Service<Req>, Req> ReadyCache<K, S, Req> {
         cx: &mut Context<'_>,
         key: &K,
     ) -> Result<bool, Failed<K, S::Error>>
-        requires { Sound S.sound self.old }
-        ensures checked { CheckedKey K.eq S.Service self.old key.now result self.new }
-        ensures ready { IfOk result (λ is_ready. is_ready ≡ true → AtKey K.eq key.now self.new.ready (λ index. At self.new.ready index (λ e. S.ready e.1))) }
-        ensures sound { Sound S.sound self.new }
+        requires { Sound S.sound self.old.lists }
+        ensures checked { CheckedKey K.eq S.Service self.old.lists key.now result self.new.lists }
+        ensures ready { IfOk result (λ is_ready. is_ready ≡ true → AtKey K.eq key.now self.new.lists.ready (λ index. At self.new.lists.ready index (λ e. S.ready e.1))) }
+        ensures sound { Sound S.sound self.new.lists }
         ensures kept { Keeps cx.old cx.new }
+        ensures touches { self.new.touches ≤ self.old.touches + 2 }
     {
         match self.ready.get_index_of(key) {
             Some(index) => self.check_ready_index(cx, index),
@@ -266,12 +271,13 @@ impl<K: Eq + Hash + Clone + Drop, S: Service<Req>, Req> ReadyCache<K, S, Req> {
         cx: &mut Context<'_>,
         index: usize,
     ) -> Result<bool, Failed<K, S::Error>>
-        requires { Sound S.sound self.old }
-        ensures checked { Checked K.eq S.Service self.old index result self.new }
-        ensures ready { IfOk result (λ is_ready. is_ready ≡ true → At self.new.ready index (λ e. S.ready e.1)) }
-        ensures sound { Sound S.sound self.new }
-        ensures armed { IfOk result (λ is_ready. is_ready ≡ false → index < length self.old.ready → IsArmed cx.new) }
+        requires { Sound S.sound self.old.lists }
+        ensures checked { Checked K.eq S.Service self.old.lists index result self.new.lists }
+        ensures ready { IfOk result (λ is_ready. is_ready ≡ true → At self.new.lists.ready index (λ e. S.ready e.1)) }
+        ensures sound { Sound S.sound self.new.lists }
+        ensures armed { IfOk result (λ is_ready. is_ready ≡ false → index < length self.old.lists.ready → IsArmed cx.new) }
         ensures kept { Keeps cx.old cx.new }
+        ensures touches { self.new.touches ≤ self.old.touches + 2 }
     {
         if index >= self.ready.len() {
             return Ok(false);
@@ -295,11 +301,12 @@ impl<K: Eq + Hash + Clone + Drop, S: Service<Req>, Req> ReadyCache<K, S, Req> {
     /// Calls the key's ready endpoint, which then becomes pending, unless a newer one of its key is, where it is dropped.
     /// `check_ready` answers whether the key has an endpoint that may be called.
     pub fn call_ready(&mut self, key: &K, request: Req) -> S::Future
-        requires sound { Sound S.sound self.old }
-        requires ready { AtKey K.eq key.now self.old.ready (λ index. At self.old.ready index (λ e. S.ready e.1)) }
-        ensures called { AtKey K.eq key.now self.old.ready (λ index. Called K.eq S.Service self.old index request result self.new) }
-        ensures sound { Sound S.sound self.new }
+        requires sound { Sound S.sound self.old.lists }
+        requires ready { AtKey K.eq key.now self.old.lists.ready (λ index. At self.old.lists.ready index (λ e. S.ready e.1)) }
+        ensures called { AtKey K.eq key.now self.old.lists.ready (λ index. Called K.eq S.Service self.old.lists index request result self.new.lists) }
+        ensures sound { Sound S.sound self.new.lists }
         ensures fresh { S.Future.can_poll result }
+        ensures touches { self.new.touches ≤ self.old.touches + 2 }
     {
         let index = self.ready.get_index_of(key).unwrap();
         self.call_ready_index(index, request)
@@ -308,11 +315,12 @@ impl<K: Eq + Hash + Clone + Drop, S: Service<Req>, Req> ReadyCache<K, S, Req> {
     /// Calls the ready endpoint at the index, which then becomes pending, unless a newer one of its key is, where it is
     /// dropped. The last one takes its place. `check_ready_index` answers whether an endpoint may be called.
     pub fn call_ready_index(&mut self, index: usize, request: Req) -> S::Future
-        requires sound { Sound S.sound self.old }
-        requires ready { At self.old.ready index (λ e. S.ready e.1) }
-        ensures called { Called K.eq S.Service self.old index request result self.new }
-        ensures sound { Sound S.sound self.new }
+        requires sound { Sound S.sound self.old.lists }
+        requires ready { At self.old.lists.ready index (λ e. S.ready e.1) }
+        ensures called { Called K.eq S.Service self.old.lists index request result self.new.lists }
+        ensures sound { Sound S.sound self.new.lists }
         ensures fresh { S.Future.can_poll result }
+        ensures touches { self.new.touches ≤ self.old.touches + 2 }
     {
         let (key, mut service) = self.ready.swap_remove_index(index).unwrap();
         let future = service.call(request);
@@ -328,8 +336,8 @@ impl<K: Eq + Hash + Clone + Drop, S: Service<Req>, Req> ReadyCache<K, S, Req> {
 
     /// The service of the key's ready endpoint, to be changed.
     pub fn get_ready_mut(&mut self, key: &K) -> Option<&mut S>
-        ensures* writes_back { sem 𝓛 (LendsReady K.row S.row Req.row K.Hash K.Clone self.entry (place K.eq key.now self.old.ready) result) }
-        ensures value { option_copied_mut result ≡ lookup (K.eq key.now) self.old.ready }
+        ensures* writes_back { sem 𝓛 (LendsReady K.row S.row Req.row K.Hash K.Clone self.entry (place K.eq key.now self.old.lists.ready) result) }
+        ensures value { option_copied_mut result ≡ lookup (K.eq key.now) self.old.lists.ready }
     {
         let index = self.ready.get_index_of(key)?;
         self.ready.get_index_mut(index)
@@ -338,7 +346,7 @@ impl<K: Eq + Hash + Clone + Drop, S: Service<Req>, Req> ReadyCache<K, S, Req> {
     /// The service of the ready endpoint at the index, to be changed.
     pub fn get_ready_index_mut(&mut self, index: usize) -> Option<&mut S>
         ensures* writes_back { sem 𝓛 (LendsReady K.row S.row Req.row K.Hash K.Clone self.entry (Some index) result) }
-        ensures value { option_copied_mut result ≡ option_map (λ e. e.1) (slice_get self.old.ready index) }
+        ensures value { option_copied_mut result ≡ option_map (λ e. e.1) (slice_get self.old.lists.ready index) }
     {
         self.ready.get_index_mut(index)
     }

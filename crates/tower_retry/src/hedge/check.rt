@@ -3,7 +3,7 @@ ghost use Rattle.std.specs.Prelude.{◌≡◌, ⊤, ℕ};
 ghost use Rattle.futures.specs.Poll.{OnPending, IfReady};
 ghost use Rattle.futures.specs.declared.future.made.pending.Pending.{Pending};
 ghost use Rattle.futures.specs.Task.{Covers, Keeps};
-ghost use Rattle.tower_base.specs.Gives.{MayGive};
+ghost use Rattle.tower_base.specs.Gives.{IsStep, MayGive};
 ghost use Rattle.tower_retry.specs.HedgeCheck.{CanPoll, CheckStepped, Needs};
 ghost use Rattle.tower_retry.specs.declared.hedge.check.CheckState.{CheckState};
 
@@ -51,21 +51,22 @@ impl<Request: Drop> Future for CheckFuture<Request> {
 
     ghost needs = { Needs ⟦<Pending<()> as Future>⟧.needs };
 
-    #[tactic(auto, using(tower_base::specs::GivesLemmas::gives_value, tower_base::specs::GivesLemmas::gives_same))]
+    #[tactic(auto, using(tower_base::specs::GivesLemmas::one_step))]
     fn poll(&mut self, cx: &mut Context<'_>) -> Poll<Self::Output>
         requires { CanPoll self.old }
-        ensures step { CheckStepped self.old result self.new }
-        ensures value { IfReady result (MayGive CheckStepped self.old) }
-        ensures again { OnPending result (CanPoll self.new) }
-        ensures same { OnPending result ((x : _) → MayGive CheckStepped self.new x → MayGive CheckStepped self.old x) }
-        ensures registered { OnPending result (Covers cx.new (Needs ⟦<Pending<()> as Future>⟧.needs self.new)) }
-        ensures kept { Keeps cx.old cx.new }
+        ensures { IsStep CheckStepped CanPoll (Needs ⟦<Pending<()> as Future>⟧.needs) self.old result self.new cx.old cx.new }
     {
         self.step(cx)
     }
 }
 
 impl<Request: Drop> Steps for CheckFuture<Request> {
+    type Output = Result<Request, Infallible>;
+
+    ghost can_poll = { CanPoll };
+
+    ghost needs = { Needs ⟦<Pending<()> as Future>⟧.needs };
+
     ghost stepped = { CheckStepped };
 
     fn step(&mut self, cx: &mut Context<'_>) -> Poll<Self::Output> {

@@ -66,7 +66,7 @@ where
 
     ghost polled = { λ old answer new. (answer ≡ Ready (Ok tt)) × (new ≡ old) };
 
-    ghost called = { Called P.Policy S.is_clone C.Clock };
+    ghost called = { Called P.Policy S.Clone C.Clock };
 
     ghost readies = { λ _ _ _. tt };
 

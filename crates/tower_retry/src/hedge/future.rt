@@ -3,7 +3,7 @@ ghost use Rattle.std.specs.Prelude.{◌≡◌};
 ghost use Rattle.futures.specs.Poll.{OnPending, IfReady};
 ghost use Rattle.futures.specs.Task.{Covers, Keeps};
 ghost use Rattle.tower_base.specs.Answers.{answered};
-ghost use Rattle.tower_base.specs.Gives.{MayGive};
+ghost use Rattle.tower_base.specs.Gives.{IsStep, MayGive};
 ghost use Rattle.tower_retry.specs.Hedge.{Stepped, flat};
 
 use crate::hedge::{Error, delay, select};
@@ -46,15 +46,10 @@ where
 
     ghost needs = { F.needs };
 
-    #[tactic(auto, using(tower_base::specs::GivesLemmas::gives_value, tower_base::specs::GivesLemmas::gives_same))]
+    #[tactic(auto, using(tower_base::specs::GivesLemmas::one_step))]
     fn poll(&mut self, cx: &mut Context<'_>) -> Poll<Self::Output>
         requires { F.can_poll self.old }
-        ensures step { Stepped F.Steps.own self.old result self.new }
-        ensures value { IfReady result (MayGive (Stepped F.Steps.own) self.old) }
-        ensures again { OnPending result (F.can_poll self.new) }
-        ensures same { OnPending result ((x : _) → MayGive (Stepped F.Steps.own) self.new x → MayGive (Stepped F.Steps.own) self.old x) }
-        ensures registered { OnPending result (Covers cx.new (F.needs self.new)) }
-        ensures kept { Keeps cx.old cx.new }
+        ensures { IsStep (Stepped F.Steps.own) F.can_poll F.needs self.old result self.new cx.old cx.new }
     {
         self.step(cx)
     }
@@ -64,6 +59,12 @@ impl<T, E, F> Steps for Future<F>
 where
     F: Steps<Output = Result<T, select::Error<E, delay::Error<filter::Error<E, Infallible>>>>>,
 {
+    type Output = Result<T, Error<E>>;
+
+    ghost can_poll = { F.can_poll };
+
+    ghost needs = { F.needs };
+
     ghost stepped = { Stepped F.Steps.own };
 
     fn step(&mut self, cx: &mut Context<'_>) -> Poll<Self::Output> {

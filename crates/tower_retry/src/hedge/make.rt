@@ -39,7 +39,7 @@ where
         mut clock: C,
     ) -> Result<Self, AllocError>
         requires { period ≢ 0 }
-        ensures { IfOk result (λ hedge. MadeAt S.is_clone P.is_clone ⟦<Guarded<HistoCore, R> as Latch<HistoCore>>⟧.gave C.Clock [] service policy min_data_points percentile clock hedge) }
+        ensures { IfOk result (λ hedge. MadeAt S.is_clone P.is_clone ⟦<Guarded<HistoCore, R> as Latch<HistoCore>>⟧.gave ⟦<Guarded<HistoCore, R> as Latch<HistoCore>>⟧.shares C.Clock [] service policy min_data_points percentile clock hedge) }
     {
         let core = HistoCore::new(alloc, period, clock.now());
         let latch = Guarded::new(rt, alloc, core)?;
@@ -60,7 +60,7 @@ where
         latencies_ms: &[u64],
     ) -> Result<Self, AllocError>
         requires { period ≢ 0 }
-        ensures { IfOk result (λ hedge. MadeAt S.is_clone P.is_clone ⟦<Guarded<HistoCore, R> as Latch<HistoCore>>⟧.gave C.Clock latencies_ms.now service policy min_data_points percentile clock hedge) }
+        ensures { IfOk result (λ hedge. MadeAt S.is_clone P.is_clone ⟦<Guarded<HistoCore, R> as Latch<HistoCore>>⟧.gave ⟦<Guarded<HistoCore, R> as Latch<HistoCore>>⟧.shares C.Clock latencies_ms.now service policy min_data_points percentile clock hedge) }
     {
         let core = HistoCore::new(alloc, period, clock.now());
         let latch = Guarded::new(rt, alloc, core)?;
@@ -92,7 +92,7 @@ where
         percentile: Fraction,
         clock: C,
     ) -> Result<Self, AllocError>
-        ensures { IfOk result (λ hedge. MadeFrom S.is_clone P.is_clone L.gave C.Clock [] latch service policy min_data_points percentile clock hedge) }
+        ensures { IfOk result (λ hedge. MadeFrom S.is_clone P.is_clone L.gave L.shares C.Clock [] latch service policy min_data_points percentile clock hedge) }
     {
         let histogram = RotatingHistogram::with_latch(latch, clock.share());
         Hedge::with_histogram(
@@ -115,7 +115,7 @@ where
         clock: C,
         latencies_ms: &[u64],
     ) -> Result<Self, AllocError>
-        ensures { IfOk result (λ hedge. MadeFrom S.is_clone P.is_clone L.gave C.Clock latencies_ms.now latch service policy min_data_points percentile clock hedge) }
+        ensures { IfOk result (λ hedge. MadeFrom S.is_clone P.is_clone L.gave L.shares C.Clock latencies_ms.now latch service policy min_data_points percentile clock hedge) }
     {
         let mut histogram = RotatingHistogram::with_latch(latch, clock.share());
         histogram.seed_all(latencies_ms);
@@ -137,7 +137,7 @@ where
         percentile: Fraction,
         clock: C,
     ) -> Result<Self, AllocError>
-        ensures { IfOk result (λ hedge. Made S.is_clone P.is_clone L.gave C.Clock histogram service policy min_data_points percentile clock hedge) }
+        ensures { IfOk result (λ hedge. Made S.is_clone P.is_clone L.gave L.shares C.Clock histogram service policy min_data_points percentile clock hedge) }
     {
         let first = Latency::new(histogram.clone()?, service.clone()?, clock.share());
         let second = Latency::new(histogram.clone()?, service, clock.share());

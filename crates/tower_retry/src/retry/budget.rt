@@ -6,7 +6,6 @@ mod laws;
 mod slots;
 mod steps;
 pub mod tps_budget;
-mod writes;
 
 pub use budget_core::BudgetCore;
 pub use laws::law;

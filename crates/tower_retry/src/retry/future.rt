@@ -3,7 +3,7 @@ ghost use Rattle.std.specs.Prelude.{◌≡◌, Some, None, Option, IfSome, IsSom
 ghost use Rattle.futures.specs.Poll.{IfReady, OnPending};
 ghost use Rattle.futures.specs.Task.{Covers, Keeps};
 ghost use Rattle.futures.specs.declared.task.Poll.TheVariants.{Pending, Ready};
-ghost use Rattle.tower_base.specs.Gives.{MayGive};
+ghost use Rattle.tower_base.specs.Gives.{IsStep, MayGive};
 ghost use Rattle.tower_base.specs.Passes.{Passes};
 ghost use Rattle.tower_base.specs.Answers.{answered};
 ghost use Rattle.tower_retry.specs.Retry.{AfterResult, Again, Needs, NeedsAt, Pass, ResponseFutureView, Sound, Stepped, Unanswered};
@@ -14,12 +14,12 @@ use crate::retry::{Error, Policy};
 use futures::future::Future;
 use futures::task::{Context, Poll};
 use std::marker::Model;
-use tower_base::passes::PASSES;
+use tower_base::passes::TURNS;
 use tower_base::service::{Service, Steps};
 
 /// A response, after as many calls as the policy asks for.
 ///
-/// An answer to the policy, the end of a wait and a call are one pass each. A poll makes `PASSES` of them at most.
+/// An answer to the policy, the end of a wait and a call are one pass each. A poll makes `TURNS` of them at most.
 #[derive(Drop)]
 pub struct ResponseFuture<P, S, Request, F, W> {
     // None where there was no memory for a clone
@@ -62,16 +62,10 @@ where
 
     ghost needs = { Needs S.Future.needs P.Future.needs };
 
-    #[tactic(auto, using(tower_base::specs::GivesLemmas::gives_value, tower_base::specs::GivesLemmas::gives_same))]
+    #[tactic(auto, using(tower_base::specs::GivesLemmas::one_step))]
     fn poll(&mut self, cx: &mut Context<'_>) -> Poll<Self::Output>
         requires { IfSome self.old (Sound P.sound S.sound S.Future.can_poll P.Future.can_poll) }
-        ensures step { Stepped S.Service S.Future.stepped P.Policy P.Future.stepped self.old result self.new }
-        ensures value { IfReady result (MayGive (Stepped S.Service S.Future.stepped P.Policy P.Future.stepped) self.old) }
-        ensures again { OnPending result (IfSome self.new (Sound P.sound S.sound S.Future.can_poll P.Future.can_poll)) }
-        ensures same { OnPending result ((output : _) → MayGive (Stepped S.Service S.Future.stepped P.Policy P.Future.stepped) self.new output
-            → MayGive (Stepped S.Service S.Future.stepped P.Policy P.Future.stepped) self.old output) }
-        ensures registered { OnPending result (Covers cx.new (Needs S.Future.needs P.Future.needs self.new)) }
-        ensures kept { Keeps cx.old cx.new }
+        ensures { IsStep (Stepped S.Service S.Future.stepped P.Policy P.Future.stepped) (λ v. IfSome v (Sound P.sound S.sound S.Future.can_poll P.Future.can_poll)) (Needs S.Future.needs P.Future.needs) self.old result self.new cx.old cx.new }
     {
         self.step(cx)
     }
@@ -83,6 +77,12 @@ where
     S: Service<Request>,
     Request: Drop,
 {
+    type Output = Result<S::Response, Error<S::Error>>;
+
+    ghost can_poll = { λ future. IfSome future (Sound P.sound S.sound S.Future.can_poll P.Future.can_poll) };
+
+    ghost needs = { Needs S.Future.needs P.Future.needs };
+
     ghost stepped = { Stepped S.Service S.Future.stepped P.Policy P.Future.stepped };
 
     fn step(&mut self, cx: &mut Context<'_>) -> Poll<Self::Output> {
@@ -107,7 +107,7 @@ where
     ensures registered { OnPending result (Covers cx.new (NeedsAt S.Future.needs P.Future.needs attempts.new.state)) }
     ensures kept { Keeps cx.old cx.new }
 {
-    for _pass in 0..PASSES {
+    for _pass in 0..TURNS {
         if let Some(answer) = pass(attempts, cx) {
             return answer;
         }

@@ -11,5 +11,5 @@ pub fn law<P, S, Request>()
 where
     P: Policy<Request, S::Response, S::Error> + Clone,
     S: Service<Request> + Clone,
-    ensures attempts { GivesAnswers S.Service S.Future.stepped P.Policy P.Future.stepped P.is_clone S.is_clone }
+    ensures attempts { GivesAnswers S.Service S.Future.stepped P.Policy P.Future.stepped P.Clone S.Clone }
 {}

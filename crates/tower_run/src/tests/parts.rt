@@ -4,8 +4,10 @@ use std::alloc::AllocGlobal;
 use std::io;
 use std::io::{ErrorKind, Read, Write};
 use std::process::Abort;
+use std::random::RandomSource;
 use std::sync::Wait;
 use std::test::Fail;
+use std::thread::Threads;
 
 // A reader that gives at most so many bytes a call, and fails at a call.
 #[derive(Drop)]
@@ -146,7 +148,7 @@ pub fn words(rt: &impl AllocGlobal, words: &[&str]) -> Result<Vec<String>, Fail>
 
 // A run with these words and this script has this status, output and fault.
 pub fn check(
-    rt: &(impl Abort + Wait + AllocGlobal),
+    rt: &(impl Abort + Threads + Wait + RandomSource + AllocGlobal + Copy + Send + Drop + 'static),
     named: &[&str],
     reader: Feed<'_>,
     status: u8,
@@ -162,7 +164,7 @@ pub fn check(
 }
 
 pub fn check_printed(
-    rt: &(impl Abort + Wait + AllocGlobal),
+    rt: &(impl Abort + Threads + Wait + RandomSource + AllocGlobal + Copy + Send + Drop + 'static),
     script: &[u8],
     out: &[u8],
 ) -> Result<(), Fail> {
@@ -171,7 +173,7 @@ pub fn check_printed(
 
 // Each line of the script prints the one beside it.
 pub fn check_lines(
-    rt: &(impl Abort + Wait + AllocGlobal),
+    rt: &(impl Abort + Threads + Wait + RandomSource + AllocGlobal + Copy + Send + Drop + 'static),
     stack: &str,
     lines: &[(&str, &str)],
     last: &str,
@@ -194,7 +196,7 @@ pub fn check_lines(
 
 // The script's first bad line is this one.
 pub fn check_bad(
-    rt: &(impl Abort + Wait + AllocGlobal),
+    rt: &(impl Abort + Threads + Wait + RandomSource + AllocGlobal + Copy + Send + Drop + 'static),
     script: &[u8],
     line: usize,
 ) -> Result<(), Fail> {

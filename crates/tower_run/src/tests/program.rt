@@ -8,13 +8,20 @@ use std::test::Fail;
 #[test]
 fn wrong_arguments_are_found_before_any_read(rt: HostRuntime) -> Result<(), Fail> {
     let usage = b"usage: tower-run STACK | tower-run storm T N M\n";
-    let wrong: [&[&str]; 7] = [
+    let wrong: [&[&str]; 14] = [
         &[],
         &[""],
         &["Timeout"],
         &["timeout", "timeout"],
         &["storm"],
-        &["storm", "4", "1000", "2"],
+        &["storm", "65", "1", "1"],
+        &["storm", "0", "1", "1"],
+        &["storm", "1", "1", "0"],
+        &["storm", "1", "1", "1000001"],
+        &["storm", "1", "1"],
+        &["storm", "1", "1", "1", "1"],
+        &["storm", "01", "1", "1"],
+        &["storm", "1", "1000001", "1"],
         &["buffer"],
     ];
     for named in wrong {
@@ -138,6 +145,7 @@ fn a_failed_write_of_the_fault_changes_no_status(rt: HostRuntime) -> Result<(), 
         (Fault::Usage, 2),
         (Fault::CannotRead, 3),
         (Fault::CannotWrite, 3),
+        (Fault::CannotStart, 3),
     ] {
         assert_eq!(rt; report(fault, Page::failing(&rt, 4096, 0)), status);
     }

@@ -6,8 +6,10 @@ use std::alloc::{AllocError, AllocGlobal};
 use std::io;
 use std::io::Write;
 use std::process::Abort;
+use std::random::RandomSource;
 use std::sync::Wait;
 use std::test::Fail;
+use std::thread::Threads;
 
 // A writer without memory, which is to be given this text.
 #[derive(Drop)]
@@ -78,7 +80,7 @@ const ALL: Run = (
 
 // Whether the run was refused: it prints the whole text, or nothing.
 fn is_refused(
-    rt: &(impl Abort + Wait + AllocGlobal),
+    rt: &(impl Abort + Threads + Wait + RandomSource + AllocGlobal + Copy + Send + Drop + 'static),
     words: &[String],
     (_, script, text): Run,
 ) -> bool {
@@ -100,7 +102,10 @@ fn is_refused(
     true
 }
 
-fn check_refused(rt: &(impl Abort + Wait + AllocGlobal), run: Run) -> Result<(), Fail> {
+fn check_refused(
+    rt: &(impl Abort + Threads + Wait + RandomSource + AllocGlobal + Copy + Send + Drop + 'static),
+    run: Run,
+) -> Result<(), Fail> {
     let word = match String::from_str(rt.alloc(), run.0) {
         Ok(word) => word,
         Err(AllocError) => String::from_str(rt.alloc(), run.0)?,
@@ -112,7 +117,10 @@ fn check_refused(rt: &(impl Abort + Wait + AllocGlobal), run: Run) -> Result<(),
     Ok(())
 }
 
-fn check_ample(rt: &(impl Abort + Wait + AllocGlobal), run: Run) -> Result<(), Fail> {
+fn check_ample(
+    rt: &(impl Abort + Threads + Wait + RandomSource + AllocGlobal + Copy + Send + Drop + 'static),
+    run: Run,
+) -> Result<(), Fail> {
     let words = [String::from_str(rt.alloc(), run.0)?];
     assert!(rt; !is_refused(rt, &words, run));
     Ok(())

@@ -3,7 +3,9 @@ use crate::script::parse;
 use crate::scripted::{Scripted, Stage};
 use crate::stacks::layered;
 use crate::tests::parts::{check_lines, check_printed};
+use std::alloc::AllocGlobal;
 use std::cell::Cell;
+use std::sync::Wait;
 use std::test::Fail;
 use tower::service::Clock;
 
@@ -90,7 +92,7 @@ fn the_clock_of_the_rate_goes_back(rt: HostRuntime) -> Result<(), Fail> {
 }
 
 #[test]
-fn a_third_call_waits_for_the_next_window(rt: HostRuntime) -> Result<(), Fail> {
+fn a_third_call_waits_until_the_first_is_ten_nanoseconds_ago(rt: HostRuntime) -> Result<(), Fail> {
     check_lines(
         &rt,
         "rate",
@@ -219,9 +221,9 @@ fn all_four_let_two_calls_through_in_ten_nanoseconds(rt: HostRuntime) -> Result<
     )
 }
 
-// While a call is in flight the rate isn't asked, so that its next window begins at 15 and not at 10.
+// The calls at 15 are ten nanoseconds ago at 25.
 #[test]
-fn all_four_ask_for_a_permit_before_the_rate(rt: HostRuntime) -> Result<(), Fail> {
+fn all_four_let_two_more_calls_through_later(rt: HostRuntime) -> Result<(), Fail> {
     check_lines(
         &rt,
         "all",
@@ -272,15 +274,29 @@ impl Clock for Counting<'_> {
     }
 }
 
-// The clock is read as the rate is made and at the call. With the refusal outside the time a refused call would read
-// nothing, and print the same.
-#[test]
-fn all_four_time_a_refused_call(rt: HostRuntime) -> Result<(), Fail> {
-    let (readings, stage) = (Cell::new(0), Stage::new(rt.alloc(), 1)?);
-    let commands = parse(rt.alloc(), b"allow 0\npoll\ncall a\n").map_err(|_| "no script")?;
+// How often all four read the clock in this script.
+fn readings(rt: impl Wait + AllocGlobal + Copy, script: &[u8]) -> Result<u64, Fail> {
+    let (readings, stage) = (Cell::new(0), Stage::new(rt.alloc(), 2)?);
+    let commands = parse(rt.alloc(), script).map_err(|_| "no script")?;
     let (inner, clock) = (Scripted::new(&stage), Counting(&readings, 0));
     layered(rt, rt.alloc(), &stage, inner, clock, commands)?;
-    assert_eq!(rt; readings.get(), 2);
+    Ok(readings.get())
+}
+
+// The time reads at the call. With the refusal outside the time a refused call would read nothing, and print the same.
+#[test]
+fn all_four_time_a_refused_call(rt: HostRuntime) -> Result<(), Fail> {
+    assert_eq!(rt; readings(rt, b"allow 0\npoll\ncall a\n")?, 1);
+    Ok(())
+}
+
+// The time and the rate read at each call. With the rate outside the permits the last poll would read, and print the same.
+#[test]
+fn all_four_ask_for_a_permit_before_the_rate(rt: HostRuntime) -> Result<(), Fail> {
+    assert_eq!(rt;
+        readings(rt, b"poll\ncall a\ndrop 0\npoll\ncall b\npoll\n")?,
+        4
+    );
     Ok(())
 }
 

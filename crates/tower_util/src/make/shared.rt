@@ -1,9 +1,7 @@
 //! A maker that gives clones of one service.
 ghost use Rattle.std.specs.Prelude.{◌≡◌, Option, Some, None, IsSome, Ok, Result};
 ghost use Rattle.futures.specs.declared.task.Poll.TheVariants.{Ready};
-ghost use Rattle.futures.specs.Poll.{IfReady, OnPending};
-ghost use Rattle.futures.specs.Task.{Covers, Keeps};
-ghost use Rattle.tower_base.specs.Gives.{MayGive};
+ghost use Rattle.tower_base.specs.Gives.{IsStep, MayGive};
 ghost use Rattle.tower_util.specs.Shared.{Called, Stepped};
 ghost use Rattle.tower_util.specs.declared.make.shared.Error.{Error as SharedError};
 
@@ -92,21 +90,20 @@ impl<S: Drop> Future for SharedFuture<S> {
 
     ghost gives = { MayGive Stepped };
 
-    #[tactic(auto, using(tower_base::specs::GivesLemmas::gives_value, tower_base::specs::GivesLemmas::gives_same))]
+    #[tactic(auto, using(tower_base::specs::GivesLemmas::one_step))]
     fn poll(&mut self, cx: &mut Context<'_>) -> Poll<Result<S, Error>>
         requires { ⟦<SharedFuture<S> as Future>⟧.can_poll self.old }
-        ensures step { Stepped self.old result self.new }
-        ensures value { IfReady result (⟦<SharedFuture<S> as Future>⟧.gives self.old) }
-        ensures again { OnPending result (⟦<SharedFuture<S> as Future>⟧.can_poll self.new) }
-        ensures same { OnPending result ((x : _) → ⟦<SharedFuture<S> as Future>⟧.gives self.new x → ⟦<SharedFuture<S> as Future>⟧.gives self.old x) }
-        ensures registered { OnPending result (Covers cx.new (⟦<SharedFuture<S> as Future>⟧.needs self.new)) }
-        ensures kept { Keeps cx.old cx.new }
+        ensures { IsStep Stepped ⟦<SharedFuture<S> as Future>⟧.can_poll ⟦<SharedFuture<S> as Future>⟧.needs self.old result self.new cx.old cx.new }
     {
         self.step(cx)
     }
 }
 
 impl<S: Drop> Steps for SharedFuture<S> {
+    type Output = Result<S, Error>;
+
+    ghost can_poll = { λ t. IsSome t };
+
     ghost stepped = { Stepped };
 
     fn step(&mut self, _cx: &mut Context<'_>) -> Poll<Result<S, Error>> {

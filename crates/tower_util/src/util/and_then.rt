@@ -1,13 +1,11 @@
 //! A second future for each response.
 ghost use Rattle.std.specs.Prelude.{◌≡◌};
-ghost use Rattle.futures.specs.Poll.{IfReady, OnPending};
-ghost use Rattle.futures.specs.Task.{Covers, Keeps};
-ghost use Rattle.tower_base.specs.Gives.{MayGive};
+ghost use Rattle.tower_base.specs.Gives.{IsStep, MayGive};
 ghost use Rattle.tower_util.specs.Chain.{Called, AndThenStepped};
 ghost use Rattle.tower_util.specs.Maps.{MapView, MapLayerView, Polled};
 ghost use Rattle.tower_util.specs.MapsReady.{polled_ready};
 ghost use Rattle.tower_util.specs.declared.util.chain.Chain.{Chain as Stages};
-ghost use Rattle.tower_util.specs.declared.util.chain.Chain.TheVariants.{First, Second};
+ghost use Rattle.tower_util.specs.declared.util.chain.Chain.TheVariants.{First, Second, Done};
 
 use crate::util::chain::Chain;
 use futures::future::Future;
@@ -110,21 +108,17 @@ where
     ghost can_poll = { elim [
       | First inner f ↦ F1.can_poll inner × N.IsAlwaysCallable f × ((x : A) (second : F2) → N.post f x second → F2.can_poll second)
       | Second inner ↦ F2.can_poll inner
+      | Done ↦ ⊥
     ] };
 
     ghost gives = { MayGive (AndThenStepped F1.stepped N.post F2.stepped U.from_gives) };
 
-    ghost needs = { elim [ First inner f ↦ F1.needs inner | Second inner ↦ F2.needs inner ] };
+    ghost needs = { elim [ First inner f ↦ F1.needs inner | Second inner ↦ F2.needs inner | Done ↦ λ _. ⊥ ] };
 
-    #[tactic(auto, using(tower_base::specs::GivesLemmas::gives_value, tower_base::specs::GivesLemmas::gives_same))]
+    #[tactic(auto, using(tower_base::specs::GivesLemmas::one_step))]
     fn poll(&mut self, cx: &mut Context<'_>) -> Poll<Result<T, U>>
         requires { ⟦<AndThenFuture<F1, F2, N> as Future>⟧.can_poll self.old }
-        ensures step { AndThenStepped F1.stepped N.post F2.stepped U.from_gives self.old result self.new }
-        ensures value { IfReady result (⟦<AndThenFuture<F1, F2, N> as Future>⟧.gives self.old) }
-        ensures again { OnPending result (⟦<AndThenFuture<F1, F2, N> as Future>⟧.can_poll self.new) }
-        ensures same { OnPending result ((x : _) → ⟦<AndThenFuture<F1, F2, N> as Future>⟧.gives self.new x → ⟦<AndThenFuture<F1, F2, N> as Future>⟧.gives self.old x) }
-        ensures registered { OnPending result (Covers cx.new (⟦<AndThenFuture<F1, F2, N> as Future>⟧.needs self.new)) }
-        ensures kept { Keeps cx.old cx.new }
+        ensures { IsStep (AndThenStepped F1.stepped N.post F2.stepped U.from_gives) ⟦<AndThenFuture<F1, F2, N> as Future>⟧.can_poll ⟦<AndThenFuture<F1, F2, N> as Future>⟧.needs self.old result self.new cx.old cx.new }
     {
         self.step(cx)
     }
@@ -137,11 +131,24 @@ where
     N: Fn(A) -> F2 + Copy,
     U: From<E>,
 {
+    type Output = Result<T, U>;
+
+    ghost can_poll = { elim [
+      | First inner f ↦ F1.can_poll inner × N.IsAlwaysCallable f × ((x : A) (second : F2) → N.post f x second → F2.can_poll second)
+      | Second inner ↦ F2.can_poll inner
+      | Done ↦ ⊥
+    ] };
+
+    ghost needs = { elim [ First inner f ↦ F1.needs inner | Second inner ↦ F2.needs inner | Done ↦ λ _. ⊥ ] };
+
     ghost stepped = { AndThenStepped F1.stepped N.post F2.stepped U.from_gives };
 
     fn step(&mut self, cx: &mut Context<'_>) -> Poll<Result<T, U>> {
         if let Chain::First(first, f) = &mut self.state {
-            match ready!(first.step(cx)) {
+            let result = ready!(first.step(cx));
+            let f = *f;
+            self.state = Chain::Done;
+            match result {
                 Ok(response) => self.state = Chain::Second(f(response)),
                 Err(error) => return Poll::Ready(Err(U::from(error))),
             }
@@ -149,7 +156,11 @@ where
         let Chain::Second(second) = &mut self.state else {
             unreachable!()
         };
-        second.step(cx)
+        let polled = second.step(cx);
+        if polled.is_ready() {
+            self.state = Chain::Done;
+        }
+        polled
     }
 }
 

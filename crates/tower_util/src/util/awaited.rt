@@ -1,8 +1,8 @@
 //! A service that a future gives: the Rust's `util/future_service.rs`, a name that the kit refuses beside the function's.
 ghost use Rattle.std.specs.Prelude.{◌≡◌, Ok, ⊤};
-ghost use Rattle.futures.specs.Poll.{IfReady, OnPending};
-ghost use Rattle.futures.specs.Task.{Covers, IsArmed, Keeps};
-ghost use Rattle.tower_base.specs.Gives.{MayGive};
+ghost use Rattle.futures.specs.Poll.{OnPending};
+ghost use Rattle.futures.specs.Task.{IsArmed, Keeps};
+ghost use Rattle.tower_base.specs.Gives.{IsStep, MayGive};
 ghost use Rattle.tower_base.specs.Answers.{answered};
 ghost use Rattle.tower_util.specs.FutureService.{Polled, Called, Stepped, IsThere};
 ghost use Rattle.tower_util.specs.FutureServiceReady.{polled_ready};
@@ -151,21 +151,22 @@ impl<N: Steps<Output = Result<A, E>>, A, E> Future for FutureServiceFuture<N> {
 
     ghost needs = { N.needs };
 
-    #[tactic(auto, using(tower_base::specs::GivesLemmas::gives_value, tower_base::specs::GivesLemmas::gives_same))]
+    #[tactic(auto, using(tower_base::specs::GivesLemmas::one_step))]
     fn poll(&mut self, cx: &mut Context<'_>) -> Poll<Result<A, Error<E>>>
         requires { ⟦<FutureServiceFuture<N> as Future>⟧.can_poll self.old }
-        ensures step { Stepped N.stepped self.old result self.new }
-        ensures value { IfReady result (⟦<FutureServiceFuture<N> as Future>⟧.gives self.old) }
-        ensures again { OnPending result (⟦<FutureServiceFuture<N> as Future>⟧.can_poll self.new) }
-        ensures same { OnPending result ((x : _) → ⟦<FutureServiceFuture<N> as Future>⟧.gives self.new x → ⟦<FutureServiceFuture<N> as Future>⟧.gives self.old x) }
-        ensures registered { OnPending result (Covers cx.new (⟦<FutureServiceFuture<N> as Future>⟧.needs self.new)) }
-        ensures kept { Keeps cx.old cx.new }
+        ensures { IsStep (Stepped N.stepped) ⟦<FutureServiceFuture<N> as Future>⟧.can_poll ⟦<FutureServiceFuture<N> as Future>⟧.needs self.old result self.new cx.old cx.new }
     {
         self.step(cx)
     }
 }
 
 impl<N: Steps<Output = Result<A, E>>, A, E> Steps for FutureServiceFuture<N> {
+    type Output = Result<A, Error<E>>;
+
+    ghost can_poll = { N.can_poll };
+
+    ghost needs = { N.needs };
+
     ghost stepped = { Stepped N.stepped };
 
     fn step(&mut self, cx: &mut Context<'_>) -> Poll<Result<A, Error<E>>> {

@@ -1,8 +1,9 @@
 //! Two futures, one after the other.
 
-/// A future and a closure, and then the future that the closure gave.
+/// A future and a closure, then the future that the closure gave, and nothing once there is an answer.
 #[derive(Drop)]
 pub enum Chain<F1, F2, N> {
     First(F1, N),
     Second(F2),
+    Done,
 }

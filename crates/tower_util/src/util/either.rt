@@ -1,9 +1,7 @@
 //! One of two services, layers or futures.
 ghost use Rattle.std.specs.Prelude.{◌≡◌};
 ghost use Rattle.std.proofs.Common.{rules};
-ghost use Rattle.futures.specs.Poll.{IfReady, OnPending};
-ghost use Rattle.futures.specs.Task.{Covers, Keeps};
-ghost use Rattle.tower_base.specs.Gives.{MayGive};
+ghost use Rattle.tower_base.specs.Gives.{IsStep, MayGive};
 ghost use Rattle.tower_util.specs.Either.{Stepped};
 ghost use Rattle.tower_util.specs.declared.util.either.Either.TheVariants.{Left, Right};
 ghost use Rattle.tower_util.specs.declared.util.either.EitherResponseFuture.TheVariants.{First, Second};
@@ -113,21 +111,22 @@ impl<A: Steps, B: Steps<Output = A::Output>> Future for EitherResponseFuture<A, 
 
     ghost needs = { elim [ First a ↦ A.needs a | Second b ↦ B.needs b ] };
 
-    #[tactic(auto, using(tower_base::specs::GivesLemmas::gives_value, tower_base::specs::GivesLemmas::gives_same))]
+    #[tactic(auto, using(tower_base::specs::GivesLemmas::one_step))]
     fn poll(&mut self, cx: &mut Context<'_>) -> Poll<A::Output>
         requires { ⟦<EitherResponseFuture<A, B> as Future>⟧.can_poll self.old }
-        ensures step { Stepped A.stepped B.stepped self.old result self.new }
-        ensures value { IfReady result (⟦<EitherResponseFuture<A, B> as Future>⟧.gives self.old) }
-        ensures again { OnPending result (⟦<EitherResponseFuture<A, B> as Future>⟧.can_poll self.new) }
-        ensures same { OnPending result ((x : _) → ⟦<EitherResponseFuture<A, B> as Future>⟧.gives self.new x → ⟦<EitherResponseFuture<A, B> as Future>⟧.gives self.old x) }
-        ensures registered { OnPending result (Covers cx.new (⟦<EitherResponseFuture<A, B> as Future>⟧.needs self.new)) }
-        ensures kept { Keeps cx.old cx.new }
+        ensures { IsStep (Stepped A.stepped B.stepped) ⟦<EitherResponseFuture<A, B> as Future>⟧.can_poll ⟦<EitherResponseFuture<A, B> as Future>⟧.needs self.old result self.new cx.old cx.new }
     {
         self.step(cx)
     }
 }
 
 impl<A: Steps, B: Steps<Output = A::Output>> Steps for EitherResponseFuture<A, B> {
+    type Output = A::Output;
+
+    ghost can_poll = { elim [ First a ↦ A.can_poll a | Second b ↦ B.can_poll b ] };
+
+    ghost needs = { elim [ First a ↦ A.needs a | Second b ↦ B.needs b ] };
+
     ghost stepped = { Stepped A.stepped B.stepped };
 
     fn step(&mut self, cx: &mut Context<'_>) -> Poll<A::Output> {

@@ -1,11 +1,11 @@
 //! A closure over the errors, those of readiness too.
-ghost use Rattle.std.specs.Prelude.{◌≡◌};
-ghost use Rattle.futures.specs.Poll.{IfReady, OnPending};
-ghost use Rattle.futures.specs.Task.{Covers, Keeps};
-ghost use Rattle.tower_base.specs.Gives.{MayGive};
-ghost use Rattle.tower_util.specs.Maps.{MapView, MapLayerView, MapsErr, Polled, Called, Stepped};
+ghost use Rattle.std.specs.Prelude.{◌≡◌, Option};
+ghost use Rattle.tower_base.specs.Gives.{IsStep, MayGive};
+ghost use Rattle.tower_util.specs.Fuse.{CanPoll, needs_of};
+ghost use Rattle.tower_util.specs.Maps.{MapView, MapLayerView, Polled, Called, MapErrStepped};
 ghost use Rattle.tower_util.specs.MapsReady.{polled_ready};
 
+use crate::util::fuse::Fuse;
 use futures::future::Future;
 use futures::ready;
 use futures::task::{Context, Poll};
@@ -74,7 +74,7 @@ where
 
     fn call(&mut self, request: Request) -> MapErrFuture<S::Future, F> {
         MapErrFuture {
-            inner: self.inner.call(request),
+            inner: Fuse::new(self.inner.call(request)),
             f: self.f,
         }
     }
@@ -83,12 +83,12 @@ where
 /// The response of a `MapErr`: the Rust's `tower::util::future::MapErrFuture`.
 #[derive(Drop)]
 pub struct MapErrFuture<F, N> {
-    inner: F,
+    inner: Fuse<F>,
     f: N,
 }
 
 impl<F, N> Model for MapErrFuture<F, N> {
-    ghost Value = { MapView F N };
+    ghost Value = { MapView (Option F) N };
 
     ghost view = { λ t. record { inner = t.inner; f = t.f } };
 }
@@ -96,28 +96,29 @@ impl<F, N> Model for MapErrFuture<F, N> {
 impl<F: Steps<Output = Result<A, E>>, N: Fn(E) -> U + Copy, A, E, U> Future for MapErrFuture<F, N> {
     type Output = Result<A, U>;
 
-    ghost can_poll = { λ t. F.can_poll t.inner × N.IsAlwaysCallable t.f };
+    ghost can_poll = { λ t. CanPoll F.can_poll t.inner × N.IsAlwaysCallable t.f };
 
-    ghost gives = { MayGive (Stepped F.stepped (λ f. MapsErr (N.post f))) };
+    ghost gives = { MayGive (MapErrStepped F.stepped N.post) };
 
-    ghost needs = { λ t. F.needs t.inner };
+    ghost needs = { λ t. needs_of F.needs t.inner };
 
-    #[tactic(auto, using(tower_base::specs::GivesLemmas::gives_value, tower_base::specs::GivesLemmas::gives_same))]
+    #[tactic(auto, using(tower_base::specs::GivesLemmas::one_step))]
     fn poll(&mut self, cx: &mut Context<'_>) -> Poll<Result<A, U>>
         requires { ⟦<MapErrFuture<F, N> as Future>⟧.can_poll self.old }
-        ensures step { Stepped F.stepped (λ f. MapsErr (N.post f)) self.old result self.new }
-        ensures value { IfReady result (⟦<MapErrFuture<F, N> as Future>⟧.gives self.old) }
-        ensures again { OnPending result (⟦<MapErrFuture<F, N> as Future>⟧.can_poll self.new) }
-        ensures same { OnPending result ((x : _) → ⟦<MapErrFuture<F, N> as Future>⟧.gives self.new x → ⟦<MapErrFuture<F, N> as Future>⟧.gives self.old x) }
-        ensures registered { OnPending result (Covers cx.new (⟦<MapErrFuture<F, N> as Future>⟧.needs self.new)) }
-        ensures kept { Keeps cx.old cx.new }
+        ensures { IsStep (MapErrStepped F.stepped N.post) ⟦<MapErrFuture<F, N> as Future>⟧.can_poll ⟦<MapErrFuture<F, N> as Future>⟧.needs self.old result self.new cx.old cx.new }
     {
         self.step(cx)
     }
 }
 
 impl<F: Steps<Output = Result<A, E>>, N: Fn(E) -> U + Copy, A, E, U> Steps for MapErrFuture<F, N> {
-    ghost stepped = { Stepped F.stepped (λ f. MapsErr (N.post f)) };
+    type Output = Result<A, U>;
+
+    ghost can_poll = { λ t. CanPoll F.can_poll t.inner × N.IsAlwaysCallable t.f };
+
+    ghost needs = { λ t. needs_of F.needs t.inner };
+
+    ghost stepped = { MapErrStepped F.stepped N.post };
 
     fn step(&mut self, cx: &mut Context<'_>) -> Poll<Result<A, U>> {
         match ready!(self.inner.step(cx)) {

@@ -1,10 +1,10 @@
 //! A closure over the responses.
-ghost use Rattle.std.specs.Prelude.{◌≡◌};
-ghost use Rattle.futures.specs.Poll.{IfReady, OnPending};
-ghost use Rattle.futures.specs.Task.{Covers, Keeps};
-ghost use Rattle.tower_base.specs.Gives.{MayGive};
-ghost use Rattle.tower_util.specs.Maps.{MapView, MapLayerView, MapsResponse, Called, Stepped};
+ghost use Rattle.std.specs.Prelude.{◌≡◌, Option};
+ghost use Rattle.tower_base.specs.Gives.{IsStep, MayGive};
+ghost use Rattle.tower_util.specs.Fuse.{CanPoll, needs_of};
+ghost use Rattle.tower_util.specs.Maps.{MapView, MapLayerView, Called, MapResponseStepped};
 
+use crate::util::fuse::Fuse;
 use futures::future::Future;
 use futures::ready;
 use futures::task::{Context, Poll};
@@ -70,7 +70,7 @@ where
 
     fn call(&mut self, request: Request) -> MapResponseFuture<S::Future, F> {
         MapResponseFuture {
-            inner: self.inner.call(request),
+            inner: Fuse::new(self.inner.call(request)),
             f: self.f,
         }
     }
@@ -79,12 +79,12 @@ where
 /// The response of a `MapResponse`: the Rust's `tower::util::future::MapResponseFuture`.
 #[derive(Drop)]
 pub struct MapResponseFuture<F, N> {
-    inner: F,
+    inner: Fuse<F>,
     f: N,
 }
 
 impl<F, N> Model for MapResponseFuture<F, N> {
-    ghost Value = { MapView F N };
+    ghost Value = { MapView (Option F) N };
 
     ghost view = { λ t. record { inner = t.inner; f = t.f } };
 }
@@ -93,21 +93,16 @@ impl<F: Steps<Output = Result<A, E>>, N: Fn(A) -> B + Copy, A, B, E> Future
     for MapResponseFuture<F, N> {
     type Output = Result<B, E>;
 
-    ghost can_poll = { λ t. F.can_poll t.inner × N.IsAlwaysCallable t.f };
+    ghost can_poll = { λ t. CanPoll F.can_poll t.inner × N.IsAlwaysCallable t.f };
 
-    ghost gives = { MayGive (Stepped F.stepped (λ f. MapsResponse (N.post f))) };
+    ghost gives = { MayGive (MapResponseStepped F.stepped N.post) };
 
-    ghost needs = { λ t. F.needs t.inner };
+    ghost needs = { λ t. needs_of F.needs t.inner };
 
-    #[tactic(auto, using(tower_base::specs::GivesLemmas::gives_value, tower_base::specs::GivesLemmas::gives_same))]
+    #[tactic(auto, using(tower_base::specs::GivesLemmas::one_step))]
     fn poll(&mut self, cx: &mut Context<'_>) -> Poll<Result<B, E>>
         requires { ⟦<MapResponseFuture<F, N> as Future>⟧.can_poll self.old }
-        ensures step { Stepped F.stepped (λ f. MapsResponse (N.post f)) self.old result self.new }
-        ensures value { IfReady result (⟦<MapResponseFuture<F, N> as Future>⟧.gives self.old) }
-        ensures again { OnPending result (⟦<MapResponseFuture<F, N> as Future>⟧.can_poll self.new) }
-        ensures same { OnPending result ((x : _) → ⟦<MapResponseFuture<F, N> as Future>⟧.gives self.new x → ⟦<MapResponseFuture<F, N> as Future>⟧.gives self.old x) }
-        ensures registered { OnPending result (Covers cx.new (⟦<MapResponseFuture<F, N> as Future>⟧.needs self.new)) }
-        ensures kept { Keeps cx.old cx.new }
+        ensures { IsStep (MapResponseStepped F.stepped N.post) ⟦<MapResponseFuture<F, N> as Future>⟧.can_poll ⟦<MapResponseFuture<F, N> as Future>⟧.needs self.old result self.new cx.old cx.new }
     {
         self.step(cx)
     }
@@ -115,7 +110,13 @@ impl<F: Steps<Output = Result<A, E>>, N: Fn(A) -> B + Copy, A, B, E> Future
 
 impl<F: Steps<Output = Result<A, E>>, N: Fn(A) -> B + Copy, A, B, E> Steps
     for MapResponseFuture<F, N> {
-    ghost stepped = { Stepped F.stepped (λ f. MapsResponse (N.post f)) };
+    type Output = Result<B, E>;
+
+    ghost can_poll = { λ t. CanPoll F.can_poll t.inner × N.IsAlwaysCallable t.f };
+
+    ghost needs = { λ t. needs_of F.needs t.inner };
+
+    ghost stepped = { MapResponseStepped F.stepped N.post };
 
     fn step(&mut self, cx: &mut Context<'_>) -> Poll<Result<B, E>> {
         match ready!(self.inner.step(cx)) {

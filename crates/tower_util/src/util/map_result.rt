@@ -1,11 +1,11 @@
 //! A closure over the whole results.
-ghost use Rattle.std.specs.Prelude.{◌≡◌};
-ghost use Rattle.futures.specs.Poll.{IfReady, OnPending};
-ghost use Rattle.futures.specs.Task.{Covers, Keeps};
-ghost use Rattle.tower_base.specs.Gives.{MayGive};
-ghost use Rattle.tower_util.specs.Maps.{MapView, MapLayerView, MapsResult, Polled, Called, Stepped};
+ghost use Rattle.std.specs.Prelude.{◌≡◌, Option};
+ghost use Rattle.tower_base.specs.Gives.{IsStep, MayGive};
+ghost use Rattle.tower_util.specs.Fuse.{CanPoll, needs_of};
+ghost use Rattle.tower_util.specs.Maps.{MapView, MapLayerView, Polled, Called, MapResultStepped};
 ghost use Rattle.tower_util.specs.MapsReady.{polled_ready};
 
+use crate::util::fuse::Fuse;
 use futures::future::Future;
 use futures::ready;
 use futures::task::{Context, Poll};
@@ -75,7 +75,7 @@ where
 
     fn call(&mut self, request: Request) -> MapResultFuture<S::Future, F> {
         MapResultFuture {
-            inner: self.inner.call(request),
+            inner: Fuse::new(self.inner.call(request)),
             f: self.f,
         }
     }
@@ -84,12 +84,12 @@ where
 /// The response of a `MapResult`: the Rust's `tower::util::future::MapResultFuture`.
 #[derive(Drop)]
 pub struct MapResultFuture<F, N> {
-    inner: F,
+    inner: Fuse<F>,
     f: N,
 }
 
 impl<F, N> Model for MapResultFuture<F, N> {
-    ghost Value = { MapView F N };
+    ghost Value = { MapView (Option F) N };
 
     ghost view = { λ t. record { inner = t.inner; f = t.f } };
 }
@@ -97,28 +97,29 @@ impl<F, N> Model for MapResultFuture<F, N> {
 impl<F: Steps<Output = A>, N: Fn(A) -> B + Copy, A, B> Future for MapResultFuture<F, N> {
     type Output = B;
 
-    ghost can_poll = { λ t. F.can_poll t.inner × N.IsAlwaysCallable t.f };
+    ghost can_poll = { λ t. CanPoll F.can_poll t.inner × N.IsAlwaysCallable t.f };
 
-    ghost gives = { MayGive (Stepped F.stepped (λ f. MapsResult (N.post f))) };
+    ghost gives = { MayGive (MapResultStepped F.stepped N.post) };
 
-    ghost needs = { λ t. F.needs t.inner };
+    ghost needs = { λ t. needs_of F.needs t.inner };
 
-    #[tactic(auto, using(tower_base::specs::GivesLemmas::gives_value, tower_base::specs::GivesLemmas::gives_same))]
+    #[tactic(auto, using(tower_base::specs::GivesLemmas::one_step))]
     fn poll(&mut self, cx: &mut Context<'_>) -> Poll<B>
         requires { ⟦<MapResultFuture<F, N> as Future>⟧.can_poll self.old }
-        ensures step { Stepped F.stepped (λ f. MapsResult (N.post f)) self.old result self.new }
-        ensures value { IfReady result (⟦<MapResultFuture<F, N> as Future>⟧.gives self.old) }
-        ensures again { OnPending result (⟦<MapResultFuture<F, N> as Future>⟧.can_poll self.new) }
-        ensures same { OnPending result ((x : _) → ⟦<MapResultFuture<F, N> as Future>⟧.gives self.new x → ⟦<MapResultFuture<F, N> as Future>⟧.gives self.old x) }
-        ensures registered { OnPending result (Covers cx.new (⟦<MapResultFuture<F, N> as Future>⟧.needs self.new)) }
-        ensures kept { Keeps cx.old cx.new }
+        ensures { IsStep (MapResultStepped F.stepped N.post) ⟦<MapResultFuture<F, N> as Future>⟧.can_poll ⟦<MapResultFuture<F, N> as Future>⟧.needs self.old result self.new cx.old cx.new }
     {
         self.step(cx)
     }
 }
 
 impl<F: Steps<Output = A>, N: Fn(A) -> B + Copy, A, B> Steps for MapResultFuture<F, N> {
-    ghost stepped = { Stepped F.stepped (λ f. MapsResult (N.post f)) };
+    type Output = B;
+
+    ghost can_poll = { λ t. CanPoll F.can_poll t.inner × N.IsAlwaysCallable t.f };
+
+    ghost needs = { λ t. needs_of F.needs t.inner };
+
+    ghost stepped = { MapResultStepped F.stepped N.post };
 
     fn step(&mut self, cx: &mut Context<'_>) -> Poll<B> {
         let result = ready!(self.inner.step(cx));

@@ -1,8 +1,6 @@
 //! One call of a service, from its readiness to its response.
 ghost use Rattle.std.specs.Prelude.{◌≡◌};
-ghost use Rattle.futures.specs.Poll.{IfReady, OnPending};
-ghost use Rattle.futures.specs.Task.{Covers, Keeps};
-ghost use Rattle.tower_base.specs.Gives.{MayGive};
+ghost use Rattle.tower_base.specs.Gives.{IsStep, MayGive};
 ghost use Rattle.tower_util.specs.Oneshot.{Stepped};
 ghost use Rattle.tower_util.specs.declared.util.oneshot.State.TheVariants.{NotReady, InFlight, Done};
 
@@ -46,21 +44,22 @@ impl<S: Service<Request>, Request: Drop> Future for Oneshot<S, Request> {
 
     ghost needs = { λ o. elim o.state [ NotReady service request ↦ λ _. ⊥ | InFlight future ↦ S.Future.needs future | Done ↦ λ _. ⊥ ] };
 
-    #[tactic(auto, using(tower_base::specs::GivesLemmas::gives_value, tower_base::specs::GivesLemmas::gives_same))]
+    #[tactic(auto, using(tower_base::specs::GivesLemmas::one_step))]
     fn poll(&mut self, cx: &mut Context<'_>) -> Poll<Self::Output>
         requires { ⟦<Oneshot<S, Request> as Future>⟧.can_poll self.old }
-        ensures step { Stepped S.Service S.Future.stepped self.old.state result self.new.state }
-        ensures value { IfReady result (⟦<Oneshot<S, Request> as Future>⟧.gives self.old) }
-        ensures again { OnPending result (⟦<Oneshot<S, Request> as Future>⟧.can_poll self.new) }
-        ensures same { OnPending result ((x : _) → ⟦<Oneshot<S, Request> as Future>⟧.gives self.new x → ⟦<Oneshot<S, Request> as Future>⟧.gives self.old x) }
-        ensures registered { OnPending result (Covers cx.new (⟦<Oneshot<S, Request> as Future>⟧.needs self.new)) }
-        ensures kept { Keeps cx.old cx.new }
+        ensures { IsStep (λ old answer new. Stepped S.Service S.Future.stepped old.state answer new.state) ⟦<Oneshot<S, Request> as Future>⟧.can_poll ⟦<Oneshot<S, Request> as Future>⟧.needs self.old result self.new cx.old cx.new }
     {
         self.step(cx)
     }
 }
 
 impl<S: Service<Request>, Request: Drop> Steps for Oneshot<S, Request> {
+    type Output = Result<S::Response, S::Error>;
+
+    ghost can_poll = { λ o. elim o.state [ NotReady service request ↦ S.sound service | InFlight future ↦ S.Future.can_poll future | Done ↦ ⊥ ] };
+
+    ghost needs = { λ o. elim o.state [ NotReady service request ↦ λ _. ⊥ | InFlight future ↦ S.Future.needs future | Done ↦ λ _. ⊥ ] };
+
     ghost stepped = { λ old answer new. Stepped S.Service S.Future.stepped old.state answer new.state };
 
     fn step(&mut self, cx: &mut Context<'_>) -> Poll<Self::Output> {

@@ -3,7 +3,7 @@ ghost use Rattle.std.specs.Prelude.{◌≡◌, Option, Some, IsSomeAnd, Ok, Err}
 ghost use Rattle.futures.specs.Poll.{IfReady, OnPending};
 ghost use Rattle.futures.specs.Task.{Covers, Keeps};
 ghost use Rattle.tower_base.specs.Gives.{MayGive};
-ghost use Rattle.tower_util.specs.Ready.{ReadyStepped, ReadyOneshotStepped, GivesBack, HandsBack};
+ghost use Rattle.tower_util.specs.Ready.{ReadyStepped, ReadyOneshotStepped, HandsBack, IsReadyOneshotStep, MayGiveBack};
 
 use futures::future::Future;
 use futures::task::{Context, Poll};
@@ -41,22 +41,22 @@ impl<T: Service<Request>, Request: Drop> Future for ReadyOneshot<T, Request> {
     ghost can_poll = { λ r. IsSomeAnd r T.sound };
 
     // The service that it gives is sound and ready.
-    ghost gives = { λ r out. MayGive (ReadyOneshotStepped T.sound T.ready T.polled) r out × GivesBack T.sound T.ready out };
+    ghost gives = { MayGiveBack T.sound T.ready T.polled };
 
+    #[tactic(auto, using(crate::proofs::ReadyLemmas::gives_back_step))]
     fn poll(&mut self, cx: &mut Context<'_>) -> Poll<Result<T, T::Error>>
         requires { ⟦<ReadyOneshot<T, Request> as Future>⟧.can_poll self.old }
-        ensures step { ReadyOneshotStepped T.sound T.ready T.polled self.old result self.new }
-        ensures value { IfReady result (⟦<ReadyOneshot<T, Request> as Future>⟧.gives self.old) }
-        ensures again { OnPending result (⟦<ReadyOneshot<T, Request> as Future>⟧.can_poll self.new) }
-        ensures same { OnPending result ((x : _) → ⟦<ReadyOneshot<T, Request> as Future>⟧.gives self.new x → ⟦<ReadyOneshot<T, Request> as Future>⟧.gives self.old x) }
-        ensures registered { OnPending result (Covers cx.new (⟦<ReadyOneshot<T, Request> as Future>⟧.needs self.new)) }
-        ensures kept { Keeps cx.old cx.new }
+        ensures { IsReadyOneshotStep T.sound T.ready T.polled self.old result self.new cx.old cx.new }
     {
         self.step(cx)
     }
 }
 
 impl<T: Service<Request>, Request: Drop> Steps for ReadyOneshot<T, Request> {
+    type Output = Result<T, T::Error>;
+
+    ghost can_poll = { λ r. IsSomeAnd r T.sound };
+
     ghost stepped = { ReadyOneshotStepped T.sound T.ready T.polled };
 
     fn step(&mut self, cx: &mut Context<'_>) -> Poll<Result<T, T::Error>> {
@@ -120,6 +120,10 @@ impl<'a, T: Service<Request>, Request: Drop> Future for Ready<'a, T, Request> {
 }
 
 impl<'a, T: Service<Request>, Request: Drop> Steps for Ready<'a, T, Request> {
+    type Output = Result<&'a mut T, T::Error>;
+
+    ghost can_poll = { λ r. IsSomeAnd r.service (λ lent. T.sound lent.now) };
+
     ghost stepped = { λ old answer new. ReadyStepped T.sound T.ready T.polled old.service answer new.service };
 
     fn step(&mut self, cx: &mut Context<'_>) -> Poll<Result<&'a mut T, T::Error>> {

@@ -1,13 +1,11 @@
 //! A second future for each result.
 ghost use Rattle.std.specs.Prelude.{◌≡◌, Result};
-ghost use Rattle.futures.specs.Poll.{IfReady, OnPending};
-ghost use Rattle.futures.specs.Task.{Covers, Keeps};
-ghost use Rattle.tower_base.specs.Gives.{MayGive};
+ghost use Rattle.tower_base.specs.Gives.{IsStep, MayGive};
 ghost use Rattle.tower_util.specs.Chain.{Called, ThenStepped};
 ghost use Rattle.tower_util.specs.Maps.{MapView, MapLayerView, Polled};
 ghost use Rattle.tower_util.specs.MapsReady.{polled_ready};
 ghost use Rattle.tower_util.specs.declared.util.chain.Chain.{Chain as Stages};
-ghost use Rattle.tower_util.specs.declared.util.chain.Chain.TheVariants.{First, Second};
+ghost use Rattle.tower_util.specs.declared.util.chain.Chain.TheVariants.{First, Second, Done};
 
 use crate::util::chain::Chain;
 use futures::future::Future;
@@ -109,21 +107,17 @@ where
     ghost can_poll = { elim [
       | First inner f ↦ F1.can_poll inner × N.IsAlwaysCallable f × ((x : Result A E) (second : F2) → N.post f x second → F2.can_poll second)
       | Second inner ↦ F2.can_poll inner
+      | Done ↦ ⊥
     ] };
 
     ghost gives = { MayGive (ThenStepped F1.stepped N.post F2.stepped) };
 
-    ghost needs = { elim [ First inner f ↦ F1.needs inner | Second inner ↦ F2.needs inner ] };
+    ghost needs = { elim [ First inner f ↦ F1.needs inner | Second inner ↦ F2.needs inner | Done ↦ λ _. ⊥ ] };
 
-    #[tactic(auto, using(tower_base::specs::GivesLemmas::gives_value, tower_base::specs::GivesLemmas::gives_same))]
+    #[tactic(auto, using(tower_base::specs::GivesLemmas::one_step))]
     fn poll(&mut self, cx: &mut Context<'_>) -> Poll<Result<T, U>>
         requires { ⟦<ThenFuture<F1, F2, N> as Future>⟧.can_poll self.old }
-        ensures step { ThenStepped F1.stepped N.post F2.stepped self.old result self.new }
-        ensures value { IfReady result (⟦<ThenFuture<F1, F2, N> as Future>⟧.gives self.old) }
-        ensures again { OnPending result (⟦<ThenFuture<F1, F2, N> as Future>⟧.can_poll self.new) }
-        ensures same { OnPending result ((x : _) → ⟦<ThenFuture<F1, F2, N> as Future>⟧.gives self.new x → ⟦<ThenFuture<F1, F2, N> as Future>⟧.gives self.old x) }
-        ensures registered { OnPending result (Covers cx.new (⟦<ThenFuture<F1, F2, N> as Future>⟧.needs self.new)) }
-        ensures kept { Keeps cx.old cx.new }
+        ensures { IsStep (ThenStepped F1.stepped N.post F2.stepped) ⟦<ThenFuture<F1, F2, N> as Future>⟧.can_poll ⟦<ThenFuture<F1, F2, N> as Future>⟧.needs self.old result self.new cx.old cx.new }
     {
         self.step(cx)
     }
@@ -135,17 +129,33 @@ where
     F2: Steps<Output = Result<T, U>>,
     N: Fn(Result<A, E>) -> F2 + Copy,
 {
+    type Output = Result<T, U>;
+
+    ghost can_poll = { elim [
+      | First inner f ↦ F1.can_poll inner × N.IsAlwaysCallable f × ((x : Result A E) (second : F2) → N.post f x second → F2.can_poll second)
+      | Second inner ↦ F2.can_poll inner
+      | Done ↦ ⊥
+    ] };
+
+    ghost needs = { elim [ First inner f ↦ F1.needs inner | Second inner ↦ F2.needs inner | Done ↦ λ _. ⊥ ] };
+
     ghost stepped = { ThenStepped F1.stepped N.post F2.stepped };
 
     fn step(&mut self, cx: &mut Context<'_>) -> Poll<Result<T, U>> {
         if let Chain::First(first, f) = &mut self.state {
             let result = ready!(first.step(cx));
+            let f = *f;
+            self.state = Chain::Done;
             self.state = Chain::Second(f(result));
         }
         let Chain::Second(second) = &mut self.state else {
             unreachable!()
         };
-        second.step(cx)
+        let polled = second.step(cx);
+        if polled.is_ready() {
+            self.state = Chain::Done;
+        }
+        polled
     }
 }
 

@@ -1,20 +1,30 @@
 //! Waiting on the calling thread, for a borrowed service and for its responses. Own: the Rust waits by `.await`.
+//!
+//! The thread sleeps between two polls until a waker wakes it. A task that waits for a clock wakes itself:
+//! before it polls such a task again the thread sleeps 50 microseconds at first, twice as long each time, and
+//! 1 millisecond at most. So long another thread's wake may wait meanwhile.
 ghost use Rattle.std.specs.Prelude.{IfOk, OnOk};
-ghost use Rattle.tower_base.specs.Gives.{MayGive};
 ghost use Rattle.tower_util.specs.Waits.{Waited, Answered, Each};
 
+use futures::future::Future;
 use futures::task::{Doorbell, Poll, Queue};
 use std::alloc::AllocGlobal;
 use std::io;
 use std::random::RandomSource;
-use std::sync::Wait;
-use tower_base::service::{Service, Steps};
+use std::sync::{Condvar, Wait};
+use std::time::Duration;
+use tower_base::service::{Polled, Service};
+
+/// So many microseconds a thread sleeps at first, and at most.
+const FIRST: u64 = 50;
+
+const LONGEST: u64 = 1_000;
 
 /// Waits until a borrowed service is ready, or answers an error: the Rust's
 /// `service.ready().await`, which leaves the service known here after an error too.
 ///
-/// The thread sleeps between two polls, until a waker wakes it. The outer error says that the
-/// executor failed, and then the service may have been polled, but never to an answer.
+/// The outer error says that the executor failed, and then the service may have been polled, but never
+/// to an answer.
 pub fn block_on_ready<S, R, Request>(service: &mut S, rt: &R) -> io::Result<Result<(), S::Error>>
 where
     S: Service<Request>,
@@ -26,6 +36,7 @@ where
 {
     let queue = Queue::new(rt, Doorbell::parking())?;
     queue.add()?.schedule();
+    let mut nap = FIRST;
     for _ in rt.forever() {
         let Some(mut cx) = queue.next(rt) else {
             break;
@@ -35,6 +46,7 @@ where
         if let Poll::Ready(answer) = polled {
             return Ok(answer);
         }
+        nap = rest(rt, &queue, nap)?;
     }
     Err(shut_down())
 }
@@ -58,7 +70,7 @@ where
     ensures answered { IfOk result (λ answer. Answered S.Service S.Future.stepped service.old request answer service.new) }
 {
     match block_on_ready(service, rt)? {
-        Ok(()) => block_on_steps(service.call(request), rt),
+        Ok(()) => block_on(rt, Polled::new(service.call(request))),
         Err(error) => Ok(Err(error)),
     }
 }
@@ -88,27 +100,54 @@ where
     Ok(())
 }
 
-// Waits for the output of a future whose poll has a relation: `block_on`, which says by it what came.
-fn block_on_steps<F, R>(mut future: F, rt: &R) -> io::Result<F::Output>
+/// Polls a future on this thread until it answers: the `block_on` of `futures`, which polls all the while
+/// what waits for a clock.
+pub fn block_on<R, F>(rt: &R, mut future: F) -> io::Result<F::Output>
 where
-    F: Steps,
     R: Wait + RandomSource + AllocGlobal,
+    F: Future,
     requires { F.can_poll future }
-    ensures { IfOk result (MayGive F.stepped future) }
+    ensures { IfOk result (F.gives future) }
 {
     let queue = Queue::new(rt, Doorbell::parking())?;
     queue.add()?.schedule();
+    let mut nap = FIRST;
     for _ in rt.forever() {
         let Some(mut cx) = queue.next(rt) else {
             break;
         };
-        let polled = future.step(&mut cx);
+        let polled = future.poll(&mut cx);
         cx.end(&polled);
         if let Poll::Ready(output) = polled {
             return Ok(output);
         }
+        nap = rest(rt, &queue, nap)?;
     }
     Err(shut_down())
+}
+
+// After a pending poll of a queue's only task. If that is to be polled again already, as a task that wakes itself is, the
+// thread sleeps for so many microseconds. If it isn't, `Queue::next` waits for a waker. It returns how long to sleep next.
+fn rest<R: Wait>(rt: &R, queue: &Queue, nap: u64) -> io::Result<u64> {
+    // What was queued first runs first, so this mark comes first only if the task isn't queued.
+    let mark = queue.add()?;
+    let number = mark.task();
+    mark.schedule();
+    let Some(mut cx) = queue.next(rt) else {
+        return Ok(nap);
+    };
+    if cx.task() == number {
+        cx.cancel();
+        return Ok(FIRST);
+    }
+    let _: Poll<()> = cx.yield_now();
+    cx.park();
+    if let Some(mark) = queue.next(rt) {
+        mark.cancel();
+    }
+    let bell = Condvar::new();
+    bell.sleep(rt, bell.notifications(), Duration::from_micros(nap));
+    Ok(nap.saturating_mul(2).min(LONGEST))
 }
 
 fn shut_down() -> io::Error {

@@ -1,8 +1,6 @@
 //! The futures of the filters.
 ghost use Rattle.std.specs.Prelude.{◌≡◌, ⊤, Ok, Err};
-ghost use Rattle.futures.specs.Poll.{IfReady, OnPending};
-ghost use Rattle.futures.specs.Task.{Covers, Keeps};
-ghost use Rattle.tower_base.specs.Gives.{MayGive};
+ghost use Rattle.tower_base.specs.Gives.{IsStep, MayGive};
 ghost use Rattle.tower_ware.specs.Filter.{AsyncResponseFutureCanPoll, AsyncResponseFutureStepped, ResponseFutureCanPoll, ResponseFutureStepped, async_response_future_needs, response_future_needs};
 ghost use Rattle.tower_ware.specs.declared.filter.state.State.{State};
 ghost use Rattle.tower_ware.specs.declared.filter.state.State.TheVariants.{Response, Refusal, Answered};
@@ -18,7 +16,7 @@ use std::marker::Model;
 use std::mem;
 use tower_base::service::{Service, Steps};
 
-/// The response of a `Filter`, or the predicate's error.
+/// The response of a `Filter`, which is dropped as it answers, or the predicate's error.
 #[derive(Drop)]
 pub struct ResponseFuture<F, P> {
     state: State<F, P>,
@@ -47,26 +45,29 @@ impl<A, E, P: Drop, F: Steps<Output = Result<A, E>>> Future for ResponseFuture<F
 
     ghost needs = { response_future_needs F.needs };
 
-    #[tactic(auto, using(tower_base::specs::GivesLemmas::gives_value, tower_base::specs::GivesLemmas::gives_same))]
+    #[tactic(auto, using(tower_base::specs::GivesLemmas::one_step))]
     fn poll(&mut self, cx: &mut Context<'_>) -> Poll<Result<A, Error<E, P>>>
         requires { ResponseFutureCanPoll F.can_poll self.old }
-        ensures step { ResponseFutureStepped F.Steps.own self.old result self.new }
-        ensures value { IfReady result (MayGive (ResponseFutureStepped F.Steps.own) self.old) }
-        ensures again { OnPending result (ResponseFutureCanPoll F.can_poll self.new) }
-        ensures same { OnPending result ((x : _) → MayGive (ResponseFutureStepped F.Steps.own) self.new x → MayGive (ResponseFutureStepped F.Steps.own) self.old x) }
-        ensures registered { OnPending result (Covers cx.new (response_future_needs F.needs self.new)) }
-        ensures kept { Keeps cx.old cx.new }
+        ensures { IsStep (ResponseFutureStepped F.Steps.own) (ResponseFutureCanPoll F.can_poll) (response_future_needs F.needs) self.old result self.new cx.old cx.new }
     {
         self.step(cx)
     }
 }
 
 impl<A, E, P: Drop, F: Steps<Output = Result<A, E>>> Steps for ResponseFuture<F, P> {
+    type Output = Result<A, Error<E, P>>;
+
+    ghost can_poll = { ResponseFutureCanPoll F.can_poll };
+
+    ghost needs = { response_future_needs F.needs };
+
     ghost stepped = { ResponseFutureStepped F.Steps.own };
 
     fn step(&mut self, cx: &mut Context<'_>) -> Poll<Result<A, Error<E, P>>> {
         if let State::Response(response) = &mut self.state {
-            return match ready!(response.step(cx)) {
+            let result = ready!(response.step(cx));
+            self.state = State::Answered;
+            return match result {
                 Ok(value) => Poll::Ready(Ok(value)),
                 Err(error) => Poll::Ready(Err(Error::Inner(error))),
             };
@@ -115,15 +116,10 @@ where
 
     ghost needs = { async_response_future_needs C.needs F.needs };
 
-    #[tactic(auto, using(tower_base::specs::GivesLemmas::gives_value, tower_base::specs::GivesLemmas::gives_same))]
+    #[tactic(auto, using(tower_base::specs::GivesLemmas::one_step))]
     fn poll(&mut self, cx: &mut Context<'_>) -> Poll<Result<S::Response, Error<S::Error, P>>>
         requires { AsyncResponseFutureCanPoll S.Service C.can_poll F.can_poll self.old }
-        ensures step { AsyncResponseFutureStepped S.Service F.Steps.own C.Steps.own self.old result self.new }
-        ensures value { IfReady result (MayGive (AsyncResponseFutureStepped S.Service F.Steps.own C.Steps.own) self.old) }
-        ensures again { OnPending result (AsyncResponseFutureCanPoll S.Service C.can_poll F.can_poll self.new) }
-        ensures same { OnPending result ((x : _) → MayGive (AsyncResponseFutureStepped S.Service F.Steps.own C.Steps.own) self.new x → MayGive (AsyncResponseFutureStepped S.Service F.Steps.own C.Steps.own) self.old x) }
-        ensures registered { OnPending result (Covers cx.new (async_response_future_needs C.needs F.needs self.new)) }
-        ensures kept { Keeps cx.old cx.new }
+        ensures { IsStep (AsyncResponseFutureStepped S.Service F.Steps.own C.Steps.own) (AsyncResponseFutureCanPoll S.Service C.can_poll F.can_poll) (async_response_future_needs C.needs F.needs) self.old result self.new cx.old cx.new }
     {
         self.step(cx)
     }
@@ -136,6 +132,12 @@ where
     F: Steps<Output = Result<S::Response, S::Error>>,
     P: Drop,
 {
+    type Output = Result<S::Response, Error<S::Error, P>>;
+
+    ghost can_poll = { AsyncResponseFutureCanPoll S.Service C.can_poll F.can_poll };
+
+    ghost needs = { async_response_future_needs C.needs F.needs };
+
     ghost stepped = { AsyncResponseFutureStepped S.Service F.Steps.own C.Steps.own };
 
     fn step(&mut self, cx: &mut Context<'_>) -> Poll<Result<S::Response, Error<S::Error, P>>> {

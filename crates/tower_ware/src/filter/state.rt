@@ -1,6 +1,6 @@
 //! What the futures of the filters wait for.
 
-/// The response, or the refusal until it is answered.
+/// The response or the refusal, until it is answered.
 #[derive(Drop)]
 pub(crate) enum State<F, P> {
     Response(F),

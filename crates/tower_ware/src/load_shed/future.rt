@@ -1,8 +1,6 @@
 //! The future of `LoadShed`.
 ghost use Rattle.std.specs.Prelude.{◌≡◌, Option, Some, None, IfSome, IsSomeAnd};
-ghost use Rattle.futures.specs.Poll.{IfReady, OnPending};
-ghost use Rattle.futures.specs.Task.{Covers, Keeps};
-ghost use Rattle.tower_base.specs.Gives.{MayGive};
+ghost use Rattle.tower_base.specs.Gives.{IsStep, MayGive};
 ghost use Rattle.tower_ware.specs.LoadShed.{Stepped};
 
 use crate::load_shed::error::Error;
@@ -48,21 +46,22 @@ impl<T, E, F: Steps<Output = Result<T, E>>> Future for ResponseFuture<F> {
 
     ghost needs = { λ f source. IsSomeAnd f (λ response. F.needs response source) };
 
-    #[tactic(auto, using(tower_base::specs::GivesLemmas::gives_value, tower_base::specs::GivesLemmas::gives_same))]
+    #[tactic(auto, using(tower_base::specs::GivesLemmas::one_step))]
     fn poll(&mut self, cx: &mut Context<'_>) -> Poll<Result<T, Error<E>>>
         requires { IfSome self.old F.can_poll }
-        ensures step { Stepped F.Steps.own self.old result self.new }
-        ensures value { IfReady result (MayGive (Stepped F.Steps.own) self.old) }
-        ensures again { OnPending result (IfSome self.new F.can_poll) }
-        ensures same { OnPending result ((x : _) → MayGive (Stepped F.Steps.own) self.new x → MayGive (Stepped F.Steps.own) self.old x) }
-        ensures registered { OnPending result (Covers cx.new (λ source. IsSomeAnd self.new (λ response. F.needs response source))) }
-        ensures kept { Keeps cx.old cx.new }
+        ensures { IsStep (Stepped F.Steps.own) (λ f. IfSome f F.can_poll) (λ f source. IsSomeAnd f (λ response. F.needs response source)) self.old result self.new cx.old cx.new }
     {
         self.step(cx)
     }
 }
 
 impl<T, E, F: Steps<Output = Result<T, E>>> Steps for ResponseFuture<F> {
+    type Output = Result<T, Error<E>>;
+
+    ghost can_poll = { λ f. IfSome f F.can_poll };
+
+    ghost needs = { λ f source. IsSomeAnd f (λ response. F.needs response source) };
+
     ghost stepped = { Stepped F.Steps.own };
 
     fn step(&mut self, cx: &mut Context<'_>) -> Poll<Result<T, Error<E>>> {

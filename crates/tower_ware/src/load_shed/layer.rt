@@ -1,5 +1,6 @@
 //! The layer of `LoadShed`.
-ghost use Rattle.std.specs.Prelude.{◌≡◌, false};
+ghost use Rattle.std.specs.Prelude.{◌≡◌};
+ghost use Rattle.tower_ware.specs.LoadShed.{new_of};
 
 use crate::load_shed::LoadShed;
 use std::alloc::AllocError;
@@ -19,7 +20,7 @@ impl LoadShedLayer {
 impl<S> Layer<S> for LoadShedLayer {
     type Service = LoadShed<S>;
 
-    ghost made = { λ _ inner shed. shed ≡ record { inner = inner; is_ready = false } };
+    ghost made = { λ _ inner shed. shed ≡ new_of inner };
 
     fn layer(&self, service: S) -> Result<LoadShed<S>, AllocError> {
         Ok(LoadShed::new(service))

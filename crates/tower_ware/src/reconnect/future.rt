@@ -1,8 +1,6 @@
 //! The response of a `Reconnect`.
 ghost use Rattle.std.specs.Prelude.{◌≡◌, ⊤};
-ghost use Rattle.futures.specs.Poll.{IfReady, OnPending};
-ghost use Rattle.futures.specs.Task.{Covers, Keeps};
-ghost use Rattle.tower_base.specs.Gives.{MayGive};
+ghost use Rattle.tower_base.specs.Gives.{IsStep, MayGive};
 ghost use Rattle.tower_ware.specs.Reconnect.{CanPoll, Stepped, needs_of};
 ghost use Rattle.tower_ware.specs.declared.reconnect.state.Reply.{Reply};
 
@@ -43,21 +41,22 @@ impl<T, E, M: Drop, F: Steps<Output = Result<T, E>>> Future for ResponseFuture<F
 
     ghost needs = { needs_of F.needs };
 
-    #[tactic(auto, using(tower_base::specs::GivesLemmas::gives_value, tower_base::specs::GivesLemmas::gives_same))]
+    #[tactic(auto, using(tower_base::specs::GivesLemmas::one_step))]
     fn poll(&mut self, cx: &mut Context<'_>) -> Poll<Self::Output>
         requires { CanPoll F.can_poll self.old }
-        ensures step { Stepped F.Steps.own self.old result self.new }
-        ensures value { IfReady result (MayGive (Stepped F.Steps.own) self.old) }
-        ensures again { OnPending result (CanPoll F.can_poll self.new) }
-        ensures same { OnPending result ((x : _) → MayGive (Stepped F.Steps.own) self.new x → MayGive (Stepped F.Steps.own) self.old x) }
-        ensures registered { OnPending result (Covers cx.new (needs_of F.needs self.new)) }
-        ensures kept { Keeps cx.old cx.new }
+        ensures { IsStep (Stepped F.Steps.own) (CanPoll F.can_poll) (needs_of F.needs) self.old result self.new cx.old cx.new }
     {
         self.step(cx)
     }
 }
 
 impl<T, E, M: Drop, F: Steps<Output = Result<T, E>>> Steps for ResponseFuture<F, M> {
+    type Output = Result<T, Error<E, M>>;
+
+    ghost can_poll = { CanPoll F.can_poll };
+
+    ghost needs = { needs_of F.needs };
+
     ghost stepped = { Stepped F.Steps.own };
 
     fn step(&mut self, cx: &mut Context<'_>) -> Poll<Self::Output> {

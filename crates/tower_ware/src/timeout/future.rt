@@ -2,7 +2,7 @@
 ghost use Rattle.std.specs.Prelude.{◌≡◌, ⊤};
 ghost use Rattle.futures.specs.Poll.{IfReady, OnPending};
 ghost use Rattle.futures.specs.Task.{Covers, Keeps};
-ghost use Rattle.tower_base.specs.Gives.{MayGive};
+ghost use Rattle.tower_base.specs.Gives.{IsStep, MayGive};
 ghost use Rattle.tower_ware.specs.Timeout.{ResponseFutureView, Stepped};
 
 use crate::timeout::error::Error;
@@ -53,15 +53,10 @@ where
     // A pending poll wakes its own waker, whatever source is meant.
     ghost needs = { λ _ _. ⊤ };
 
-    #[tactic(auto, using(tower_base::specs::GivesLemmas::gives_value, tower_base::specs::GivesLemmas::gives_same))]
+    #[tactic(auto, using(tower_base::specs::GivesLemmas::one_step))]
     fn poll(&mut self, cx: &mut Context<'_>) -> Poll<Self::Output>
         requires { F.can_poll self.old.response }
-        ensures step { Stepped F.Steps.own C.Clock self.old result self.new }
-        ensures value { IfReady result (MayGive (Stepped F.Steps.own C.Clock) self.old) }
-        ensures again { OnPending result (F.can_poll self.new.response) }
-        ensures same { OnPending result ((x : _) → MayGive (Stepped F.Steps.own C.Clock) self.new x → MayGive (Stepped F.Steps.own C.Clock) self.old x) }
-        ensures registered { OnPending result (Covers cx.new (λ _. ⊤)) }
-        ensures kept { Keeps cx.old cx.new }
+        ensures { IsStep (Stepped F.Steps.own C.Clock) (λ v. F.can_poll v.response) (λ _ _. ⊤) self.old result self.new cx.old cx.new }
     {
         self.step(cx)
     }
@@ -72,6 +67,13 @@ where
     F: Steps<Output = Result<T, E>>,
     C: Clock,
 {
+    type Output = Result<T, Error<E>>;
+
+    ghost can_poll = { λ v. F.can_poll v.response };
+
+    // A pending poll wakes its own waker, whatever source is meant.
+    ghost needs = { λ _ _. ⊤ };
+
     ghost stepped = { Stepped F.Steps.own C.Clock };
 
     fn step(&mut self, cx: &mut Context<'_>) -> Poll<Self::Output> {

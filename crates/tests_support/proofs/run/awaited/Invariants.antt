@@ -1,4 +1,4 @@
 use Rattle.tests_support.proofs.run.awaited.Given as goal
 
 abbrev pub invariant-loop : goal.invariant-loop
-invariant-loop g l = g.F.Future.can_poll l.future
+invariant-loop g l = g.F.Steps.can_poll l.future

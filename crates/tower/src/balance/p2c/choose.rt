@@ -21,9 +21,9 @@ pub(crate) fn promote<K, S, X, Req>(
 where
     K: Eq + Hash + Clone + Drop,
     S: Service<Req>,
-    requires { Sound S.sound services.old }
-    ensures promoted { Promotes K.eq S.Service services.old result services.new }
-    ensures sound { Sound S.sound services.new }
+    requires { Sound S.sound services.old.lists }
+    ensures promoted { Promotes K.eq S.Service services.old.lists result services.new.lists }
+    ensures sound { Sound S.sound services.new.lists }
     ensures kept { Keeps cx.old cx.new }
 {
     loop {
@@ -41,8 +41,8 @@ fn load_at<K, S, Req>(services: &ReadyCache<K, S, Req>, index: usize) -> S::Metr
 where
     K: Eq + Hash + Clone + Drop,
     S: Service<Req> + Load,
-    requires { index < length services.now.ready }
-    ensures { At services.now.ready index (λ e. S.loaded e.1 result) }
+    requires { index < length services.now.lists.ready }
+    ensures { At services.now.lists.ready index (λ e. S.loaded e.1 result) }
 {
     let (_, service) = services.get_ready_index(index).unwrap();
     service.load()
@@ -53,9 +53,9 @@ fn is_lighter<K, S, Req>(services: &ReadyCache<K, S, Req>, first: usize, second:
 where
     K: Eq + Hash + Clone + Drop,
     S: Service<Req> + Load,
-    requires first { first < length services.now.ready }
-    requires second { second < length services.now.ready }
-    ensures { IsLighter S.loaded S.Metric.partial_cmp services.now.ready first second result }
+    requires first { first < length services.now.lists.ready }
+    requires second { second < length services.now.lists.ready }
+    ensures { IsLighter S.loaded S.Metric.partial_cmp services.now.lists.ready first second result }
 {
     load_at(services, first) <= load_at(services, second)
 }
@@ -67,7 +67,7 @@ where
     K: Eq + Hash + Clone + Drop,
     S: Service<Req> + Load,
     R: Rng,
-    ensures { Picked S.loaded S.Metric.partial_cmp R.drew services.now.ready rng.old result rng.new }
+    ensures { Picked S.loaded S.Metric.partial_cmp R.drew services.now.lists.ready rng.old result rng.new }
 {
     let count = services.ready_len();
     if count == 0 {

@@ -1,35 +1,35 @@
 //! The response of an endpoint.
-ghost use Rattle.std.specs.Prelude.{◌≡◌};
-ghost use Rattle.futures.specs.Poll.{IfReady, OnPending};
-ghost use Rattle.futures.specs.Task.{Covers, Keeps};
-ghost use Rattle.tower_base.specs.Gives.{MayGive};
+ghost use Rattle.std.specs.Prelude.{◌≡◌, Option, Some};
+ghost use Rattle.tower_base.specs.Gives.{IsStep, MayGive};
 ghost use Rattle.tower.specs.Balance.{Stepped};
+ghost use Rattle.tower_util.specs.Fuse.{CanPoll, needs_of};
 
 use crate::balance::error::Error;
 use futures::future::Future;
 use futures::task::{Context, Poll};
 use std::marker::{Model, PhantomData};
 use tower_base::service::Steps;
+use tower_util::util::Fuse;
 
-/// The response of an endpoint, whose error is `Inner`.
+/// The response of an endpoint, which is dropped as it answers. Its error is `Inner`.
 #[derive(Drop)]
 pub struct ResponseFuture<F, X> {
-    response: F,
+    response: Fuse<F>,
     of: PhantomData<X>,
 }
 
 impl<F, X> Model for ResponseFuture<F, X> {
-    ghost Value = { F };
+    ghost Value = { Option F };
 
     ghost view = { λ f. f.response };
 }
 
 impl<F, X> ResponseFuture<F, X> {
     pub(crate) fn new(response: F) -> ResponseFuture<F, X>
-        ensures { result ≡ response }
+        ensures { result ≡ Some response }
     {
         ResponseFuture {
-            response,
+            response: Fuse::new(response),
             of: PhantomData,
         }
     }
@@ -38,27 +38,28 @@ impl<F, X> ResponseFuture<F, X> {
 impl<A, E, X, F: Steps<Output = Result<A, E>>> Future for ResponseFuture<F, X> {
     type Output = Result<A, Error<E, X>>;
 
-    ghost can_poll = { F.can_poll };
+    ghost can_poll = { CanPoll F.can_poll };
 
     ghost gives = { MayGive (Stepped F.Steps.own) };
 
-    ghost needs = { F.needs };
+    ghost needs = { needs_of F.needs };
 
-    #[tactic(auto, using(tower_base::specs::GivesLemmas::gives_value, tower_base::specs::GivesLemmas::gives_same))]
+    #[tactic(auto, using(tower_base::specs::GivesLemmas::one_step))]
     fn poll(&mut self, cx: &mut Context<'_>) -> Poll<Result<A, Error<E, X>>>
-        requires { F.can_poll self.old }
-        ensures step { Stepped F.Steps.own self.old result self.new }
-        ensures value { IfReady result (MayGive (Stepped {X = X} F.Steps.own) self.old) }
-        ensures again { OnPending result (F.can_poll self.new) }
-        ensures same { OnPending result ((x : _) → MayGive (Stepped {X = X} F.Steps.own) self.new x → MayGive (Stepped {X = X} F.Steps.own) self.old x) }
-        ensures registered { OnPending result (Covers cx.new (F.needs self.new)) }
-        ensures kept { Keeps cx.old cx.new }
+        requires { CanPoll F.can_poll self.old }
+        ensures { IsStep (Stepped F.Steps.own) (CanPoll F.can_poll) (needs_of F.needs) self.old result self.new cx.old cx.new }
     {
         self.step(cx)
     }
 }
 
 impl<A, E, X, F: Steps<Output = Result<A, E>>> Steps for ResponseFuture<F, X> {
+    type Output = Result<A, Error<E, X>>;
+
+    ghost can_poll = { CanPoll F.can_poll };
+
+    ghost needs = { needs_of F.needs };
+
     ghost stepped = { Stepped F.Steps.own };
 
     fn step(&mut self, cx: &mut Context<'_>) -> Poll<Result<A, Error<E, X>>> {

@@ -9,22 +9,27 @@ use tower_base::layer::Layer;
 /// Makes a `MakeBalance` of a maker of discoveries, with a clone of the generator: the Rust's
 /// `tower::balance::p2c::MakeBalanceLayer`.
 #[derive(Drop)]
-pub struct MakeBalanceLayer<M, R, Req> {
+pub struct MakeBalanceLayer<M, R, Req, K: Clone> {
     rng: R,
     alloc: Global,
-    of: PhantomData<M>,
+    of: PhantomData<(M, K)>,
     request: PhantomData<Req>,
 }
 
-impl<M, R, Req> Model for MakeBalanceLayer<M, R, Req> {
+impl<M, R, Req, K: Clone> Model for MakeBalanceLayer<M, R, Req, K> {
     ghost Value = { R };
 
     ghost view = { λ l. l.rng };
+
+    // `MakeBalance::new` asks for it.
+    ghost invariant = { λ _. (x y : K) → K.is_clone x y → y ≡ x };
 }
 
-impl<M, R, Req> MakeBalanceLayer<M, R, Req> {
-    /// `layer` answers an error where the clone of the generator is refused, and drops the maker then.
-    pub fn new(alloc: Global, rng: R) -> MakeBalanceLayer<M, R, Req>
+impl<M, R, Req, K: Clone> MakeBalanceLayer<M, R, Req, K> {
+    /// `layer` answers an error if the clone of the generator is refused, and drops the maker then. It asks for keys
+    /// whose clones equal what was cloned.
+    pub fn new(alloc: Global, rng: R) -> MakeBalanceLayer<M, R, Req, K>
+        requires { (x y : K) → K.is_clone x y → y ≡ x }
         ensures { result ≡ rng }
     {
         MakeBalanceLayer {
@@ -36,21 +41,21 @@ impl<M, R, Req> MakeBalanceLayer<M, R, Req> {
     }
 }
 
-impl<M: Drop, R: Clone, Req> Layer<M> for MakeBalanceLayer<M, R, Req> {
-    type Service = MakeBalance<M, R, Req>;
+impl<M: Drop, R: Clone, Req, K: Clone> Layer<M> for MakeBalanceLayer<M, R, Req, K> {
+    type Service = MakeBalance<M, R, Req, K>;
 
     ghost made = { λ rng maker made. R.is_clone rng made.rng × (made.maker ≡ maker) };
 
-    fn layer(&self, maker: M) -> Result<MakeBalance<M, R, Req>, AllocError> {
+    fn layer(&self, maker: M) -> Result<MakeBalance<M, R, Req, K>, AllocError> {
         let rng = self.rng.clone()?;
         Ok(MakeBalance::new(self.alloc, maker, rng))
     }
 }
 
-impl<M, R: Clone, Req> Clone for MakeBalanceLayer<M, R, Req> {
+impl<M, R: Clone, Req, K: Clone> Clone for MakeBalanceLayer<M, R, Req, K> {
     ghost is_clone = { R.is_clone };
 
-    fn clone(&self) -> Result<MakeBalanceLayer<M, R, Req>, AllocError> {
+    fn clone(&self) -> Result<MakeBalanceLayer<M, R, Req, K>, AllocError> {
         Ok(MakeBalanceLayer::new(self.alloc, self.rng.clone()?))
     }
 }

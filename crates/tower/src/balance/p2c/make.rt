@@ -1,10 +1,8 @@
 //! A maker of balancers.
 ghost use Rattle.std.specs.Prelude.{◌≡◌};
-ghost use Rattle.futures.specs.Poll.{IfReady, OnPending};
-ghost use Rattle.futures.specs.Task.{Covers, Keeps};
 ghost use Rattle.tower_base.specs.AnswersLemmas.{answered_ok};
-ghost use Rattle.tower_base.specs.Gives.{MayGive};
-ghost use Rattle.tower.specs.MakeBalance.{Called, CanPoll, IsClone, MakeBalanceView, Polled, Sound, Stepped, needs_of};
+ghost use Rattle.tower_base.specs.Gives.{IsStep, MayGive};
+ghost use Rattle.tower.specs.MakeBalance.{Called, CanPoll, IsClone, MakeBalanceView, Polled, Stepped, needs_of};
 ghost use Rattle.tower.specs.declared.balance.error.MakeError.TheVariants.{Inner};
 ghost use Rattle.tower.specs.declared.balance.p2c.make.State.{State};
 
@@ -21,24 +19,28 @@ use tower_limit::discover::Discover;
 /// Makes a balancer over each discovery that its maker gives: the Rust's `tower::balance::p2c::MakeBalance`.
 ///
 /// Each balancer draws by a clone of the generator. Where that is refused the maker isn't called, and the response is
-/// `Memory`. Keys are asked for clones that equal what was cloned.
+/// `Memory`. `K` is the type of the keys.
 #[derive(Drop)]
-pub struct MakeBalance<M, R, Req> {
+pub struct MakeBalance<M, R, Req, K: Clone> {
     maker: M,
     rng: R,
     alloc: Global,
-    of: PhantomData<Req>,
+    of: PhantomData<(Req, K)>,
 }
 
-impl<M, R, Req> Model for MakeBalance<M, R, Req> {
+impl<M, R, Req, K: Clone> Model for MakeBalance<M, R, Req, K> {
     ghost Value = { MakeBalanceView M R };
 
     ghost view = { λ m. record { maker = m.maker; rng = m.rng } };
+
+    // `Balance::from_rng` asks for it.
+    ghost invariant = { λ _. (x y : K) → K.is_clone x y → y ≡ x };
 }
 
-impl<M, R, Req> MakeBalance<M, R, Req> {
-    /// It takes no memory yet.
-    pub fn new(alloc: Global, maker: M, rng: R) -> MakeBalance<M, R, Req>
+impl<M, R, Req, K: Clone> MakeBalance<M, R, Req, K> {
+    /// It takes no memory yet, and asks for keys whose clones equal what was cloned.
+    pub fn new(alloc: Global, maker: M, rng: R) -> MakeBalance<M, R, Req, K>
+        requires { (x y : K) → K.is_clone x y → y ≡ x }
         ensures { result ≡ record { maker = maker; rng = rng } }
     {
         MakeBalance {
@@ -50,7 +52,7 @@ impl<M, R, Req> MakeBalance<M, R, Req> {
     }
 }
 
-impl<T, M, D, E, K, S, X, R, Req> Service<T> for MakeBalance<M, R, Req>
+impl<T, M, D, E, K, S, X, R, Req> Service<T> for MakeBalance<M, R, Req, K>
 where
     T: Drop,
     M: Service<T, Response = D, Error = E>,
@@ -65,9 +67,9 @@ where
 
     type Error = MakeError<E>;
 
-    type Future = MakeFuture<M::Future, R, Req>;
+    type Future = MakeFuture<M::Future, R, Req, K>;
 
-    ghost sound = { Sound M.sound K.is_clone };
+    ghost sound = { λ m. M.sound m.maker };
 
     ghost ready = { λ m. M.ready m.maker };
 
@@ -85,7 +87,7 @@ where
         }
     }
 
-    fn call(&mut self, target: T) -> MakeFuture<M::Future, R, Req> {
+    fn call(&mut self, target: T) -> MakeFuture<M::Future, R, Req, K> {
         let state = match self.rng.clone() {
             Ok(rng) => State::Asked(self.maker.call(target), Some(rng)),
             Err(_) => State::Refused,
@@ -99,10 +101,10 @@ where
 }
 
 /// A clone has clones of both parts.
-impl<M: Clone + Drop, R: Clone, Req> Clone for MakeBalance<M, R, Req> {
+impl<M: Clone + Drop, R: Clone, Req, K: Clone> Clone for MakeBalance<M, R, Req, K> {
     ghost is_clone = { IsClone M.is_clone R.is_clone };
 
-    fn clone(&self) -> Result<MakeBalance<M, R, Req>, AllocError> {
+    fn clone(&self) -> Result<MakeBalance<M, R, Req, K>, AllocError> {
         let maker = self.maker.clone()?;
         let rng = self.rng.clone()?;
         Ok(MakeBalance::new(self.alloc, maker, rng))
@@ -118,19 +120,22 @@ enum State<F, R> {
 
 /// A balancer that is being made: the Rust's `tower::balance::p2c::MakeFuture`.
 #[derive(Drop)]
-pub struct MakeFuture<F, R, Req> {
+pub struct MakeFuture<F, R, Req, K: Clone> {
     state: State<F, R>,
     alloc: Global,
-    of: PhantomData<Req>,
+    of: PhantomData<(Req, K)>,
 }
 
-impl<F, R, Req> Model for MakeFuture<F, R, Req> {
+impl<F, R, Req, K: Clone> Model for MakeFuture<F, R, Req, K> {
     ghost Value = { State F R };
 
     ghost view = { λ f. f.state };
+
+    // `Balance::from_rng` asks for it.
+    ghost invariant = { λ _. (x y : K) → K.is_clone x y → y ≡ x };
 }
 
-impl<F, D, E, K, S, X, R, Req> Future for MakeFuture<F, R, Req>
+impl<F, D, E, K, S, X, R, Req> Future for MakeFuture<F, R, Req, K>
 where
     F: Steps<Output = Result<D, E>>,
     K: Eq + Hash + Clone + Drop,
@@ -140,27 +145,22 @@ where
 {
     type Output = Result<Balance<D, R, Req>, MakeError<E>>;
 
-    ghost can_poll = { CanPoll F.can_poll K.is_clone };
+    ghost can_poll = { CanPoll F.can_poll };
 
     ghost gives = { MayGive (Stepped F.Steps.own) };
 
     ghost needs = { needs_of F.needs };
 
-    #[tactic(auto, using(tower_base::specs::GivesLemmas::gives_value, tower_base::specs::GivesLemmas::gives_same))]
+    #[tactic(auto, using(tower_base::specs::GivesLemmas::one_step))]
     fn poll(&mut self, cx: &mut Context<'_>) -> Poll<Self::Output>
-        requires { CanPoll F.can_poll K.is_clone self.old }
-        ensures step { Stepped F.Steps.own self.old result self.new }
-        ensures value { IfReady result (MayGive (Stepped F.Steps.own) self.old) }
-        ensures again { OnPending result (CanPoll F.can_poll K.is_clone self.new) }
-        ensures same { OnPending result ((x : _) → MayGive (Stepped {Q = Req} {K = K} {S = S} {X = X} F.Steps.own) self.new x → MayGive (Stepped F.Steps.own) self.old x) }
-        ensures registered { OnPending result (Covers cx.new (needs_of F.needs self.new)) }
-        ensures kept { Keeps cx.old cx.new }
+        requires { CanPoll F.can_poll self.old }
+        ensures { IsStep (Stepped F.Steps.own) (CanPoll F.can_poll) (needs_of F.needs) self.old result self.new cx.old cx.new }
     {
         self.step(cx)
     }
 }
 
-impl<F, D, E, K, S, X, R, Req> Steps for MakeFuture<F, R, Req>
+impl<F, D, E, K, S, X, R, Req> Steps for MakeFuture<F, R, Req, K>
 where
     F: Steps<Output = Result<D, E>>,
     K: Eq + Hash + Clone + Drop,
@@ -168,6 +168,12 @@ where
     D: Discover<Key = K, Service = S, Error = X>,
     R: Drop,
 {
+    type Output = Result<Balance<D, R, Req>, MakeError<E>>;
+
+    ghost can_poll = { CanPoll F.can_poll };
+
+    ghost needs = { needs_of F.needs };
+
     ghost stepped = { Stepped F.Steps.own };
 
     fn step(&mut self, cx: &mut Context<'_>) -> Poll<Self::Output> {

@@ -1,5 +1,5 @@
 //! The balancer.
-ghost use Rattle.std.specs.Prelude.{◌≡◌, ◌↔◌, Ok, IfSome, IsTrue, []};
+ghost use Rattle.std.specs.Prelude.{◌≡◌, ◌↔◌, Ok, IfSome, IsTrue, OnOk, [], false};
 ghost use Rattle.futures.specs.Poll.{OnPending};
 ghost use Rattle.futures.specs.Task.{IsArmed, Keeps};
 ghost use Rattle.tower_base.specs.Rng.{New};
@@ -14,7 +14,7 @@ use futures::future::{Future, Pending, pending};
 use futures::task::{Context, Poll};
 use std::alloc::Global;
 use std::hash::Hash;
-use tower_base::passes::PASSES;
+use tower_base::passes::TURNS;
 use tower_base::service::Service;
 use tower_base::util::rng::{HasherRng, Rng};
 use tower_limit::discover::{Change, Discover};
@@ -127,6 +127,7 @@ where
         requires { Sound D.sound D.discovered S.sound (view_of self.old) }
         ensures read { Reads D.discovered K.eq (view_of self.old) result (view_of self.new) }
         ensures sound { Sound D.sound D.discovered S.sound (view_of self.new) }
+        ensures armed { IfSome result (λ answer. OnOk answer (self.new.is_over ≡ false → IsArmed cx.new)) }
         ensures kept { Keeps cx.old cx.new }
     {
         match self.discover.poll_discover(cx) {
@@ -149,12 +150,13 @@ where
         requires { Sound D.sound D.discovered S.sound (view_of self.old) }
         ensures read { ReadsAll D.discovered K.eq (view_of self.old) result (view_of self.new) }
         ensures sound { Sound D.sound D.discovered S.sound (view_of self.new) }
+        ensures armed { OnOk result (self.new.is_over ≡ false → IsArmed cx.new) }
         ensures kept { Keeps cx.old cx.new }
     {
         if self.is_over {
             return Ok(());
         }
-        for _pass in 0..PASSES {
+        for _pass in 0..TURNS {
             if let Some(answer) = self.read(cx) {
                 return answer;
             }
@@ -168,6 +170,7 @@ where
         requires { Sound D.sound D.discovered S.sound (view_of self.old) }
         ensures changed { Changed D.discovered K.eq (view_of self.old) result (view_of self.new) }
         ensures sound { Sound D.sound D.discovered S.sound (view_of self.new) }
+        ensures armed { OnOk result (self.new.is_over ≡ false → IsArmed cx.new) }
         ensures kept { Keeps cx.old cx.new }
     {
         match self.change.take() {

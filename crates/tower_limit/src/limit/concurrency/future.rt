@@ -2,7 +2,7 @@
 ghost use Rattle.std.specs.Prelude.{◌≡◌};
 ghost use Rattle.futures.specs.Poll.{IfReady, OnPending};
 ghost use Rattle.futures.specs.Task.{Covers, Keeps};
-ghost use Rattle.tower_base.specs.Gives.{MayGive};
+ghost use Rattle.tower_base.specs.Gives.{IsStep, MayGive};
 ghost use Rattle.tower_limit.specs.Concurrency.{ResponseFutureView, Stepped};
 
 use crate::limit::concurrency::error::{Error, outward};
@@ -49,15 +49,10 @@ where
 
     ghost needs = { λ v. F.needs v.response };
 
-    #[tactic(auto, using(tower_base::specs::GivesLemmas::gives_value, tower_base::specs::GivesLemmas::gives_same))]
+    #[tactic(auto, using(tower_base::specs::GivesLemmas::one_step))]
     fn poll(&mut self, cx: &mut Context<'_>) -> Poll<Self::Output>
         requires { F.can_poll self.old.response }
-        ensures step { Stepped F.Steps.own self.old result self.new }
-        ensures value { IfReady result (MayGive (Stepped F.Steps.own) self.old) }
-        ensures again { OnPending result (F.can_poll self.new.response) }
-        ensures same { OnPending result ((x : _) → MayGive (Stepped F.Steps.own) self.new x → MayGive (Stepped F.Steps.own) self.old x) }
-        ensures registered { OnPending result (Covers cx.new (F.needs self.new.response)) }
-        ensures kept { Keeps cx.old cx.new }
+        ensures { IsStep (Stepped F.Steps.own) (λ v. F.can_poll v.response) (λ v. F.needs v.response) self.old result self.new cx.old cx.new }
     {
         self.step(cx)
     }
@@ -68,6 +63,12 @@ where
     F: Steps<Output = Result<T, E>>,
     L: Latch<LineCore>,
 {
+    type Output = Result<T, Error<E>>;
+
+    ghost can_poll = { λ v. F.can_poll v.response };
+
+    ghost needs = { λ v. F.needs v.response };
+
     ghost stepped = { Stepped F.Steps.own };
 
     fn step(&mut self, cx: &mut Context<'_>) -> Poll<Self::Output> {

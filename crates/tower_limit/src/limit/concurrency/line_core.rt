@@ -75,6 +75,7 @@ impl LineCore {
         }
     }
 
+    #[inline(always)]
     fn join(&mut self) -> LineReply
         ensures { Follows self.old LineStep.Join result self.new }
     {
@@ -122,6 +123,7 @@ impl LineCore {
         LineReply::Left
     }
 
+    #[inline(always)]
     fn release(&mut self) -> LineReply
         ensures { Follows self.old LineStep.Release result self.new }
     {

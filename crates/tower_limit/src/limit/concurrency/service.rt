@@ -2,6 +2,10 @@
 ghost use Rattle.std.specs.Prelude.{◌≡◌, IfOk, IsSome};
 ghost use Rattle.tower_limit.specs.Concurrency.{ConcurrencyLimitView, Polled, Called, IsClone, New, idle};
 ghost use Rattle.tower_limit.specs.ConcurrencyReady.{ready_after};
+ghost use Rattle.tower_base.specs.ServiceRun.{relations};
+ghost use Rattle.tower_base.specs.Projection.{Once, Projects};
+ghost use Rattle.tower_base.specs.ProjectionLemmas.{composed_once};
+ghost use Rattle.tower_limit.specs.Projections.{concurrency_limit};
 
 use crate::limit::concurrency::error::{Error, outward};
 use crate::limit::concurrency::future::ResponseFuture;
@@ -13,6 +17,7 @@ use std::alloc::{AllocError, Global};
 use std::marker::Model;
 use std::sync::Wait;
 use tower_base::latch::{Guarded, Latch};
+use tower_base::run::Contains;
 use tower_base::service::Service;
 
 /// Makes a call only with a permit of its semaphore.
@@ -90,6 +95,25 @@ impl<Request, S: Service<Request>, L: Latch<LineCore>> Service<Request> for Conc
     fn call(&mut self, request: Request) -> Self::Future {
         ResponseFuture::new(self.inner.call(request), self.permit.take())
     }
+}
+
+/// Each call goes inside, once.
+pub fn projection<Request, S: Service<Request>, L: Latch<LineCore>>()
+    ensures { Projects (relations ⟦<ConcurrencyLimit<S, L> as Service<Request>>⟧) (relations S.Service) (λ l. l.inner) Once }
+{}
+
+/// What its inner service contains.
+impl<Request, Passed, I, S, L> Contains<Request, Passed, I> for ConcurrencyLimit<S, L>
+where
+    I: Service<Passed>,
+    S: Contains<Request, Passed, I>,
+    L: Latch<LineCore>,
+{
+    ghost inside = { λ l. S.inside l.inner };
+
+    ghost goes = { S.goes };
+
+    ghost projects = { composed_once _ _ _ (λ l. l.inner) S.inside S.goes (concurrency_limit _ _) S.projects };
 }
 
 /// A clone shares the semaphore. It holds no permit and doesn't wait.

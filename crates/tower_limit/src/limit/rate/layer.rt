@@ -3,16 +3,16 @@ ghost use Rattle.std.specs.Prelude.{◌≡◌, ◌≢◌};
 ghost use Rattle.tower_limit.specs.Rate.{RateLimitLayerView, Made};
 
 use crate::limit::rate::{Rate, RateLimit};
-use std::alloc::AllocError;
+use std::alloc::{AllocError, Global};
 use std::marker::Model;
 use tower_base::layer::Layer;
 use tower_base::service::Clock;
 
-/// Makes a `RateLimit` of a service. It takes no memory.
-///
-/// What it makes has a share of the clock, and reads it once.
+/// Makes a `RateLimit` of a service, with a share of the clock: the Rust's
+/// `tower::limit::RateLimitLayer`. `layer` is refused as `RateLimit::new` is.
 #[derive(Drop)]
 pub struct RateLimitLayer<C> {
+    alloc: Global,
     rate: Rate,
     clock: C,
 }
@@ -25,23 +25,23 @@ impl<C> Model for RateLimitLayer<C> {
 
 impl<C> RateLimitLayer<C> {
     /// So many calls in so many nanoseconds. It asks for what `Rate::fits` tests.
-    pub fn new(num: u64, per: u64, clock: C) -> RateLimitLayer<C>
+    pub fn new(alloc: Global, num: u64, per: u64, clock: C) -> RateLimitLayer<C>
         requires num { num ≢ 0 }
         requires per { per ≢ 0 }
         ensures { result ≡ record { num = num; per = per; clock = clock } }
     {
         let rate = Rate::new(num, per);
-        RateLimitLayer { rate, clock }
+        RateLimitLayer { alloc, rate, clock }
     }
 }
 
-impl<S, C: Clock> Layer<S> for RateLimitLayer<C> {
+impl<S: Drop, C: Clock> Layer<S> for RateLimitLayer<C> {
     type Service = RateLimit<S, C>;
 
     ghost made = { Made C.Clock };
 
     fn layer(&self, service: S) -> Result<RateLimit<S, C>, AllocError> {
-        Ok(RateLimit::new(service, self.rate, self.clock.share()))
+        RateLimit::new(self.alloc, service, self.rate, self.clock.share())
     }
 }
 
@@ -51,6 +51,7 @@ impl<C: Clock> Clone for RateLimitLayer<C> {
 
     fn clone(&self) -> Result<RateLimitLayer<C>, AllocError> {
         Ok(RateLimitLayer {
+            alloc: self.alloc,
             rate: self.rate,
             clock: self.clock.share(),
         })

@@ -1,69 +1,89 @@
-//! The windows of a rate limit.
-ghost use Rattle.std.specs.Prelude.{◌≡◌, ◌≢◌, false};
-ghost use Rattle.tower_limit.specs.Rate.{RateCoreView, Windows, StandsFor, Stands, opening, is_full, asks, after_poll, after_call};
+//! The call moments of a rate limit.
+ghost use Rattle.std.specs.Prelude.{◌≡◌, ◌≢◌, ◌≤◌, ◌<◌, true, false, length, IfOk, IsErr};
+ghost use Rattle.tower_limit.specs.Rate.{RateCoreView, Calls, StandsFor, Stands, opening, is_limited, passes, may_call, after_poll, after_call};
 
 use crate::limit::rate::Rate;
+use circular_buffer::HeapCircularBuffer;
+use std::alloc::{AllocError, Global};
 use std::marker::Model;
 
-/// The end of the last window, and how many more calls fit it. Its moments are in nanoseconds.
+/// The most moments that memory may hold: 8 bytes each, and `2^63 - 1` bytes in all.
+const MOST_KEPT: u64 = 1_152_921_504_606_846_975;
+
+/// The moments of the last `num` calls, in nanoseconds, and whether a pass is open. It takes memory
+/// when it is made, and none later.
 #[derive(Drop)]
 pub struct RateCore {
     rate: Rate,
-    until: u128,
-    rem: u64,
+    // The newest is in front.
+    moments: HeapCircularBuffer<u64>,
+    passed: bool,
 }
 
 impl Model for RateCore {
     ghost Value = { RateCoreView };
 
-    ghost view = { λ c. record { num = c.rate.num; per = c.rate.per; until = c.until; rem = c.rem } };
+    ghost view = { λ c. record { num = c.rate.num; per = c.rate.per; kept = c.moments.items; passed = c.passed } };
+
+    // There is room for the last `num` moments, and no more of them are kept.
+    ghost invariant = { λ c. (c.moments.capacity ≡ c.rate.num) × (length c.moments.items ≤ c.rate.num) };
 }
 
 impl RateCore {
-    /// One empty window, which ends at this moment.
-    pub fn new(rate: Rate, moment: u64) -> RateCore
-        ensures { StandsFor result (opening rate.num rate.per moment) }
+    /// No calls. It is refused if there is no memory for `num` moments of 8 bytes, and without asking
+    /// for it if those are more than `2^63 - 1` bytes.
+    pub fn new(alloc: Global, rate: Rate) -> Result<RateCore, AllocError>
+        ensures made { IfOk result (λ core. StandsFor core (opening rate.num rate.per)) }
+        ensures refused { 1152921504606846975 < rate.num → IsErr result }
     {
-        RateCore {
+        if rate.num > MOST_KEPT {
+            return Err(AllocError);
+        }
+        let moments = HeapCircularBuffer::with_capacity(alloc, rate.num as usize)?;
+        Ok(RateCore {
             rate,
-            until: moment as u128,
-            rem: rate.num,
-        }
+            moments,
+            passed: false,
+        })
     }
 
-    /// The last window is full: no call may be made before a poll that answers true.
+    /// Whether `num` or more calls were made. Then each further one needs a poll that returns true.
     pub fn limited(&self) -> bool
-        ensures { (plain : Windows) → StandsFor self.now plain → result ≡ is_full plain }
+        ensures limited { (plain : Calls) → StandsFor self.now plain → result ≡ is_limited plain }
+        ensures stands { Stands self.now (λ plain. Unit {0}) }
+        ensures may { result ≡ false → Stands self.now (λ plain. may_call plain ≡ true) }
     {
-        self.rem == 0
+        self.moments.len() as u64 == self.rate.num
     }
 
-    /// Whether a call may be made after this moment's poll.
+    // Whether the `num`-th last call, if there is one, is a period ago at this moment.
+    fn is_free_at(&self, moment: u64) -> bool
+        ensures { (plain : Calls) → StandsFor self.now plain → result ≡ passes plain moment }
+    {
+        match self.moments.get((self.rate.num - 1) as usize) {
+            Some(call) => *call as u128 + self.rate.per as u128 <= moment as u128,
+            None => true,
+        }
+    }
+
+    /// Whether a call may be made after this moment's poll: fewer than `num` were made, or the `num`-th
+    /// last is a period ago.
+    #[tactic(auto, using(crate::proofs::RateStands::open_may))]
     pub fn poll(&mut self, moment: u64) -> bool
-        ensures asks { (plain : Windows) → StandsFor self.old plain → result ≡ asks plain moment }
-        ensures windows { (plain : Windows) → StandsFor self.old plain → StandsFor self.new (after_poll plain moment) }
+        ensures passes { (plain : Calls) → StandsFor self.old plain → result ≡ passes plain moment }
+        ensures pass { (plain : Calls) → StandsFor self.old plain → StandsFor self.new (after_poll plain moment) }
+        ensures may { result ≡ true → Stands self.new (λ plain. may_call plain ≡ true) }
     {
-        if self.rem != 0 {
-            return true;
-        }
-        if (moment as u128) < self.until {
-            return false;
-        }
-        self.until = moment as u128 + self.rate.per as u128;
-        self.rem = self.rate.num;
-        true
+        self.passed = self.is_free_at(moment);
+        self.passed
     }
 
-    /// Counts a call.
+    /// Counts a call, and closes the pass.
     pub fn call(&mut self, moment: u64)
-        requires { Stands self.old (λ plain. is_full plain ≡ false) }
-        ensures { (plain : Windows) → StandsFor self.old plain → StandsFor self.new (after_call plain moment) }
+        requires { Stands self.old (λ plain. may_call plain ≡ true) }
+        ensures { (plain : Calls) → StandsFor self.old plain → StandsFor self.new (after_call plain moment) }
     {
-        if moment as u128 >= self.until {
-            self.until = moment as u128 + self.rate.per as u128;
-            self.rem = self.rate.num - 1;
-            return;
-        }
-        self.rem -= 1;
+        let _oldest = self.moments.push_front(moment);
+        self.passed = false;
     }
 }

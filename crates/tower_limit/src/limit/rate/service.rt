@@ -1,19 +1,20 @@
 //! A service under a rate limit.
-ghost use Rattle.std.specs.Prelude.{◌≡◌, false};
-ghost use Rattle.tower_limit.specs.Rate.{RateLimitView, New, Polled, Called, Stands, is_full};
+ghost use Rattle.std.specs.Prelude.{◌≡◌, ◌<◌, true, IfOk, IsErr};
+ghost use Rattle.tower_limit.specs.Rate.{RateLimitView, New, Polled, Called, Stands, may_call};
 ghost use Rattle.tower_limit.specs.RateReady.{ready_after};
 
 use crate::limit::rate::{Rate, RateCore};
 use crate::load::Load;
 use futures::task::{Context, Poll};
+use std::alloc::{AllocError, Global};
 use std::marker::Model;
 use tower_base::service::{Clock, Service};
 
-/// Makes its callers wait for the next window where the last one is full: the Rust's
-/// `tower::limit::RateLimit`. A pending poll of its own wakes its own task.
+/// Lets at most `num` calls through in any half-open interval of length `per`: the Rust's
+/// `tower::limit::RateLimit`, whose windows slide here. A pending poll of its own wakes its own task.
 ///
-/// The clock is handed in. It is read once by `new`, once by a poll where the last window is full, and
-/// once by a call, before the inner one.
+/// The clock is handed in. It is read once by a poll after `num` or more calls, and once by a call, before
+/// the inner one. Neither takes memory: the room for the last `num` call moments is made by `new`.
 #[derive(Drop)]
 pub struct RateLimit<S, C> {
     inner: S,
@@ -27,17 +28,14 @@ impl<S, C> Model for RateLimit<S, C> {
     ghost view = { λ l. record { inner = l.inner; core = l.core; clock = l.clock } };
 }
 
-impl<S, C: Clock> RateLimit<S, C> {
-    /// Reads the clock once.
-    pub fn new(inner: S, rate: Rate, mut clock: C) -> RateLimit<S, C>
-        ensures { New C.Clock rate.num rate.per inner clock result }
+impl<S: Drop, C: Clock> RateLimit<S, C> {
+    /// Reads no clock. It is refused as `RateCore::new` is, and then the service and the clock are dropped.
+    pub fn new(alloc: Global, inner: S, rate: Rate, clock: C) -> Result<RateLimit<S, C>, AllocError>
+        ensures made { IfOk result (λ made. New rate.num rate.per inner clock made) }
+        ensures refused { 1152921504606846975 < rate.num → IsErr result }
     {
-        let moment = clock.now();
-        RateLimit {
-            inner,
-            core: RateCore::new(rate, moment),
-            clock,
-        }
+        let core = RateCore::new(alloc, rate)?;
+        Ok(RateLimit { inner, core, clock })
     }
 }
 
@@ -48,10 +46,9 @@ impl<Request, S: Service<Request>, C: Clock> Service<Request> for RateLimit<S, C
 
     type Future = S::Future;
 
-    // The core stands for some windows.
-    ghost sound = { λ l. S.sound l.inner × Stands l.core (λ plain. Unit {0}) };
+    ghost sound = { λ l. S.sound l.inner };
 
-    ghost ready = { λ l. S.ready l.inner × Stands l.core (λ plain. is_full plain ≡ false) };
+    ghost ready = { λ l. S.ready l.inner × Stands l.core (λ plain. may_call plain ≡ true) };
 
     ghost polled = { Polled S.Service C.Clock };
 

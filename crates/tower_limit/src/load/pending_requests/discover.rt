@@ -11,7 +11,7 @@ use futures::task::{Context, Poll};
 use std::alloc::{AllocError, Global};
 use std::marker::Model;
 use std::sync::Wait;
-use tower_base::latch::Guarded;
+use tower_base::latch::{Guarded, Latch};
 
 /// Counts the pending requests of each service that is discovered: the Rust's
 /// `tower::load::pending_requests::PendingRequestsDiscover`.
@@ -21,8 +21,33 @@ pub struct PendingRequestsDiscover<D, R, C = CompleteOnResponse> {
     alloc: Global,
     discover: D,
     completion: C,
-    // The count of the next service that is inserted.
-    spare: Option<Guarded<CountCore, R>>,
+    spare: Option<Spare<R>>,
+}
+
+// The count of the next service that is inserted. No other has a share of it.
+#[derive(Drop)]
+struct Spare<R> {
+    latch: Guarded<CountCore, R>,
+    // As `is_first` of the latch says it.
+    ghost first: { latch.share ≡ 0 },
+}
+
+impl<R: Wait + Copy> Spare<R> {
+    // The one that is there, or a new one.
+    fn of(spare: Option<Spare<R>>, rt: R, alloc: Global) -> Result<Spare<R>, AllocError> {
+        match spare {
+            Some(spare) => Ok(spare),
+            None => Ok(Spare {
+                latch: Guarded::new(rt, alloc, CountCore::new())?,
+            }),
+        }
+    }
+
+    fn into_latch(self) -> Guarded<CountCore, R>
+        ensures { result.share ≡ 0 }
+    {
+        self.latch
+    }
 }
 
 impl<D, R, C> Model for PendingRequestsDiscover<D, R, C> {
@@ -57,21 +82,18 @@ impl<D: Discover, R: Wait + Copy, C: Copy> Discover for PendingRequestsDiscover<
 
     ghost sound = { λ p. D.sound p.discover };
 
-    ghost discovered = { Discovered D.discovered };
+    ghost discovered = { Discovered ⟦<Guarded<CountCore, R> as Latch<CountCore>>⟧.is_first D.discovered };
 
     fn poll_discover(
         &mut self,
         cx: &mut Context<'_>,
     ) -> Poll<Option<Result<Change<Self::Key, Self::Service>, Self::Error>>> {
-        let latch = match self.spare.take() {
-            Some(latch) => latch,
-            None => match Guarded::new(self.rt, self.alloc, CountCore::new()) {
-                Ok(latch) => latch,
-                Err(AllocError) => return Poll::Ready(Some(Err(Error::Memory))),
-            },
+        let Ok(spare) = Spare::of(self.spare.take(), self.rt, self.alloc) else {
+            return Poll::Ready(Some(Err(Error::Memory)));
         };
         let answer = match self.discover.poll_discover(cx) {
             Poll::Ready(Some(Ok(Change::Insert(key, service)))) => {
+                let latch = spare.into_latch();
                 let service = PendingRequests::with_latch(service, self.completion, latch);
                 return Poll::Ready(Some(Ok(Change::Insert(key, service))));
             }
@@ -82,7 +104,7 @@ impl<D: Discover, R: Wait + Copy, C: Copy> Discover for PendingRequestsDiscover<
             Poll::Ready(None) => Poll::Ready(None),
             Poll::Pending => Poll::Pending,
         };
-        self.spare = Some(latch);
+        self.spare = Some(spare);
         answer
     }
 }

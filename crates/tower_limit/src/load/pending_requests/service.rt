@@ -1,6 +1,10 @@
 //! A service whose pending requests are counted.
 ghost use Rattle.std.specs.Prelude.{◌≡◌, IfOk};
 ghost use Rattle.tower_limit.specs.PendingRequests.{PendingRequestsView, New, Loaded, Polled, Called};
+ghost use Rattle.tower_base.specs.ServiceRun.{relations};
+ghost use Rattle.tower_base.specs.Projection.{Once, Projects};
+ghost use Rattle.tower_base.specs.ProjectionLemmas.{composed_once};
+ghost use Rattle.tower_limit.specs.Projections.{pending_requests};
 
 use crate::load::Load;
 use crate::load::completion::{CompleteOnResponse, TrackCompletion, TrackCompletionFuture};
@@ -12,6 +16,7 @@ use std::alloc::{AllocError, Global};
 use std::marker::Model;
 use std::sync::Wait;
 use tower_base::latch::{Guarded, Latch};
+use tower_base::run::Contains;
 use tower_base::service::Service;
 
 /// A service whose load is the number of its pending requests: the Rust's
@@ -35,7 +40,7 @@ impl<S, L, C> Model for PendingRequests<S, L, C> {
 impl<S: Drop, R: Wait + Copy, C: Drop> PendingRequests<S, Guarded<CountCore, R>, C> {
     /// No request is pending. For want of memory the service is dropped.
     pub fn new(rt: R, alloc: Global, service: S, completion: C) -> Result<Self, AllocError>
-        ensures { IfOk result (λ made. New service completion made) }
+        ensures { IfOk result (λ made. New ⟦<Guarded<CountCore, R> as Latch<CountCore>>⟧.is_first service completion made) }
     {
         let latch = Guarded::new(rt, alloc, CountCore::new())?;
         Ok(PendingRequests::with_latch(service, completion, latch))
@@ -99,4 +104,28 @@ where
         let handle = Handle::take(&self.latch);
         TrackCompletionFuture::new(self.completion, handle, self.service.call(request))
     }
+}
+
+/// Each call goes inside, once.
+pub fn projection<Request, S, L, C>()
+where
+    S: Service<Request>,
+    L: Latch<CountCore>,
+    C: TrackCompletion<Handle<L>, S::Response>,
+    ensures { Projects (relations ⟦<PendingRequests<S, L, C> as Service<Request>>⟧) (relations S.Service) (λ p. p.service) Once }
+{}
+
+/// What its inner service contains.
+impl<Request, Passed, I, S, L, C> Contains<Request, Passed, I> for PendingRequests<S, L, C>
+where
+    I: Service<Passed>,
+    S: Contains<Request, Passed, I>,
+    L: Latch<CountCore>,
+    C: TrackCompletion<Handle<L>, S::Response>,
+{
+    ghost inside = { λ p. S.inside p.service };
+
+    ghost goes = { S.goes };
+
+    ghost projects = { composed_once _ _ _ (λ p. p.service) S.inside S.goes (pending_requests _ _) S.projects };
 }

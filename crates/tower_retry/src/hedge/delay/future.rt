@@ -2,7 +2,7 @@
 ghost use Rattle.std.specs.Prelude.{◌≡◌, ⊤, Option, IfSome};
 ghost use Rattle.futures.specs.Poll.{OnPending, IfReady};
 ghost use Rattle.futures.specs.Task.{Covers, Keeps};
-ghost use Rattle.tower_base.specs.Gives.{MayGive};
+ghost use Rattle.tower_base.specs.Gives.{IsStep, MayGive};
 ghost use Rattle.tower_base.specs.Sleep.{SleepView};
 ghost use Rattle.tower_retry.specs.Delay.{Begun, CanPoll, Needs, Stepped, Waits};
 ghost use Rattle.tower_retry.specs.declared.hedge.delay.state.State.{State};
@@ -54,15 +54,10 @@ where
 
     ghost needs = { Needs ⟦<Oneshot<S, Request> as Future>⟧.needs };
 
-    #[tactic(auto, using(tower_base::specs::GivesLemmas::gives_value, tower_base::specs::GivesLemmas::gives_same))]
+    #[tactic(auto, using(tower_base::specs::GivesLemmas::one_step))]
     fn poll(&mut self, cx: &mut Context<'_>) -> Poll<Self::Output>
         requires { CanPoll S.sound ⟦<Oneshot<S, Request> as Future>⟧.can_poll self.old }
-        ensures step { Stepped S.Service S.Future.stepped C.Clock self.old result self.new }
-        ensures value { IfReady result (MayGive (Stepped S.Service S.Future.stepped C.Clock) self.old) }
-        ensures again { OnPending result (CanPoll S.sound ⟦<Oneshot<S, Request> as Future>⟧.can_poll self.new) }
-        ensures same { OnPending result ((x : _) → MayGive (Stepped S.Service S.Future.stepped C.Clock) self.new x → MayGive (Stepped S.Service S.Future.stepped C.Clock) self.old x) }
-        ensures registered { OnPending result (Covers cx.new (Needs ⟦<Oneshot<S, Request> as Future>⟧.needs self.new)) }
-        ensures kept { Keeps cx.old cx.new }
+        ensures { IsStep (Stepped S.Service S.Future.stepped C.Clock) (CanPoll S.sound ⟦<Oneshot<S, Request> as Future>⟧.can_poll) (Needs ⟦<Oneshot<S, Request> as Future>⟧.needs) self.old result self.new cx.old cx.new }
     {
         self.step(cx)
     }
@@ -74,6 +69,12 @@ where
     S: Service<Request>,
     C: Clock,
 {
+    type Output = Result<S::Response, Error<S::Error>>;
+
+    ghost can_poll = { CanPoll S.sound ⟦<Oneshot<S, Request> as Future>⟧.can_poll };
+
+    ghost needs = { Needs ⟦<Oneshot<S, Request> as Future>⟧.needs };
+
     ghost stepped = { Stepped S.Service S.Future.stepped C.Clock };
 
     fn step(&mut self, cx: &mut Context<'_>) -> Poll<Self::Output> {

@@ -2,7 +2,7 @@
 ghost use Rattle.std.specs.Prelude.{◌≡◌, Option, IfSome};
 ghost use Rattle.futures.specs.Poll.{OnPending, IfReady};
 ghost use Rattle.futures.specs.Task.{Covers, Keeps};
-ghost use Rattle.tower_base.specs.Gives.{MayGive};
+ghost use Rattle.tower_base.specs.Gives.{IsStep, MayGive};
 ghost use Rattle.tower_retry.specs.Latency.{ResponseFutureView, Stepped};
 
 use crate::hedge::latency::Record;
@@ -54,15 +54,10 @@ where
 
     ghost needs = { λ v. F.needs v.inner };
 
-    #[tactic(auto, using(tower_base::specs::GivesLemmas::gives_value, tower_base::specs::GivesLemmas::gives_same))]
+    #[tactic(auto, using(tower_base::specs::GivesLemmas::one_step))]
     fn poll(&mut self, cx: &mut Context<'_>) -> Poll<Self::Output>
         requires { F.can_poll self.old.inner × IfSome self.old.rec R.sound }
-        ensures step { Stepped F.Steps.own R.Record C.Clock self.old result self.new }
-        ensures value { IfReady result (MayGive (Stepped F.Steps.own R.Record C.Clock) self.old) }
-        ensures again { OnPending result (F.can_poll self.new.inner × IfSome self.new.rec R.sound) }
-        ensures same { OnPending result ((x : _) → MayGive (Stepped F.Steps.own R.Record C.Clock) self.new x → MayGive (Stepped F.Steps.own R.Record C.Clock) self.old x) }
-        ensures registered { OnPending result (Covers cx.new (F.needs self.new.inner)) }
-        ensures kept { Keeps cx.old cx.new }
+        ensures { IsStep (Stepped F.Steps.own R.Record C.Clock) (λ v. F.can_poll v.inner × IfSome v.rec R.sound) (λ v. F.needs v.inner) self.old result self.new cx.old cx.new }
     {
         self.step(cx)
     }
@@ -74,6 +69,12 @@ where
     F: Steps<Output = Result<T, E>>,
     C: Clock,
 {
+    type Output = Result<T, E>;
+
+    ghost can_poll = { λ v. F.can_poll v.inner × IfSome v.rec R.sound };
+
+    ghost needs = { λ v. F.needs v.inner };
+
     ghost stepped = { Stepped F.Steps.own R.Record C.Clock };
 
     fn step(&mut self, cx: &mut Context<'_>) -> Poll<Self::Output> {

@@ -2,7 +2,7 @@
 ghost use Rattle.std.specs.Prelude.{◌≡◌, Option, IfSome};
 ghost use Rattle.futures.specs.Poll.{OnPending, IfReady};
 ghost use Rattle.futures.specs.Task.{Covers, Keeps};
-ghost use Rattle.tower_base.specs.Gives.{MayGive};
+ghost use Rattle.tower_base.specs.Gives.{IsStep, MayGive};
 ghost use Rattle.tower_retry.specs.Select.{ResponseFutureView, Stepped, Needs};
 
 use crate::hedge::select::error::Error;
@@ -47,15 +47,10 @@ where
 
     ghost needs = { Needs AF.needs BF.needs };
 
-    #[tactic(auto, using(tower_base::specs::GivesLemmas::gives_value, tower_base::specs::GivesLemmas::gives_same))]
+    #[tactic(auto, using(tower_base::specs::GivesLemmas::one_step))]
     fn poll(&mut self, cx: &mut Context<'_>) -> Poll<Self::Output>
         requires { AF.can_poll self.old.a_fut × IfSome self.old.b_fut BF.can_poll }
-        ensures step { Stepped AF.Steps.own BF.Steps.own self.old result self.new }
-        ensures value { IfReady result (MayGive (Stepped AF.Steps.own BF.Steps.own) self.old) }
-        ensures again { OnPending result (AF.can_poll self.new.a_fut × IfSome self.new.b_fut BF.can_poll) }
-        ensures same { OnPending result ((x : _) → MayGive (Stepped AF.Steps.own BF.Steps.own) self.new x → MayGive (Stepped AF.Steps.own BF.Steps.own) self.old x) }
-        ensures registered { OnPending result (Covers cx.new (Needs AF.needs BF.needs self.new)) }
-        ensures kept { Keeps cx.old cx.new }
+        ensures { IsStep (Stepped AF.Steps.own BF.Steps.own) (λ v. AF.can_poll v.a_fut × IfSome v.b_fut BF.can_poll) (Needs AF.needs BF.needs) self.old result self.new cx.old cx.new }
     {
         self.step(cx)
     }
@@ -66,6 +61,12 @@ where
     AF: Steps<Output = Result<T, E>>,
     BF: Steps<Output = Result<T, G>>,
 {
+    type Output = Result<T, Error<E, G>>;
+
+    ghost can_poll = { λ f. AF.can_poll f.a_fut × IfSome f.b_fut BF.can_poll };
+
+    ghost needs = { Needs AF.needs BF.needs };
+
     ghost stepped = { Stepped AF.Steps.own BF.Steps.own };
 
     fn step(&mut self, cx: &mut Context<'_>) -> Poll<Self::Output> {

@@ -1,8 +1,7 @@
 //! The core of a budget.
-ghost use Rattle.std.specs.Prelude.{◌≡◌, ◌≢◌, pos, ◌≤◌, ◌<◌, ◌-◌, ◌+◌, ◌^◌, IfOk, IsTrue};
-ghost use Rattle.std.specs.Int.{div_ceil};
-ghost use Rattle.tower_retry.specs.Budget.{Fits, terms_of};
-ghost use Rattle.tower_retry.specs.Slots.{kept_sum};
+ghost use Rattle.std.specs.Prelude.{◌≡◌, ◌≢◌, ℕ, pos, ◌≤◌, ◌<◌, ◌+◌, ◌^◌, IfOk, IsTrue, nat_lt};
+ghost use Rattle.tower_retry.specs.Budget.{Fits, generation_at, terms_of};
+ghost use Rattle.tower_retry.specs.Slots.{kept_sum, slot};
 
 use crate::retry::budget::slots::Slots;
 use crate::retry::budget::steps::{BudgetReply, BudgetStep, Terms};
@@ -14,7 +13,10 @@ use tower_base::service::Fraction;
 #[derive(Drop)]
 pub struct BudgetCore {
     terms: Terms,
-    moment: u64,
+    made: u64,
+    generation: u64,
+    // The last moment of the present generation.
+    last: u64,
     present: i128,
     // The reserve and the slots, as one sum.
     older: i128,
@@ -22,12 +24,16 @@ pub struct BudgetCore {
     ghost windows: { terms.window ≢ 0 },
     ghost small: { terms.reserve < 2 ^ 127 },
     ghost summed: { older ≡ kept_sum (pos terms.reserve) slots.index slots.amounts.items 10 },
+    // The moments after the last one are those of later generations.
+    ghost ends: { (moment : ℕ) → moment < 2 ^ 64 → nat_lt last moment ≡ nat_lt generation (generation_at made terms.window moment) },
+    // Nothing was added before the first generation.
+    ghost begun: { (back : ℕ) → generation < back → back ≤ 10 → slot slots.index slots.amounts.items back ≡ pos 0 },
 }
 
 impl BudgetCore {
     ghost use Rattle.std.specs.Prelude.{int_le, pos, ◌↔◌};
     ghost use Rattle.tower_retry.specs.Budget.{Fits, Ledger, Withdraws, added, advanced, blank, terms_of};
-    ghost use Rattle.tower_retry.specs.BudgetCore.{Changes, Opens, StandsFor, kept_balance, later, writes};
+    ghost use Rattle.tower_retry.specs.BudgetCore.{Changes, Opens, StandsFor, kept_balance, writes};
 
     /// A budget at the moment of its making, with room for all that it will keep, or an error where there
     /// is none. Times are in nanoseconds. It asks for what `fits` tests.
@@ -46,7 +52,9 @@ impl BudgetCore {
         let terms = terms(ttl, min_per_sec, fraction);
         Ok(BudgetCore {
             terms,
-            moment,
+            made: moment,
+            generation: 0,
+            last: moment.saturating_add(terms.window - 1),
             present: 0,
             older: slots.sum(terms.reserve as i128),
             slots,
@@ -70,26 +78,29 @@ impl BudgetCore {
         ensures terms { self.new.terms ≡ self.old.terms }
         ensures writes { writes self.new ≤ writes self.old + 11 }
     {
-        let gap = moment.saturating_sub(self.moment);
-        if gap >= self.terms.window {
-            self.expire(moment, gap);
+        if moment > self.last {
+            self.expire(moment);
         }
     }
 
-    // An advance to another generation.
+    // An advance to a later generation.
     #[cold]
     #[inline(never)]
-    fn expire(&mut self, moment: u64, gap: u64)
-        requires { self.old.terms.window ≤ gap }
-        ensures changes { Changes (λ ledger. later ledger (div_ceil gap self.old.terms.window) moment) self.old self.new }
+    fn expire(&mut self, moment: u64)
+        requires { self.old.last < moment }
+        ensures changes { Changes (λ ledger. advanced ledger moment) self.old self.new }
         ensures terms { self.new.terms ≡ self.old.terms }
         ensures writes { writes self.new ≤ writes self.old + 11 }
     {
-        let generations = gap.div_ceil(self.terms.window);
-        self.slots.advance(self.present, generations);
+        let since = moment - self.made;
+        let generation = since / self.terms.window;
+        self.slots
+            .advance(self.present, generation - self.generation);
         self.older = self.slots.sum(self.terms.reserve as i128);
         self.present = 0;
-        self.moment = moment;
+        self.generation = generation;
+        let begins = moment - since % self.terms.window;
+        self.last = begins.saturating_add(self.terms.window - 1);
     }
 
     #[inline(always)]

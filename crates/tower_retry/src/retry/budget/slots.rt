@@ -2,8 +2,8 @@
 ghost use Rattle.std.specs.Prelude.{◌≡◌, ◌+◌, ◌<◌, ◌≤◌, IfOk, ◌%◌, pos, replicate, vec_len};
 ghost use Rattle.tower_retry.specs.Slots.{Moves, kept_sum};
 
-use crate::retry::budget::writes::Writes;
 use std::alloc::{AllocError, Global};
+use tower_base::counter::GhostCounter;
 
 /// What was added in each of the ten generations before the present one, in a ring. The slot at the
 /// index has the oldest, that of ten generations back.
@@ -11,7 +11,7 @@ use std::alloc::{AllocError, Global};
 pub struct Slots {
     amounts: Vec<i128>,
     index: usize,
-    writes: Writes,
+    writes: GhostCounter,
     ghost ten: { vec_len amounts ≡ 10 },
     ghost within: { index < 10 },
 }
@@ -24,7 +24,7 @@ impl Slots {
         Ok(Slots {
             amounts,
             index: 0,
-            writes: Writes::new(),
+            writes: GhostCounter::new(),
         })
     }
 

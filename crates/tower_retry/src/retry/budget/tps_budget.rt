@@ -93,7 +93,7 @@ impl<L: Latch<BudgetCore>, C: Clock> Budget for TpsBudget<L, C> {
 
 /// A clone shares the core and the clock.
 impl<L: Latch<BudgetCore>, C: Clock> Clone for TpsBudget<L, C> {
-    ghost is_clone = { IsClone L.gave C.Clock };
+    ghost is_clone = { IsClone L.gave L.shares C.Clock };
 
     fn clone(&self) -> Result<TpsBudget<L, C>, AllocError> {
         let latch = self.latch.share()?;

@@ -1,8 +1,6 @@
 //! The response of an optional service.
 ghost use Rattle.std.specs.Prelude.{◌≡◌, Option, IfSome, Some, None};
-ghost use Rattle.futures.specs.Poll.{IfReady, OnPending};
-ghost use Rattle.futures.specs.Task.{Covers, Keeps};
-ghost use Rattle.tower_base.specs.Gives.{MayGive};
+ghost use Rattle.tower_base.specs.Gives.{IsStep, MayGive};
 ghost use Rattle.tower_util.specs.Optional.{Stepped};
 
 use crate::util::optional::error::Error;
@@ -41,21 +39,22 @@ impl<F: Steps<Output = Result<T, E>>, T, E> Future for ResponseFuture<F> {
 
     ghost needs = { elim [ Some f ↦ F.needs f | None ↦ λ _. ⊥ ] };
 
-    #[tactic(auto, using(tower_base::specs::GivesLemmas::gives_value, tower_base::specs::GivesLemmas::gives_same))]
+    #[tactic(auto, using(tower_base::specs::GivesLemmas::one_step))]
     fn poll(&mut self, cx: &mut Context<'_>) -> Poll<Result<T, Error<E>>>
         requires { ⟦<ResponseFuture<F> as Future>⟧.can_poll self.old }
-        ensures step { Stepped F.stepped self.old result self.new }
-        ensures value { IfReady result (⟦<ResponseFuture<F> as Future>⟧.gives self.old) }
-        ensures again { OnPending result (⟦<ResponseFuture<F> as Future>⟧.can_poll self.new) }
-        ensures same { OnPending result ((x : _) → ⟦<ResponseFuture<F> as Future>⟧.gives self.new x → ⟦<ResponseFuture<F> as Future>⟧.gives self.old x) }
-        ensures registered { OnPending result (Covers cx.new (⟦<ResponseFuture<F> as Future>⟧.needs self.new)) }
-        ensures kept { Keeps cx.old cx.new }
+        ensures { IsStep (Stepped F.stepped) ⟦<ResponseFuture<F> as Future>⟧.can_poll ⟦<ResponseFuture<F> as Future>⟧.needs self.old result self.new cx.old cx.new }
     {
         self.step(cx)
     }
 }
 
 impl<F: Steps<Output = Result<T, E>>, T, E> Steps for ResponseFuture<F> {
+    type Output = Result<T, Error<E>>;
+
+    ghost can_poll = { λ t. IfSome t F.can_poll };
+
+    ghost needs = { elim [ Some f ↦ F.needs f | None ↦ λ _. ⊥ ] };
+
     ghost stepped = { Stepped F.stepped };
 
     fn step(&mut self, cx: &mut Context<'_>) -> Poll<Result<T, Error<E>>> {

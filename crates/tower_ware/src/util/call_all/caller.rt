@@ -7,7 +7,7 @@ ghost use Rattle.tower_ware.specs.CallAll.{Called, Flowed, GoesOn, Pass, view_of
 use crate::util::call_all::drive::Drive;
 use crate::util::call_all::error::Error;
 use futures::task::{Context, Poll};
-use tower_base::passes::PASSES;
+use tower_base::passes::TURNS;
 use tower_base::service::{Flow, Service};
 
 type Answer<A, E> = Poll<Option<Result<A, Error<E>>>>;
@@ -149,7 +149,7 @@ where
         ensures armed { OnPending result (IsArmed cx.new) }
         ensures kept { Keeps cx.old cx.new }
     {
-        for _pass in 0..PASSES {
+        for _pass in 0..TURNS {
             if let Some(answer) = self.pass(cx) {
                 return answer;
             }

@@ -1,9 +1,6 @@
 //! Calls whose answers are yielded in the order of the requests.
-ghost use Rattle.std.specs.Prelude.{◌≡◌, [], All, IfSome, IsSome, IsTrue, OnSome, ◌↔◌, None, Some, false};
-ghost use Rattle.futures.specs.Poll.{IfReady, OnPending};
-ghost use Rattle.futures.specs.Runs.{After, Within};
-ghost use Rattle.futures.specs.Task.{Covers, Keeps};
-ghost use Rattle.tower_base.specs.Gives.{MayYield};
+ghost use Rattle.std.specs.Prelude.{◌≡◌, All, IsSome, IsTrue, ◌↔◌, None, Some, false};
+ghost use Rattle.tower_base.specs.Gives.{IsFlow, MayYield};
 ghost use Rattle.tower_ware.specs.CallAll.{CallAllFlowed, CallerView, CanFlow, New, view_of};
 ghost use Rattle.tower_ware.specs.Line.{MayAsk};
 ghost use Rattle.tower_ware.specs.declared.util.call_all.slot.Slot.{Slot};
@@ -123,17 +120,10 @@ where
 
     ghost yields = { MayYield (CallAllFlowed Svc.Service S.Flow.own Svc.Future.Steps.own Svc.Future.can_poll) };
 
-    #[tactic(auto, using(tower_base::specs::GivesLemmas::yields_value, tower_base::specs::GivesLemmas::yields_rest, tower_base::specs::GivesLemmas::yields_same))]
+    #[tactic(auto, using(tower_base::specs::GivesLemmas::one_flow))]
     fn poll_next(&mut self, cx: &mut Context<'_>) -> Poll<Option<Self::Item>>
         requires { CanFlow Svc.sound (λ q. All (MayAsk Svc.Future.can_poll) q.calls) S.can_poll self.old }
-        ensures flow { CallAllFlowed Svc.Service S.Flow.own Svc.Future.Steps.own Svc.Future.can_poll self.old result self.new }
-        ensures value { IfReady result (MayYield (CallAllFlowed Svc.Service S.Flow.own Svc.Future.Steps.own Svc.Future.can_poll) self.old []) }
-        ensures rest { IfReady result (λ o. IfSome o (λ x. After (MayYield (CallAllFlowed Svc.Service S.Flow.own Svc.Future.Steps.own Svc.Future.can_poll) self.old) x (MayYield (CallAllFlowed Svc.Service S.Flow.own Svc.Future.Steps.own Svc.Future.can_poll) self.new))) }
-        ensures goes { IfReady result (λ o. OnSome o (CanFlow Svc.sound (λ q. All (MayAsk Svc.Future.can_poll) q.calls) S.can_poll self.new)) }
-        ensures again { OnPending result (CanFlow Svc.sound (λ q. All (MayAsk Svc.Future.can_poll) q.calls) S.can_poll self.new) }
-        ensures same { OnPending result (Within (MayYield (CallAllFlowed Svc.Service S.Flow.own Svc.Future.Steps.own Svc.Future.can_poll) self.old) (MayYield (CallAllFlowed Svc.Service S.Flow.own Svc.Future.Steps.own Svc.Future.can_poll) self.new)) }
-        ensures registered { OnPending result (Covers cx.new (λ _. ⊥)) }
-        ensures kept { Keeps cx.old cx.new }
+        ensures { IsFlow (CallAllFlowed Svc.Service S.Flow.own Svc.Future.Steps.own Svc.Future.can_poll) (CanFlow Svc.sound (λ q. All (MayAsk Svc.Future.can_poll) q.calls) S.can_poll) (λ _ _. ⊥) self.old result self.new cx.old cx.new }
     {
         self.flow(cx)
     }

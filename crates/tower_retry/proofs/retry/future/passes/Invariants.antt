@@ -6,6 +6,6 @@ use Rattle.tower_retry.proofs.retry.future.passes.Given as goal
 abbrev pub invariant-loop-pass : goal.invariant-loop-pass
 invariant-loop-pass g l = record {
   went : Goes (Pass g.S.Service g.S.Future.Steps.stepped g.P.Policy g.P.Future.Steps.stepped) l._pass l.fn.attempts l.attempts;
-  sound : Sound g.P.Policy.sound g.S.Service.sound g.S.Future.Future.can_poll g.P.Future.Future.can_poll l.attempts;
+  sound : Sound g.P.Policy.sound g.S.Service.sound g.S.Future.Steps.can_poll g.P.Future.Steps.can_poll l.attempts;
   kept : Keeps l.fn.cx l.cx;
 }

@@ -1,7 +1,7 @@
-use Rattle.std.proofs.Common.{◌≡◌, ◌<◌, ℕ, List, length}
+use Rattle.std.proofs.Common.{All, ◌≡◌, ◌<◌, ℕ, List, length}
 use Rattle.std.specs.VecDeque.{deque_capacity}
 use Rattle.futures.specs.Task.{Keeps}
-use Rattle.tower_ware.specs.Steer.{EachPolled, Standing}
+use Rattle.tower_ware.specs.Steer.{EachPolled, Rested}
 use Rattle.tower_ware.proofs.steer.SteerService.poll_ready.Given as goal
 
 abbrev pub invariant-loop-front : goal.invariant-loop-front
@@ -10,7 +10,10 @@ invariant-loop-front g l = record {
   asked : (a : _) (rest : List ℕ) (ts : List _) → EachPolled g.S.Service.polled l.self-inside.listed.items l.self-inside.services.items a rest ts
       → EachPolled g.S.Service.polled l.fn.self.listed l.fn.self.services a rest ts;
   chooses : g.F.Picker.sound l.self-inside.picker;
-  standing : Standing g.S.Service.sound g.S.Service.ready l.self-inside.services.items l.self-inside.listed.items;
+  each : All g.S.Service.sound l.self-inside.services.items;
+  some : 0 < length l.self-inside.services.items;
+  inside : All (λ i. i < length l.self-inside.services.items) l.self-inside.listed.items;
+  rested : Rested g.S.Service.ready l.self-inside.services.items l.self-inside.listed.items;
   room : deque_capacity l.self-inside.listed ≡ l.fn.self.room;
   fits : 0 < l.fn.self.room;
   kept : Keeps l.fn.cx l.cx;

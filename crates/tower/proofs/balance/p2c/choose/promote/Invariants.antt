@@ -6,10 +6,10 @@ use Rattle.tower.proofs.balance.p2c.choose.promote.Given as goal
 
 abbrev pub invariant-loop : goal.invariant-loop
 invariant-loop g l = record {
-  goes : (answer : _) (new : _) → Promotes {X = g.row.X.Denot} g.K.PartialEq.eq g.S.Service l.services answer new → Promotes {X = g.row.X.Denot} g.K.PartialEq.eq g.S.Service l.fn.services answer new;
-  sound : Sound g.S.Service.sound l.services;
+  goes : (answer : _) (new : _) → Promotes {X = g.row.X.Denot} g.K.PartialEq.eq g.S.Service l.services.lists answer new → Promotes {X = g.row.X.Denot} g.K.PartialEq.eq g.S.Service l.fn.services.lists answer new;
+  sound : Sound g.S.Service.sound l.services.lists;
   kept : Keeps l.fn.cx l.cx;
 }
 
 abbrev pub decreases-loop : goal.decreases-loop
-decreases-loop g l = length l.services.pending
+decreases-loop g l = length l.services.lists.pending

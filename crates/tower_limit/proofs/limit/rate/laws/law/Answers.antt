@@ -1,9 +1,5 @@
 use Rattle.tower_limit.proofs.RateBound
-use Rattle.tower_limit.proofs.RateTight
 use Rattle.tower_limit.proofs.limit.rate.laws.law.Goals as goal
 
-pub returns-clause-bounded : goal.returns-clause-bounded
-returns-clause-bounded c = RateBound.bounded
-
-pub returns-clause-reached : goal.returns-clause-reached
-returns-clause-reached c = RateTight.reached
+pub returns : goal.returns
+returns c = record { bounded = RateBound.bounded }

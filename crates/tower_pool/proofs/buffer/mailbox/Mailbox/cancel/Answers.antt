@@ -1,7 +1,8 @@
 use Rattle.std.proofs.Common.{◌≡◌, ◌≤◌, ◌+◌, ◌-◌, true, false, None, is_some, ◌∙◌, inr, refl, sym, ap, arith, length}
 use Rattle.slab.specs.Slab.{get, slab_len}
 use Rattle.tower_base.specs.Order.{has}
-use Rattle.tower_pool.proofs.KeysLemmas.{apart_is, length_without, without_lacks}
+use Rattle.tower_limit.proofs.KeysLemmas.{length_without, without_lacks}
+use Rattle.tower_pool.proofs.KeysLemmas.{apart_is}
 use Rattle.tower_pool.proofs.LineMoves.{Kept, absent_lacks, admits_size, admits_stands, admits_well, count_some, gives_up, has_some, kept_apart, kept_count, kept_from, kept_gone, kept_left, kept_present, kept_taken, leaves_line, no_shorter, nobody_left, shorter, stands_gone}
 use Rattle.tower_pool.proofs.buffer.mailbox.Mailbox.cancel.Goals as goal
 

@@ -1,7 +1,7 @@
 use Rattle.std.proofs.Common.{◌≡◌, ◌≤◌, ◌-◌, ◌+◌, true, false, None, is_some, ◌∙◌, refl, sym, ap, arith, length}
 use Rattle.slab.specs.Slab.{get, slab_len}
 use Rattle.tower_base.specs.Order.{has}
-use Rattle.tower_pool.proofs.KeysLemmas.{without_lacks}
+use Rattle.tower_limit.proofs.KeysLemmas.{without_lacks}
 use Rattle.tower_pool.proofs.LineMoves.{Kept, count_some, kept_apart, kept_count, kept_from, kept_gone, kept_grown, kept_present, kept_taken, nobody, sees, stands_as, stands_gone, stands_grown, waits_still}
 use Rattle.tower_pool.proofs.buffer.mailbox.Mailbox.look.Goals as goal
 

@@ -77,7 +77,8 @@ returns-then-is_err-clause-sound g c =
     let q = entry_of c.unwrap-key.result in
     let mid = c.take_first.new.self.items in
     let take = c.take_first.ensures.items ∙ ap (λ r. option_map_or (λ e. entry_of e ∷ c.take_first.new.self.items) r []) c.unwrap-key.ensures in
-    sound_last g.K.PartialEq.eq g.S.Service.sound _ _ refl c.requires.sound q mid take c.reserve.new.self.entries c.append.new.self.items (entry_of (q.key, q.service, false)) c.reserve.ensures.entries (sound_first g.K.PartialEq.eq g.S.Service.sound _ _ refl c.requires.sound q mid take) c.append.ensures.items
+    let alive : q.cancelled ≡ false = search rules in
+    sound_last g.K.PartialEq.eq g.S.Service.sound _ _ refl c.requires.sound q mid take c.reserve.new.self.entries c.append.new.self.items (entry_of (q.key, q.service, false)) c.reserve.ensures.entries (sound_first g.K.PartialEq.eq g.S.Service.sound _ _ refl c.requires.sound q mid take alive) c.append.ensures.items
 
 pub returns-in-Pending-clause-sound : goal.returns-in-Pending-clause-sound
 returns-in-Pending-clause-sound g c =
@@ -107,7 +108,8 @@ poll_ready-requires g c =
     let q = entry_of c.unwrap-key.result in
     let mid = c.take_first.new.self.items in
     let take = c.take_first.ensures.items ∙ ap (λ r. option_map_or (λ e. entry_of e ∷ c.take_first.new.self.items) r []) c.unwrap-key.ensures in
-    sound_first g.K.PartialEq.eq g.S.Service.sound _ _ refl c.requires.sound q mid take
+    let alive : q.cancelled ≡ false = search rules in
+    sound_first g.K.PartialEq.eq g.S.Service.sound _ _ refl c.requires.sound q mid take alive
 
 pub returns-in-Pending-clause-asked : goal.returns-in-Pending-clause-asked
 returns-in-Pending-clause-asked g c =

@@ -1,5 +1,5 @@
-use Rattle.std.proofs.Common.{All, ◌||◌, sym, subst, ◌∙◌}
-use Rattle.tower_pool.specs.ReadyCache.{At, Sound, awaited}
+use Rattle.std.proofs.Common.{All, ◌||◌, ap, sym, subst, ◌∙◌}
+use Rattle.tower_pool.specs.ReadyCache.{Askable, At, Sound, awaited}
 use Rattle.tower_pool.specs.Waiters.{knows}
 use Rattle.tower_pool.proofs.CacheLemmas.{called_of, same_view}
 use Rattle.tower_pool.proofs.KeptLemmas.{kept_back, known_at}
@@ -26,8 +26,8 @@ returns-clause-called g c =
     let u = c.unwrap-key.result in
     let es = c.self.inside.ready.entries in
     let there = sym c.swap_remove_index.ensures.entry ∙ c.unwrap-key.ensures in
-    let at = subst (λ v. At v.ready c.args.index (λ e. g.S.Service.ready e.1)) (sym c.self.view_is) c.requires.ready in
-    called_of g.K.PartialEq.eq g.S.Service _ _ c.self.view_is c.args.index c.args.request _ _ u c.call-future.new.self there
+    let at = subst (λ v. At v.lists.ready c.args.index (λ e. g.S.Service.ready e.1)) (sym c.self.view_is) c.requires.ready in
+    called_of g.K.PartialEq.eq g.S.Service _ _ (ap (λ v. v.lists) c.self.view_is) c.args.index c.args.request _ _ u c.call-future.new.self there
     (subst (λ p. g.S.Service.ready p.1) (sym (taken es c.args.index at.0 u at.1 there)) at.2) c.call-future.ensures.called
     (same_view _ _ _ _ (for_some _ u _ c.unwrap-key.ensures c.swap_remove_index.ensures.entries) c.put_back.ensures.items)
 
@@ -35,10 +35,10 @@ pub returns-clause-sound : goal.returns-clause-sound
 returns-clause-sound g c =
     let u = c.unwrap-key.result in
     let there = sym c.swap_remove_index.ensures.entry ∙ c.unwrap-key.ensures in
-    let s = subst (Sound g.S.Service.sound) (sym c.self.view_is) c.requires.sound in
+    let s = subst (λ v. Sound g.S.Service.sound v.lists) (sym c.self.view_is) c.requires.sound in
     record {
       ready = subst (All (λ e. g.S.Service.sound e.1)) (sym (for_some _ u _ c.unwrap-key.ensures c.swap_remove_index.ensures.entries))
           (All-swap_remove (λ e. g.S.Service.sound e.1) _ _ _ (inside _ _ _ there) s.ready);
-      pending = subst (All (λ p. g.S.Service.sound p.service)) (sym c.put_back.ensures.items)
+      pending = subst (All (Askable g.S.Service.sound)) (sym c.put_back.ensures.items)
           (All-put_back _ g.met.K.Eq.laws g.S.Service.sound _ _ _ c.call-future.ensures.sound s.pending);
     }

@@ -1,6 +1,6 @@
 use Rattle.std.proofs.Common.{All, rules, ◌||◌, Err, is_some, refl, sym, ap, subst, ◌∙◌, arith}
 use Rattle.futures.specs.declared.task.Poll.TheVariants.{Ready}
-use Rattle.tower_pool.specs.ReadyCache.{Sound, awaited, put_back}
+use Rattle.tower_pool.specs.ReadyCache.{Askable, Sound, awaited, put_back}
 use Rattle.tower_pool.specs.Waiters.{knows}
 use Rattle.indexmap.specs.IndexMap.{set_value_at}
 use Rattle.tower_pool.proofs.CacheLemmas.{checked_of, same_view}
@@ -48,7 +48,7 @@ invariant_of-self-in-Pending g c =
 pub returns-in-Ready-Ok-clause-checked : goal.returns-in-Ready-Ok-clause-checked
 returns-in-Ready-Ok-clause-checked g c =
     let came = rw c.in-Ready-Ok.field-0-is at c.in-Ready-Ok.ensures.polled in
-    checked_of g.K.PartialEq.eq g.S.Service _ _ c.self.view_is c.args.index _ _ _ _ c.poll_ready.new.self c.pair_mut-service.ensures.value came (refl, refl)
+    checked_of g.K.PartialEq.eq g.S.Service _ _ (ap (λ v. v.lists) c.self.view_is) c.args.index _ _ _ _ c.poll_ready.new.self c.pair_mut-service.ensures.value came (refl, refl)
 
 pub returns-in-Ready-Ok-clause-ready : goal.returns-in-Ready-Ok-clause-ready
 returns-in-Ready-Ok-clause-ready g c = λ e.
@@ -57,7 +57,7 @@ returns-in-Ready-Ok-clause-ready g c = λ e.
 
 pub returns-in-Ready-Ok-clause-sound : goal.returns-in-Ready-Ok-clause-sound
 returns-in-Ready-Ok-clause-sound g c =
-    let s = subst (Sound g.S.Service.sound) (sym c.self.view_is) c.requires in
+    let s = subst (λ v. Sound g.S.Service.sound v.lists) (sym c.self.view_is) c.requires in
     record { ready = All-written g.S.Service.sound _ _ _ c.poll_ready.ensures.sound s.ready; pending = s.pending }
 
 pub returns-in-Ready-Err-clause-checked : goal.returns-in-Ready-Err-clause-checked
@@ -71,17 +71,17 @@ returns-in-Ready-Err-clause-checked g c =
     let there = sym c.swap_remove_index.ensures.entry ∙ c.unwrap-key.ensures in
     let is = taken _ c.args.index _ c.unwrap-key.result (at_written es c.args.index k v w at) there in
     let out = for_some _ c.unwrap-key.result _ c.unwrap-key.ensures c.swap_remove_index.ensures.entries in
-    (checked_of g.K.PartialEq.eq g.S.Service _ _ c.self.view_is c.args.index _ _ (k, v) _ w at came
+    (checked_of g.K.PartialEq.eq g.S.Service _ _ (ap (λ v. v.lists) c.self.view_is) c.args.index _ _ (k, v) _ w at came
     ((λ j. Err (record { 0 = (is j).0; 1 = c.in-Ready-Err.error })), same_view _ _ _ _ (out ∙ swap_written es c.args.index w _ (k, v) (within es c.args.index _ at)) c.let_go.ensures.items))
 
 pub returns-in-Ready-Err-clause-sound : goal.returns-in-Ready-Err-clause-sound
 returns-in-Ready-Err-clause-sound g c =
-    let s = subst (Sound g.S.Service.sound) (sym c.self.view_is) c.requires in
+    let s = subst (λ v. Sound g.S.Service.sound v.lists) (sym c.self.view_is) c.requires in
     let there = sym c.swap_remove_index.ensures.entry ∙ c.unwrap-key.ensures in
     record {
       ready = subst (All (λ e. g.S.Service.sound e.1)) (sym (for_some _ c.unwrap-key.result _ c.unwrap-key.ensures c.swap_remove_index.ensures.entries))
           (All-swap_remove (λ e. g.S.Service.sound e.1) _ _ _ (inside _ _ _ there) (All-written g.S.Service.sound _ _ _ c.poll_ready.ensures.sound s.ready));
-      pending = subst (All (λ p. g.S.Service.sound p.service)) (sym c.let_go.ensures.items) s.pending;
+      pending = subst (All (Askable g.S.Service.sound)) (sym c.let_go.ensures.items) s.pending;
     }
 
 pub returns-in-Pending-clause-checked : goal.returns-in-Pending-clause-checked
@@ -95,7 +95,7 @@ returns-in-Pending-clause-checked g c =
     let there = sym c.swap_remove_index-in-Pending.ensures.entry ∙ c.unwrap-key-in-Pending.ensures in
     let is = taken _ c.args.index _ u (at_written es c.args.index k v w at) there in
     let out = for_some _ u _ c.unwrap-key-in-Pending.ensures c.swap_remove_index-in-Pending.ensures.entries in
-    (checked_of g.K.PartialEq.eq g.S.Service _ _ c.self.view_is c.args.index _ _ (k, v) _ w at c.in-Pending.ensures.polled (
+    (checked_of g.K.PartialEq.eq g.S.Service _ _ (ap (λ v. v.lists) c.self.view_is) c.args.index _ _ (k, v) _ w at c.in-Pending.ensures.polled (
       refl,
       same_view _ _ _ _ (out ∙ swap_written es c.args.index w _ (k, v) (within es c.args.index _ at))
           (c.put_back.ensures.items ∙ ap (λ p. put_back g.K.PartialEq.eq p.0 p.1 c.self.inside.pending.items) is),
@@ -103,7 +103,7 @@ returns-in-Pending-clause-checked g c =
 
 pub returns-in-Pending-clause-sound : goal.returns-in-Pending-clause-sound
 returns-in-Pending-clause-sound g c =
-    let s = subst (Sound g.S.Service.sound) (sym c.self.view_is) c.requires in
+    let s = subst (λ v. Sound g.S.Service.sound v.lists) (sym c.self.view_is) c.requires in
     let es = c.self.inside.ready.entries in
     let w = c.poll_ready.new.self in
     let there = sym c.swap_remove_index-in-Pending.ensures.entry ∙ c.unwrap-key-in-Pending.ensures in
@@ -111,6 +111,6 @@ returns-in-Pending-clause-sound g c =
     record {
       ready = subst (All (λ e. g.S.Service.sound e.1)) (sym (for_some _ c.unwrap-key-in-Pending.result _ c.unwrap-key-in-Pending.ensures c.swap_remove_index-in-Pending.ensures.entries))
           (All-swap_remove (λ e. g.S.Service.sound e.1) _ _ _ (inside _ _ _ there) (All-written g.S.Service.sound _ _ _ c.poll_ready.ensures.sound s.ready));
-      pending = subst (All (λ p. g.S.Service.sound p.service)) (sym c.put_back.ensures.items)
+      pending = subst (All (Askable g.S.Service.sound)) (sym c.put_back.ensures.items)
           (All-put_back _ g.met.K.Eq.laws g.S.Service.sound _ _ _ (subst (λ p. g.S.Service.sound p.1) (sym is) c.poll_ready.ensures.sound) s.pending);
     }

@@ -1,5 +1,5 @@
 use Rattle.std.proofs.Common.{All, sym, subst, arith}
-use Rattle.tower_pool.specs.ReadyCache.{Sound}
+use Rattle.tower_pool.specs.ReadyCache.{Askable, Sound}
 use Rattle.tower_pool.proofs.PlaceLemmas.{All-swap_remove_entry}
 use Rattle.tower_pool.specs.Waiters.{knows}
 use Rattle.tower_pool.proofs.KeptLemmas.{kept_evicted}
@@ -14,8 +14,8 @@ invariant_of-self g c =
 
 pub returns-clause-sound : goal.returns-clause-sound
 returns-clause-sound g c = λ h.
-    let s = subst (Sound g.S.Service.sound) (sym c.self.view_is) h in
+    let s = subst (λ v. Sound g.S.Service.sound v.lists) (sym c.self.view_is) h in
     record {
       ready = subst (All (λ e. g.S.Service.sound e.1)) (sym c.swap_remove.ensures.entries) (All-swap_remove_entry (λ e. g.S.Service.sound e.1) _ _ s.ready);
-      pending = subst (All (λ p. g.S.Service.sound p.service)) (sym c.evict-was_pending.ensures.items) (All-cancel g.K.PartialEq.eq c.args.key.now g.S.Service.sound c.self.inside.pending.items s.pending);
+      pending = subst (All (Askable g.S.Service.sound)) (sym c.evict-was_pending.ensures.items) (All-cancel g.K.PartialEq.eq c.args.key.now g.S.Service.sound c.self.inside.pending.items s.pending);
     }

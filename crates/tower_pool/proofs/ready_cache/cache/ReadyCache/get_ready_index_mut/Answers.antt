@@ -13,6 +13,6 @@ returns g c = (
   rw (← c.self.view_is),
   record {
     writes_back = tt;
-    value = c.get_index_mut.ensures.value ∙ value_there c.self.inside.ready.entries c.args.index ∙ ap (λ v. option_map (λ e. e.1) (slice_get v.ready c.args.index)) c.self.view_is;
+    value = c.get_index_mut.ensures.value ∙ value_there c.self.inside.ready.entries c.args.index ∙ ap (λ v. option_map (λ e. e.1) (slice_get v.lists.ready c.args.index)) c.self.view_is;
   },
 )

@@ -13,7 +13,7 @@ invariant_of-self g c =
 
 pub returns-clause-sound : goal.returns-clause-sound
 returns-clause-sound g c = λ h now.
-    let s = subst (Sound g.S.Service.sound) (sym c.self.view_is) h in
+    let s = subst (λ v. Sound g.S.Service.sound v.lists) (sym c.self.view_is) h in
     record {
       ready = s.ready;
       pending = sound_push g.K.PartialEq.eq g.S.Service.sound c.push.result c.args.key c.args.service c.self.inside.ready.entries c.self.inside.pending.items c.push.new.self.items c.push.ensures.items c.push.ensures.same now s.pending;

@@ -1,6 +1,7 @@
 use Rattle.tower_base.specs.LatchLemmas.{is_run}
 use Rattle.tower_retry.proofs.BudgetCoreLemmas.{sums_kept}
 use Rattle.tower_retry.proofs.BudgetHistoryLemmas.{answered_by_sums}
+use Rattle.tower_retry.proofs.BudgetWindowLemmas.{counts_for_ten_windows}
 use Rattle.tower_retry.proofs.retry.budget.laws.law.Goals as goal
 
 pub returns-clause-follows : goal.returns-clause-follows
@@ -11,3 +12,6 @@ returns-clause-sums c = sums_kept
 
 pub returns-clause-history : goal.returns-clause-history
 returns-clause-history c = answered_by_sums
+
+pub returns-clause-windows : goal.returns-clause-windows
+returns-clause-windows c = counts_for_ten_windows

@@ -9,7 +9,7 @@ invariant-loop-i g l = record {
   asked : (a : Option _) (gs : List _) → EachAsked g.F.Steps (drop l.i l.futures.items) a gs
       → EachAsked g.F.Steps l.fn.futures.items a (take l.i l.futures.items ++ gs);
   count : vec_len l.futures ≡ l.i-end;
-  again : All g.F.Future.can_poll l.futures.items;
+  again : All g.F.Steps.can_poll l.futures.items;
   room : vec_capacity l.futures ≡ vec_capacity l.fn.futures;
   armed : 0 < l.i → IsArmed l.cx;
   size : vec_len l.fn.futures ≡ l.i-end;

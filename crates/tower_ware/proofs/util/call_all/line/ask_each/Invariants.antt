@@ -11,7 +11,7 @@ invariant-loop-i g l = record {
   done : (k : ℕ) (d : _) → k < l.i → k < length l.fn.slots.items
       → SlotAsked g.F.Steps (slice_index_or l.fn.slots.items k d) (slice_index_or l.slots.items k d);
   todo : (k : ℕ) (d : _) → l.i ≤ k → slice_index_or l.slots.items k d ≡ slice_index_or l.fn.slots.items k d;
-  again : All (MayAsk g.F.Future.can_poll) l.slots.items;
+  again : All (MayAsk g.F.Steps.can_poll) l.slots.items;
   room : deque_capacity l.slots ≡ deque_capacity l.fn.slots;
   kept : Keeps l.fn.cx l.cx;
 }

@@ -13,4 +13,4 @@ returns-clause-changes c = λ l s.
     let sum = to_z-of_z w128 _ (search rules) ∙ c.saturating_add-self.ensures
     ∙ ap (λ (z : ℤ). saturate_signed w128 (z +ℤ to_z w128 (of_z w128 c.args.amount))) there
     ∙ ap (λ (z : ℤ). saturate_signed w128 (old.present +ℤ z)) more in
-    adds old _ l c.args.amount sum s refl refl refl
+    adds old _ l c.args.amount sum s refl refl refl refl

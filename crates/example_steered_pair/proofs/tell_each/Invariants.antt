@@ -1,4 +1,0 @@
-use Rattle.example_steered_pair.proofs.tell_each.Given as goal
-
-abbrev pub invariant-loop-request : goal.invariant-loop-request
-invariant-loop-request g l = g.S.Service.sound l.service

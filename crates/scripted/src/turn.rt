@@ -1,0 +1,59 @@
+//! What a script changes around a service.
+
+use crate::command::{Side, Turn, readiness_list, replies_list};
+use std::alloc::{AllocError, Global};
+use tests_support::script::Script;
+use tests_support::story::Stage;
+
+/// What came of a change.
+#[derive(Clone, Copy, Debug, PartialEq, Eq)]
+pub(crate) enum Turned {
+    Done,
+    /// There is no such call, or it has its answer.
+    Skipped,
+    /// Its words can't be read.
+    Unread,
+}
+
+fn readiness(alloc: Global, plan: &Script<'_>, text: &str) -> Result<Turned, AllocError> {
+    match readiness_list(alloc, text)? {
+        Some(list) => {
+            plan.moods(list.as_slice());
+            Ok(Turned::Done)
+        }
+        None => Ok(Turned::Unread),
+    }
+}
+
+fn replies(alloc: Global, plan: &Script<'_>, text: &str) -> Result<Turned, AllocError> {
+    match replies_list(alloc, text)? {
+        Some(list) => {
+            plan.replies(list.as_slice());
+            Ok(Turned::Done)
+        }
+        None => Ok(Turned::Unread),
+    }
+}
+
+fn plan_of<'s, 'a>(stage: &'s Stage<'a>, side: Side) -> &'s Script<'a> {
+    match side {
+        Side::Services => &stage.script,
+        Side::Others => &stage.others,
+    }
+}
+
+/// Makes the change.
+pub(crate) fn turn(alloc: Global, stage: &Stage<'_>, turn: Turn<'_>) -> Result<Turned, AllocError> {
+    match turn {
+        Turn::At(moment) => stage.moment.set(moment),
+        Turn::Clones(side, clones) => plan_of(stage, side).clones(clones),
+        Turn::Answer(side, call, answer) => {
+            if !plan_of(stage, side).answer(call, answer) {
+                return Ok(Turned::Skipped);
+            }
+        }
+        Turn::Readiness(side, text) => return readiness(alloc, plan_of(stage, side), text),
+        Turn::Replies(side, text) => return replies(alloc, plan_of(stage, side), text),
+    }
+    Ok(Turned::Done)
+}

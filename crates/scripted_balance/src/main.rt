@@ -1,0 +1,47 @@
+//! Scripts of `tower::{balance, load, ready_cache}`, in data/.
+#![tactic(auto)]
+
+mod around;
+mod balance;
+mod cache;
+mod findings;
+mod fleet;
+mod load;
+mod make;
+mod words;
+
+use crate::fleet::Never;
+use scripted::player::Services;
+use scripted::program::run;
+use scripted::report::Report;
+use scripted::script::Script;
+use std::alloc::AllocError;
+use std::io;
+use std::sync::Wait;
+
+// The services of this program.
+#[derive(Drop)]
+struct Balances<R> {
+    rt: R,
+}
+
+impl<R: Wait + Copy> Services for Balances<R> {
+    fn play(&self, script: &Script<'_>, report: &mut Report<'_>) -> Result<(), AllocError> {
+        if !script.knows(&["layer"]) {
+            return script.unread(report);
+        }
+        match script.name() {
+            "balance" => balance::play::<u8>(script, report),
+            "balance_never" => balance::play::<Never>(script, report),
+            "make_balance" => make::play(script, report),
+            "ready_cache" => cache::play(script, report),
+            "constant" => load::play_constant(script, report),
+            "pending_requests" => load::play_pending_requests(self.rt, script, report),
+            _ => script.unread(report),
+        }
+    }
+}
+
+fn main(rt: HostRuntime) -> io::Result<()> {
+    run(&rt, &Balances { rt })
+}

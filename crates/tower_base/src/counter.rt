@@ -1,0 +1,40 @@
+//! A count that contracts alone see. It takes no bytes, and its calls do nothing at run time.
+ghost use Rattle.std.specs.Prelude.{◌≡◌, ℕ, ◌+◌};
+ghost use Rattle.std.specs.Borrow.{ftrue};
+
+use std::marker::{Model, PhantomData};
+use std::mem::size_of;
+
+/// A number that only contracts see, such as how many entries a structure has reached. Only `tick` changes it.
+#[derive(Drop)]
+pub struct GhostCounter {
+    marker: PhantomData<u8>,
+    pub ghost count: { ℕ },
+}
+
+impl Model for GhostCounter {
+    ghost also_owns = { λ _. ftrue };
+}
+
+// It owns nothing, so it may go to another thread.
+unsafe impl Send for GhostCounter {}
+
+unsafe impl Sync for GhostCounter {}
+
+const _: () = prove!(size_of::<GhostCounter>() == 0);
+
+impl GhostCounter {
+    pub fn new() -> GhostCounter
+        ensures { result.count ≡ 0 }
+    {
+        GhostCounter {
+            marker: PhantomData,
+        }
+    }
+
+    /// Counts one more.
+    #[inline(always)]
+    pub fn tick(&mut self)
+        ensures { self.new.count ≡ self.old.count + 1 }
+    {}
+}

@@ -1,0 +1,35 @@
+//! What holds of every run.
+ghost use Rattle.tower_base.specs.ServiceRun.{RunsMake, relations};
+ghost use Rattle.tower_base.specs.Projection.{DrivesProject, Once, OnceIsSame, Projects};
+
+use crate::run::Contains;
+use crate::service::Service;
+
+/// Every run of `drive` is a run of its service, which makes just the requests whose entries say
+/// `Called`, in their order.
+pub fn law<Request, S, T, U, O>()
+where
+    S: Service<Request>,
+    O: FnMut(T) -> U,
+    ensures { RunsMake S.Service S.Future.stepped O.step }
+{}
+
+/// Every run of `drive` is a run of the service inside, which makes there what goes inside for each request.
+pub fn inside<Request, Passed, L, W, T, U, O>()
+where
+    L: Service<Passed>,
+    W: Contains<Request, Passed, L>,
+    O: FnMut(T) -> U,
+    ensures { DrivesProject W.Service W.Future.stepped O.step (relations L.Service) W.inside W.goes }
+{}
+
+/// Projections compose: what is inside of the service inside is inside.
+pub fn compose<Request, S: Service<Request>, M: Service<Request>, I: Service<Request>>()
+    ensures { (outside : S → M) (inside : M → I) → Projects (relations S.Service) (relations M.Service) outside Once
+        → Projects (relations M.Service) (relations I.Service) inside Once → Projects (relations S.Service) (relations I.Service) (λ s. inside (outside s)) Once }
+{}
+
+/// If each request goes inside once, the requests inside are those outside, in their order.
+pub fn once<Request>()
+    ensures { OnceIsSame Request }
+{}

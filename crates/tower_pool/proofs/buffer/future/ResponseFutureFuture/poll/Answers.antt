@@ -1,9 +1,0 @@
-use Rattle.tower_base.specs.GivesLemmas.{gives_value, gives_same}
-use Rattle.tower_pool.specs.Buffer.{Stepped}
-use Rattle.tower_pool.proofs.buffer.future.ResponseFutureFuture.poll.Goals as goal
-
-pub returns-clause-value : goal.returns-clause-value
-returns-clause-value g c = gives_value (Stepped g.L.Latch.gave g.F.Steps.stepped) _ _ _ c.step.ensures.step
-
-pub returns-clause-same : goal.returns-clause-same
-returns-clause-same g c = gives_same (Stepped g.L.Latch.gave g.F.Steps.stepped) _ _ _ c.step.ensures.step

@@ -1,6 +1,0 @@
-use Rattle.tower_base.specs.GivesLemmas.{gives_value}
-use Rattle.tower_retry.specs.Hedge.{Stepped}
-use Rattle.tower_retry.proofs.hedge.future.FuturePolled.poll.Goals as goal
-
-pub returns-clause-value : goal.returns-clause-value
-returns-clause-value g c = gives_value (Stepped g.F.Steps) _ _ _ c.step.ensures.step

@@ -1,5 +1,0 @@
-use Rattle.tower_base.specs.GivesLemmas.{gives_value}
-use Rattle.tower_util.proofs.util.optional.future.ResponseFutureFuture.poll.Goals as goal
-
-pub returns-clause-value : goal.returns-clause-value
-returns-clause-value g c = gives_value _ _ _ _ c.step.ensures.step

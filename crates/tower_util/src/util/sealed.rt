@@ -1,0 +1,84 @@
+//! A service of which no more is to be shown. Own: contracts alone need it.
+ghost use Rattle.std.specs.Prelude.{◌≡◌};
+
+use futures::task::{Context, Poll};
+use std::marker::{Model, PhantomData};
+use tower_base::latch::held::{Fact, IsSound, open};
+use tower_base::service::Service;
+
+// What is lent is sound.
+struct IsSoundBehind<Request> {
+    request: PhantomData<Request>,
+}
+
+impl<'a, S: Service<Request>, Request> Fact<&'a S> for IsSoundBehind<Request> {
+    ghost holds = { λ lent. S.sound lent.now };
+}
+
+/// A service that is sound, as its type says: whoever has one may poll it, and call it where it is ready.
+///
+/// Contracts see the service. It has no bytes of its own, and each of its calls is the service's.
+#[derive(Drop)]
+pub struct Sealed<S: Service<Request>, Request> {
+    service: S,
+    request: PhantomData<Request>,
+}
+
+impl<S: Service<Request>, Request> Model for Sealed<S, Request> {
+    ghost Value = { S };
+
+    ghost view = { λ s. s.service };
+
+    ghost invariant = { λ s. ∥ S.sound s.service ∥₁ };
+}
+
+impl<S: Service<Request>, Request> Sealed<S, Request> {
+    /// Asks once for what no later call asks for again.
+    pub fn new(service: S) -> Sealed<S, Request>
+        requires { S.sound service }
+        ensures { result ≡ service }
+    {
+        Sealed {
+            service,
+            request: PhantomData,
+        }
+    }
+
+    /// The service, which is sound still.
+    pub fn into_inner(self) -> S
+        ensures sound { S.sound result }
+        ensures same { result ≡ self }
+    {
+        let Sealed {
+            service,
+            request: _,
+        } = self;
+        open::<S, IsSound<Request>>(service)
+    }
+}
+
+impl<S: Service<Request>, Request> Service<Request> for Sealed<S, Request> {
+    type Response = S::Response;
+
+    type Error = S::Error;
+
+    type Future = S::Future;
+
+    ghost ready = { S.ready };
+
+    ghost polled = { S.polled };
+
+    ghost called = { S.called };
+
+    ghost readies = { S.readies };
+
+    fn poll_ready(&mut self, cx: &mut Context<'_>) -> Poll<Result<(), S::Error>> {
+        open::<&S, IsSoundBehind<Request>>(&self.service);
+        self.service.poll_ready(cx)
+    }
+
+    fn call(&mut self, request: Request) -> S::Future {
+        open::<&S, IsSoundBehind<Request>>(&self.service);
+        self.service.call(request)
+    }
+}

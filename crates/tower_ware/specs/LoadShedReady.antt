@@ -1,0 +1,34 @@
+-- A `LoadShed` may be called at each moment.
+use Rattle.std.proofs.Common.{◌≡◌, true, Option, Some, None, Ok, Err, Result}
+use Rattle.futures.specs.declared.task.Poll.{Poll}
+use Rattle.futures.specs.declared.task.Poll.TheVariants.{Ready, Pending}
+use Rattle.tower_base.specs.declared.service.Service.{Ghosts as ServiceOf}
+use Rattle.tower_ware.specs.LoadShed.{Called, IsClone, IsReady, LoadShedView, Polled, flag_of, new_of}
+use Rattle.tower_ware.specs.declared.load_shed.error.Error.{Error}
+
+module _ {S Q A E F : Type 0} (s : ServiceOf S Q A E F)
+    (readies : (before after : S) → s.polled before (Ready (Ok tt)) after → s.ready after) where
+  flagged : (old new : S) (inner : Poll (Result (Unit {0}) E)) → s.polled old inner new → flag_of inner ≡ true → s.ready new
+  flagged old new (Ready (Ok x)) polled set = readies old new polled
+  flagged old new (Ready (Err e)) polled set = absurd (cc set)
+  flagged old new Pending polled set = absurd (cc set)
+
+-- after each poll, whatever it answered
+pub ready_after : {S Q A E F : Type 0} {s : ServiceOf S Q A E F}
+    → ((before after : S) → s.polled before (Ready (Ok tt)) after → s.ready after) → (old : LoadShedView S)
+    → (answer : Poll (Result (Unit {0}) (Error E))) (new : LoadShedView S) → Polled s old answer new → IsReady s new
+ready_after {s = s} readies old answer new p set = flagged s readies old.inner new.inner p.inner p.polled (rw p.flag at set)
+
+-- after each call
+pub ready_called : {S Q A E F : Type 0} (s : ServiceOf S Q A E F) (old : LoadShedView S) (request : Q) (future : Option F) (new : LoadShedView S)
+    → Called s old request future new → IsReady s new
+ready_called s old request (Some future) new c set = absurd (let flag = c.3 in cc)
+ready_called s old request None new c set = absurd (let flag = c.0 in let same = c.1 in cc)
+
+-- as it is made, and as a clone
+pub ready_new : {S Q A E F : Type 0} (s : ServiceOf S Q A E F) (inner : S) → IsReady s (new_of inner)
+ready_new s inner set = absurd (cc set)
+
+pub ready_clone : {S Q A E F : Type 0} (s : ServiceOf S Q A E F) (is_clone : S → S → Type 0) (old clone : LoadShedView S)
+    → IsClone is_clone old clone → IsReady s clone
+ready_clone s is_clone old clone c set = absurd (let flag = c.1 in cc)

@@ -1,0 +1,91 @@
+//! `Hedge`.
+
+use crate::attempt::Attempt;
+use crate::tell;
+use std::alloc::AllocGlobal;
+use std::cell::Cell;
+use std::convert::Infallible;
+use std::io;
+use std::random::RandomSource;
+use std::sync::Wait;
+use tower::hedge::delay::{self, Delay};
+use tower::hedge::rotating_histogram::HistoCore;
+use tower::hedge::select::{self, Select};
+use tower::hedge::{Flat, Hedge, Policy};
+use tower::latch::Latch;
+use tower::service::{Clock, Fraction, SystemClock};
+use tower::{BlockOnExt, Service, filter, service_fn};
+
+/// Each request may be made twice.
+#[derive(Clone, Copy)]
+struct Twice;
+
+impl Policy<u32> for Twice {
+    fn clone_request(&self, request: &u32) -> Option<u32> {
+        Some(*request)
+    }
+
+    fn can_retry(&self, _request: &u32) -> bool {
+        true
+    }
+}
+
+// A hedge is made of these parts. At the types that it has below the check doesn't end, so it is let into one generic
+// function after another.
+fn call<R, P, A, D, F, C>(rt: R, mut client: Flat<Select<P, A, Delay<D, F, C>>>) -> io::Result<()>
+where
+    R: Wait + RandomSource + AllocGlobal + Print + Copy,
+    P: select::Policy<u32>,
+    A: Service<u32, Response = u32, Error = Infallible>,
+    D: delay::Policy<u32>,
+    F: Service<u32, Response = u32, Error = filter::Error<Infallible, Infallible>> + Clone,
+    C: Clock,
+    requires policy { P.sound client.policy }
+    requires first { A.sound client.a }
+    requires delay { D.sound client.b.policy }
+    requires second { F.sound client.b.service }
+    requires clones { (x y : F) → F.is_clone x y → F.sound x → F.sound y }
+{
+    tell(rt, "hedge", client.block_on_call(&rt, 1)?)
+}
+
+fn call_hedge<R, S, L, C>(rt: R, client: Hedge<S, Twice, L, C>) -> io::Result<()>
+where
+    R: Wait + RandomSource + AllocGlobal + Print + Copy,
+    S: Service<u32, Response = u32, Error = Infallible> + Clone,
+    L: Latch<HistoCore>,
+    C: Clock,
+    requires first { S.sound client.a.service }
+    requires second { S.sound client.b.service.inner.service }
+    requires clones { (x y : S) → S.is_clone x y → S.sound x → S.sound y }
+{
+    call(rt, client)
+}
+
+/// The first attempt doesn't answer, and nine of ten took a millisecond: then a second attempt is made, and answers.
+pub fn ask_again<R>(rt: R) -> io::Result<()>
+where
+    R: Wait + RandomSource + AllocGlobal + Print + std::time::Clock + Copy,
+{
+    let (clock, hour) = (SystemClock::new(rt)?, 3_600_000_000_000);
+    let is_asked = Cell::new(false);
+    let server = service_fn(|_request: u32| -> Attempt {
+        if is_asked.replace(true) {
+            Attempt::Answers
+        } else {
+            Attempt::Hangs
+        }
+    });
+    let hedge = Hedge::new_with_mock_latencies(
+        rt,
+        rt.alloc(),
+        server,
+        Twice,
+        1,
+        Fraction::new(9, 10),
+        hour,
+        clock,
+        &[1],
+    )?;
+    call_hedge(rt, hedge)
+}

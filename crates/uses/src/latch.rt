@@ -1,0 +1,64 @@
+//! `Core`, `Latch` and `Guarded`: a core of one's own behind a lock.
+
+ghost use Rattle.std.specs.Prelude.{◌≡◌, ◌≤◌, false};
+ghost use Rattle.uses.specs.Seats.{Sold};
+
+use std::alloc::AllocGlobal;
+use std::sync::Wait;
+use std::thread::Threads;
+use std::{io, thread};
+use tower::latch::{Core, Guarded, Latch};
+
+/// The seats that are left: the ones below this number, of three.
+#[derive(Drop)]
+struct Seats {
+    left: u32,
+    ghost few: { left ≤ 3 },
+}
+
+impl Core for Seats {
+    type Step = ();
+
+    type Reply = Option<u32>;
+
+    ghost opens = { λ seats. seats.left ≡ 3 };
+
+    ghost steps = { λ old _ reply new. Sold old.left reply new.left };
+
+    ghost is_wait = { λ _. false };
+
+    fn step(&mut self, _step: ()) -> Option<u32> {
+        if self.left == 0 {
+            return None;
+        }
+        self.left -= 1;
+        Some(self.left)
+    }
+
+    fn waits(_reply: &Option<u32>) -> bool {
+        false
+    }
+}
+
+/// What the seats cost.
+const PRICES: [u32; 3] = [50, 30, 20];
+
+// Sells a seat, and answers its price. Of the seat no more is known than that somewhere in a run of the hall it was sold:
+// so it is one of three, and the index is in bounds.
+fn sell<L: Latch<Seats>>(hall: &L) -> u32 {
+    match hall.step(()) {
+        Some(seat) => PRICES[seat as usize],
+        None => 0,
+    }
+}
+
+/// Two threads sell a seat each, of one hall.
+pub fn sell_two_seats<R>(rt: R) -> io::Result<()>
+where
+    R: Threads + Wait + AllocGlobal + Print + Copy + Send + Sync,
+{
+    let hall = Guarded::new(rt, rt.alloc(), Seats { left: 3 })?;
+    let other = hall.share()?;
+    let (first, second) = thread::join(&rt, || sell(&hall), || sell(&other));
+    println!(rt; "latch: {}", first.saturating_add(second))
+}

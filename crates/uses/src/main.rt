@@ -1,0 +1,56 @@
+//! The shortest caller of each middleware that the examples don't show. Each function is proved, and prints a line.
+#![tactic(auto)]
+
+mod attempt;
+mod balance;
+mod buffer;
+mod call_all;
+mod filter;
+mod hedge;
+mod latch;
+mod load;
+mod load_shed;
+mod make;
+mod ready_cache;
+mod reconnect;
+mod select;
+mod server;
+mod spawn_ready;
+mod steer;
+
+use std::fmt::Display;
+use std::io;
+
+/// Prints what came of a call.
+fn tell<R, T, E>(rt: R, name: &str, answer: Result<T, E>) -> io::Result<()>
+where
+    R: Print + Copy,
+    T: Display + Drop,
+    E: Display + Drop,
+{
+    match answer {
+        Ok(response) => println!(rt; "{name}: {response}"),
+        Err(error) => println!(rt; "{name}: error, {error}"),
+    }
+}
+
+fn main(rt: HostRuntime) -> io::Result<()> {
+    load_shed::refuse(rt)?;
+    filter::reject(rt)?;
+    filter::reject_later(rt)?;
+    reconnect::connect_again(rt)?;
+    steer::pick(rt)?;
+    steer::miss(rt)?;
+    call_all::in_order(rt)?;
+    call_all::as_they_come(rt)?;
+    make::call_a_clone(rt)?;
+    make::await_a_service(rt)?;
+    load::of_pending_requests(rt)?;
+    ready_cache::call_by_key(rt)?;
+    balance::make_a_pool(rt)?;
+    buffer::call_beside_the_worker(rt)?;
+    spawn_ready::warm_up(rt)?;
+    select::ask_a_backup(rt)?;
+    hedge::ask_again(rt)?;
+    latch::sell_two_seats(rt)
+}

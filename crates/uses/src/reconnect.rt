@@ -1,0 +1,70 @@
+//! `Reconnect`, and `Sealed` in a loop.
+
+use crate::tell;
+use futures::future::{Ready, ok};
+use futures::task::{Context, Poll};
+use std::alloc::AllocGlobal;
+use std::fmt::Display;
+use std::io;
+use std::random::RandomSource;
+use std::sync::Wait;
+use tower::reconnect::Reconnect;
+use tower::util::Sealed;
+use tower::{BlockOnExt, Service, service_fn};
+
+/// The connection takes nothing more.
+#[derive(Clone, Copy, Debug, thiserror::Error)]
+#[error("closed")]
+struct Closed;
+
+/// Answers one request, which the answer is, and is closed then.
+#[derive(Clone, Copy)]
+struct Connection {
+    is_closed: bool,
+}
+
+impl Service<u32> for Connection {
+    type Response = u32;
+
+    type Error = Closed;
+
+    type Future = Ready<Result<u32, Closed>>;
+
+    // It may always be called.
+    ghost readies = { λ _ _ _. tt };
+
+    fn poll_ready(&mut self, _cx: &mut Context<'_>) -> Poll<Result<(), Closed>> {
+        Poll::Ready(if self.is_closed { Err(Closed) } else { Ok(()) })
+    }
+
+    fn call(&mut self, request: u32) -> Self::Future {
+        self.is_closed = true;
+        ok(request)
+    }
+}
+
+// Three calls. `Sealed` keeps the service sound through the loop.
+fn call_three<R, S>(rt: R, service: S) -> io::Result<()>
+where
+    R: Wait + RandomSource + AllocGlobal + Print + Copy,
+    S: Service<u32, Response = u32>,
+    S::Error: Display,
+    requires { S.sound service }
+{
+    let mut service = Sealed::new(service);
+    for request in 1..4 {
+        tell(rt, "reconnect", service.block_on_call(&rt, request)?)?;
+    }
+    Ok(())
+}
+
+/// Each call goes over a new connection.
+pub fn connect_again<R>(rt: R) -> io::Result<()>
+where
+    R: Wait + RandomSource + AllocGlobal + Print + Copy,
+{
+    let connect = service_fn(|_port: u16| -> Ready<Result<Connection, Closed>> {
+        ok(Connection { is_closed: false })
+    });
+    call_three(rt, Reconnect::new(connect, 5432))
+}

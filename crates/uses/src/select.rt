@@ -1,0 +1,44 @@
+//! `Select` and `Delay`.
+
+use crate::attempt::Attempt;
+use crate::server::Server;
+use crate::tell;
+use std::alloc::AllocGlobal;
+use std::io;
+use std::random::RandomSource;
+use std::sync::Wait;
+use tower::hedge::delay::{self, Delay};
+use tower::hedge::select::{self, Select};
+use tower::service::SystemClock;
+use tower::{BlockOnExt, service_fn};
+
+/// Each request is made a second time, so many nanoseconds later.
+#[derive(Clone, Copy)]
+struct After(u64);
+
+impl select::Policy<u32> for After {
+    fn clone_request(&mut self, request: &u32) -> Option<u32> {
+        Some(*request)
+    }
+}
+
+impl delay::Policy<u32> for After {
+    fn delay(&mut self, _request: &u32) -> u64 {
+        self.0
+    }
+}
+
+/// The primary doesn't answer, so the backup does, a millisecond later.
+pub fn ask_a_backup<R>(rt: R) -> io::Result<()>
+where
+    R: Wait + RandomSource + AllocGlobal + Print + std::time::Clock + Copy,
+{
+    let primary = service_fn(|_request: u32| Attempt::Hangs);
+    let after = After(1_000_000);
+    let backup = Delay::new(after, Server(2), SystemClock::new(rt)?);
+    tell(
+        rt,
+        "select",
+        Select::new(after, primary, backup).block_on_call(&rt, 1)?,
+    )
+}

@@ -1,0 +1,44 @@
+#!/usr/bin/env bash
+# scripts/refused_scripts.sh CRATE..: plays each file of scripts of the crates' data/ once for each allocation, which is refused (fail_alloc.c),
+# with the proved program that `rt ci` or `rt run` left in out/. Each time the program ends for want of its own memory, or every line is as
+# expected but for one answer that tells of refused memory; a refused poll or clone is then asked again and ends as expected. It stops after 40
+# in a row that were refused nothing: the last were past the end.
+set -uo pipefail
+
+[ "$#" -gt 0 ] || { echo "usage: scripts/refused_scripts.sh CRATE.." >&2; exit 1; }
+cd "$(dirname "${BASH_SOURCE[0]}")" || exit 1
+kit=$(dirname "$(dirname "$(realpath "$(command -v rt)")")")/toolchain/bin
+room=$(mktemp -d)
+trap 'rm -rf "$room"' EXIT
+"$kit/clang" -O1 -shared -fPIC -nostdlib -fuse-ld="$kit/ld.lld" -o "$room/fail_alloc.so" fail_alloc.c || exit 1
+
+# Plays the file once for each allocation.
+play() {
+    local program=$1 file=$2 own=0 told=0 quiet=0 number status last
+    for ((number = 1; quiet < 40; number++)); do
+        LD_PRELOAD="$room/fail_alloc.so" FAIL_ALLOC=$number timeout 60 "$program" --refused "$file" > "$room/said" 2> "$room/error"
+        status=$?
+        last=$(tail -n 1 "$room/said")
+        case "$status $last" in
+            "0 "*" scripts, 0 lines wrong, 0 refusals") quiet=$((quiet + 1)) ;;
+            "0 "*" scripts, 0 lines wrong, "*) told=$((told + 1)) quiet=0 ;;
+            *)
+                if [ "$status" != 1 ] || ! grep -q OutOfMemory "$room/error"; then
+                    cat "$room/said" "$room/error" >&2
+                    echo "refused_scripts: $file, allocation $number: not told" >&2
+                    return 1
+                fi
+                own=$((own + 1)) quiet=0
+                ;;
+        esac
+    done
+    echo "refused_scripts: $(basename "$file"): $((number - 41)) allocations, of which $own the program's own, and $told told by an answer"
+}
+
+for crate; do
+    program=$PWD/../crates/$crate/out/$crate
+    [ -x "$program" ] || { echo "refused_scripts: $program isn't there: rt run makes it" >&2; exit 1; }
+    for file in ../crates/"$crate"/data/*.script; do
+        play "$program" "$file" || exit 1
+    done
+done
