@@ -1,5 +1,5 @@
 //! One lock round one core.
-ghost use Rattle.std.specs.Prelude.{◌≡◌, true, false, [], None, IfOk, MatchOption};
+ghost use Rattle.std.specs.Prelude.{◌≡◌, ◌↔◌, true, false, [], None, IfOk, IsTrue, MatchOption};
 ghost use Rattle.std.specs.Arc.{arc_value};
 ghost use Rattle.futures.specs.Task.{IsArmed, Keeps};
 ghost use Rattle.tower_base.specs.Latch.{Reached, Came};
@@ -75,8 +75,50 @@ impl<C: Core> Kept<C> {
         }
     }
 
-    // Makes one step. Where the reply waits, the wakers stay.
+    // Whether no waker is kept.
     #[inline(always)]
+    fn is_alone(&self) -> bool
+        ensures { IsTrue result ↔ (self.now.waiters ≡ []) }
+    {
+        self.waiters.is_empty()
+    }
+
+    // Makes one step, with no waker beside the core.
+    #[inline(always)]
+    fn step_alone(&mut self, step: C::Step) -> C::Reply
+        requires admitted { C.admits step }
+        requires alone { self.old.waiters ≡ [] }
+        ensures came { Came C.opens C.steps step result }
+        ensures left { self.new.waiters ≡ [] }
+    {
+        self.core.step(step)
+    }
+
+    // Makes one step, with no waker beside the core. If the reply waits, the waker of the task at this share is kept.
+    #[inline(always)]
+    fn wait_alone(
+        &mut self,
+        step: C::Step,
+        share: u64,
+        source: &Source,
+        cx: &mut Context<'_>,
+    ) -> C::Reply
+        requires admitted { C.admits step }
+        requires alone { self.old.waiters ≡ [] }
+        ensures came { Came C.opens C.steps step result }
+        ensures armed { C.is_wait result ≡ true → IsArmed cx.new }
+        ensures keeps { Keeps cx.old cx.new }
+        ensures waits { C.is_wait result ≡ true → IsKept share cx.old cx.new self.new.waiters }
+        ensures left { C.is_wait result ≡ false → self.new.waiters ≡ [] }
+    {
+        let reply = self.core.step(step);
+        if C::waits(&reply) {
+            self.waiters.keep(share, source, cx);
+        }
+        reply
+    }
+
+    // Makes one step. Where the reply waits, the wakers stay.
     fn step(&mut self, step: C::Step) -> (C::Reply, Option<Woken>)
         requires { C.admits step }
         ensures came { Came C.opens C.steps step result.0 }
@@ -92,7 +134,6 @@ impl<C: Core> Kept<C> {
     }
 
     // Makes one step. Where the reply waits, the waker of the task at this share is kept.
-    #[inline(always)]
     fn wait(
         &mut self,
         step: C::Step,
@@ -132,6 +173,42 @@ fn locked_late<T, R: Wait + Copy>(lock: &Mutex<T>, rt: R) -> MutexGuard<'_, T> {
     lock.lock(&rt)
 }
 
+// A step where wakers are kept. Each is woken once the lock is free, unless the reply waits.
+#[cold]
+#[inline(never)]
+fn step_and_wake<C: Core>(mut kept: MutexGuard<'_, Kept<C>>, step: C::Step) -> C::Reply
+    requires { C.admits step }
+    ensures { Came C.opens C.steps step result }
+{
+    let (reply, woken) = kept.step(step);
+    if let Some(woken) = woken {
+        woken.wake(Free::of(kept));
+    }
+    reply
+}
+
+// The same for a task that may wait.
+#[cold]
+#[inline(never)]
+fn wait_or_wake<C: Core>(
+    mut kept: MutexGuard<'_, Kept<C>>,
+    step: C::Step,
+    share: u64,
+    source: &Source,
+    cx: &mut Context<'_>,
+) -> C::Reply
+    requires { C.admits step }
+    ensures came { Came C.opens C.steps step result }
+    ensures armed { C.is_wait result ≡ true → IsArmed cx.new }
+    ensures keeps { Keeps cx.old cx.new }
+{
+    let (reply, woken) = kept.wait(step, share, source, cx);
+    if let Some(woken) = woken {
+        woken.wake(Free::of(kept));
+    }
+    reply
+}
+
 impl<C: Core, R: Wait + Copy> Latch<C> for Guarded<C, R> {
     // Somewhere in a run from an opening core, the step had this reply.
     ghost gave = { λ _ step reply. Came C.opens C.steps step reply };
@@ -143,24 +220,23 @@ impl<C: Core, R: Wait + Copy> Latch<C> for Guarded<C, R> {
 
     ghost honest = { λ _ _ _ given. given };
 
-    #[inline]
+    // Mostly no waker is kept, and then no list of them is taken.
+    #[inline(always)]
     fn step(&self, step: C::Step) -> C::Reply {
         let mut kept = locked(&self.shared.kept, self.rt);
-        let (reply, woken) = kept.step(step);
-        if let Some(woken) = woken {
-            woken.wake(Free::of(kept));
+        if kept.is_alone() {
+            return kept.step_alone(step);
         }
-        reply
+        step_and_wake(kept, step)
     }
 
     #[inline(always)]
     fn wait(&self, step: C::Step, cx: &mut Context<'_>) -> C::Reply {
         let mut kept = locked(&self.shared.kept, self.rt);
-        let (reply, woken) = kept.wait(step, self.share, &self.shared.source, cx);
-        if let Some(woken) = woken {
-            woken.wake(Free::of(kept));
+        if kept.is_alone() {
+            return kept.wait_alone(step, self.share, &self.shared.source, cx);
         }
-        reply
+        wait_or_wake(kept, step, self.share, &self.shared.source, cx)
     }
 
     fn share(&self) -> Result<Guarded<C, R>, AllocError> {

@@ -39,6 +39,7 @@ impl<F: Steps> Steps for Fuse<F> {
 
     ghost stepped = { Stepped F.stepped };
 
+    #[inline]
     fn step(&mut self, cx: &mut Context<'_>) -> Poll<F::Output> {
         let Some(future) = &mut self.future else {
             unreachable!()

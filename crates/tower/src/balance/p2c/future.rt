@@ -62,6 +62,7 @@ impl<A, E, X, F: Steps<Output = Result<A, E>>> Steps for ResponseFuture<F, X> {
 
     ghost stepped = { Stepped F.Steps.own };
 
+    #[inline]
     fn step(&mut self, cx: &mut Context<'_>) -> Poll<Result<A, Error<E, X>>> {
         match self.response.step(cx) {
             Poll::Ready(Ok(answer)) => Poll::Ready(Ok(answer)),

@@ -1,5 +1,5 @@
 //! The wakers of the tasks that wait, as the lock keeps them.
-ghost use Rattle.std.specs.Prelude.{◌≡◌, List, [], ◌∷◌, ◌++◌, IsSomeAnd, IfOk, MatchOption, slice_get};
+ghost use Rattle.std.specs.Prelude.{◌≡◌, ◌↔◌, List, [], ◌∷◌, ◌++◌, IsSomeAnd, IsTrue, IfOk, MatchOption, slice_get};
 ghost use Rattle.futures.specs.Task.{IsArmed, Keeps};
 ghost use Rattle.tower_base.specs.Guarded.{IsKept};
 ghost use Rattle.tower_base.specs.declared.latch.guarded.waiters.Waiter.{Waiter};
@@ -80,21 +80,16 @@ impl Waiters {
         }
     }
 
-    /// All that are kept. Where one waits alone, the list keeps its room.
+    /// Whether none is kept.
     #[inline(always)]
-    pub fn take(&mut self) -> Option<Woken>
-        ensures left { self.new ≡ [] }
-        ensures handed { MatchOption result (self.old ≡ []) (λ woken. woken ≡ self.old) }
+    pub fn is_empty(&self) -> bool
+        ensures { IsTrue result ↔ (self.now ≡ []) }
     {
-        if self.list.is_empty() {
-            return None;
-        }
-        self.take_some()
+        self.list.is_empty()
     }
 
-    #[cold]
-    #[inline(never)]
-    fn take_some(&mut self) -> Option<Woken>
+    /// All that are kept. Where one waits alone, the list keeps its room.
+    pub fn take(&mut self) -> Option<Woken>
         ensures left { self.new ≡ [] }
         ensures handed { MatchOption result (self.old ≡ []) (λ woken. woken ≡ self.old) }
     {
