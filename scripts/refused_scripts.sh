@@ -36,7 +36,7 @@ play() {
 }
 
 for crate; do
-    program=$PWD/../crates/$crate/out/$crate
+    program=${PROGRAMS:-$PWD/../crates/$crate/out}/$crate
     [ -x "$program" ] || { echo "refused_scripts: $program isn't there: rt run makes it" >&2; exit 1; }
     for file in ../crates/"$crate"/data/*.script; do
         play "$program" "$file" || exit 1
