@@ -72,6 +72,7 @@ fn watched<L: Latch<LineCore>>(
 ) -> Result<(), AllocError> {
     let mut permits = Permits {
         alloc: script.alloc(),
+        log: script.stage().log,
         share: None,
     };
     if script.has("watched") {
@@ -89,7 +90,7 @@ fn lent<'a, L: Latch<LineCore>>(
     script: &Script<'a>,
     report: &mut Report<'_>,
     mut service: ConcurrencyLimit<Scripted<'a>, L>,
-    permits: &mut Permits<L>,
+    permits: &mut Permits<'a, L>,
 ) -> Result<(), AllocError> {
     if script.has("get_mut") {
         *service.get_mut() = script.service('t');
