@@ -13,7 +13,14 @@ library=$room/fail_alloc.so
 trap 'rm -rf "$room"' EXIT
 "$kit/clang" -O1 -shared -fPIC -nostdlib -fuse-ld="$kit/ld.lld" -o "$library" fail_alloc.c || exit 1
 
-# Plays the file once for each allocation.
+not_told() {
+    cat "$room/said" "$room/error" >&2
+    echo "refused_scripts: $file, allocation $number: not told" >&2
+    return 1
+}
+
+# Plays the file once for each allocation. A histogram that gets no memory leaves a request without a second attempt, which no answer tells: so of
+# hedge.script it is asked alone that it ends.
 play() {
     local program=$1 file=$2 room=$3 own=0 told=0 quiet=0 number status last
     mkdir "$room" || return 1
@@ -24,12 +31,9 @@ play() {
         case "$status $last" in
             "0 "*" scripts, 0 lines wrong, 0 refusals") quiet=$((quiet + 1)) ;;
             "0 "*" scripts, 0 lines wrong, "*) told=$((told + 1)) quiet=0 ;;
+            "0 "*) [ "$(basename "$file")" = hedge.script ] || not_told || return 1; quiet=0 ;;
             *)
-                if [ "$status" != 1 ] || ! grep -q OutOfMemory "$room/error"; then
-                    cat "$room/said" "$room/error" >&2
-                    echo "refused_scripts: $file, allocation $number: not told" >&2
-                    return 1
-                fi
+                [ "$status" = 1 ] && grep -q OutOfMemory "$room/error" || not_told || return 1
                 own=$((own + 1)) quiet=0
                 ;;
         esac

@@ -10,6 +10,7 @@
 //! `global_limit_layer SHARES`: a layer over the noted latch, with one permit.
 
 use crate::parts::{Beside, First, Permits};
+use futures::task::Poll;
 use scripted::party::Party;
 use scripted::report::Report;
 use scripted::script::{Numbers, Script};
@@ -20,7 +21,7 @@ use std::sync::Wait;
 use tests_support::future::After;
 use tests_support::latch::Noting;
 use tests_support::log::Log;
-use tests_support::run::is_ready;
+use tests_support::run::polled;
 use tests_support::service::Scripted;
 use tower_base::latch::held::Viewed;
 use tower_base::latch::{Guarded, Latch};
@@ -100,7 +101,9 @@ fn lent<'a, L: Latch<LineCore>>(
         drop(service.get_ref().clone()?);
     }
     if script.has("into_inner") {
-        is_ready::<u8, _>(script.solo(), &mut service);
+        if let Poll::Ready(Err(_)) = polled::<u8, _>(script.solo(), &mut service) {
+            return script.over(report, "out of memory");
+        }
         drop(service.into_inner());
         return script.play_party(report, permits);
     }
