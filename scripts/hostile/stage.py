@@ -270,17 +270,24 @@ class Hostile:
 
     def steps(self, count):
         for _ in range(count):
-            (ask,) = self.rng.choices(self.asks, [self.WEIGHTS[ask] for ask in self.asks])
-            if self.marks and ask in ("poll", "call", "future"):
-                self.clock()
-            getattr(self, ask)()
+            self.step()
         return self.play.end()
 
+    def step(self):
+        (ask,) = self.rng.choices(self.asks, [self.WEIGHTS[ask] for ask in self.asks])
+        if self.marks and ask in ("poll", "call", "future"):
+            self.clock()
+        getattr(self, ask)()
+
+    def extra(self):
+        self.rng.choice(self.extras)()
+
     def clock(self):
-        """The clock goes back in one reading of three, and stands in another. It likes moments next to the marks and the last moment."""
+        """The clock goes back in one reading of three, and stands in another. It likes moments next to the marks, and now and then the last one."""
         stage = self.play.stage
         near = [mark + step for mark in self.marks() for step in (-1, 0, 1)]
-        near += [stage.moment + step for step in (-9, -2, -1, 1, 2, 9)] + [0, LAST_MOMENT - 3, LAST_MOMENT]
+        near += [stage.moment + step for step in (-9, -2, -1, 1, 2, 9)]
+        near += self.rng.choices([[], [0], [LAST_MOMENT - 3, LAST_MOMENT]], [14, 1, 1])[0]
         back = [moment for moment in near if 0 <= moment < stage.moment]
         forward = [moment for moment in near if stage.moment < moment <= LAST_MOMENT]
         moments = self.rng.choice([back, forward, []])
@@ -288,41 +295,47 @@ class Hostile:
             stage.moment = self.rng.choice(moments)
             self.play.ask(f"at {stage.moment}")
 
-    def extra(self):
-        self.rng.choice(self.extras)()
-
-    # Mostly a handle that is there and may be called.
-    def place(self, wanted):
-        fitting = [place for place, fits in enumerate(wanted) if fits]
+    # Mostly one of these places, but sometimes any below the count.
+    def place(self, fitting, count):
         if fitting and self.rng.random() < 0.9:
             return self.rng.choice(fitting)
-        return self.rng.randrange(len(wanted))
+        return self.rng.randrange(count)
 
-    # Mostly one of the last futures.
-    def number(self):
-        count = len(self.play.futures)
-        first = max(0, count - 6) if self.rng.random() < 0.8 else 0
-        return self.rng.randrange(first, count + 1)
+    def handle(self):
+        handles = self.play.handles
+        return self.place([place for place, handle in enumerate(handles) if handle], len(handles))
 
     def poll(self):
-        self.play.poll(self.place(self.play.handles))
+        self.play.poll(self.handle())
 
     def call(self):
-        self.play.call(self.place(self.play.may_call), self.rng.choice([self.rng.randrange(256), self.rng.randrange(8), 99, 100]))
+        may_call = self.play.may_call
+        fitting = [place for place, handle in enumerate(self.play.handles) if handle and may_call[place]]
+        if not fitting and self.rng.random() < 0.9:
+            return self.poll()
+        request = self.rng.choice([self.rng.randrange(256), self.rng.randrange(100), self.rng.randrange(8), 99, 100])
+        self.play.call(self.place(fitting, len(may_call)), request)
 
+    # Mostly one of the last six that may be polled.
     def future(self):
-        self.play.future(self.number())
+        futures, is_live = self.play.futures, self.play.is_live
+        fitting = [number for number, future in enumerate(futures) if future and is_live[number]]
+        if not fitting and self.rng.random() < 0.9:
+            return self.poll()
+        self.play.future(self.place(fitting[-6:], len(futures) + 1))
 
     def drop_future(self):
-        self.play.drop_future(self.number())
+        futures = self.play.futures
+        fitting = [number for number, future in enumerate(futures) if future]
+        self.play.drop_future(self.place(fitting, len(futures) + 1))
 
     def clone(self):
         if len(self.play.handles) < len(HANDLES):
-            self.play.clone(self.place(self.play.handles))
+            self.play.clone(self.handle())
 
     def drop_handle(self):
         if sum(handle is not None for handle in self.play.handles) > 1 or self.rng.random() < 0.1:
-            self.play.drop_handle(self.place(self.play.handles))
+            self.play.drop_handle(self.handle())
 
     def turn(self):
         """Another plan for one of the sides, or the answer of a call that waits for one."""
@@ -336,7 +349,8 @@ class Hostile:
                 plan.replies = self.list_of(self.reply)
                 self.play.ask(f"{side}replies {', '.join(plan.replies)}")
             case "answer":
-                call, value = self.rng.randrange(9), self.rng.randrange(256)
+                waiting = [call for call in range(min(plan.calls, 8)) if call not in plan.answers]
+                call, value = self.place(waiting, 10), self.rng.randrange(256)
                 word = self.rng.choice(["ok", "err"])
                 answer = plan.answer(call, f"{'ok' if word == 'ok' else 'error'} {value}")
                 self.play.ask(f"{side}answer {call} {word} {value}", answer)
