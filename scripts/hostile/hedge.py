@@ -430,7 +430,7 @@ def hedge(rng, count):
     service = Hedge(histogram, Service(world.services, "s"), Twice(world.others, "p"), least, part, clock)
     play = Play(rng, world, f"{first}; at {world.moment}", service)
     while play.asked < count:
-        tick(play, rng.choice([period, 10**6, 5 * 10**6]))
+        tick(play, rng.choice([period, 10**6, 5 * 10**6]), made)
         around(play, ["", "", "others "])
         ask(play, REQUESTS, clones=False)
     return play.end(), play.asked

@@ -323,14 +323,16 @@ def replies(rng):
     return ", ".join(reply() for _ in range(rng.randint(1, 8)))
 
 
-def tick(play, step):
-    """The clock stands, goes on, goes back once in three readings, or jumps to its last moment."""
+def tick(play, step, origin=0):
+    """The clock stands, goes on, goes back once in three readings, jumps to its last moment, or stands at an edge of a step."""
     rng, now = play.rng, play.world.moment
     luck = rng.random()
     if luck < 1 / 3:
         play.at(rng.choice([max(now - rng.randint(1, step), 0), rng.randint(0, min(now, 20 * step))]))
-    elif luck < 0.38:
+    elif luck < 0.36:
         play.at(LAST)
+    elif luck < 0.5:
+        play.at(min(max(origin + rng.randint(0, 30) * step + rng.choice([-1, 0, 1]), 0), LAST))
     elif luck < 0.75:
         play.at(min(now + rng.randint(0, step), LAST))
 

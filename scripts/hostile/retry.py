@@ -315,7 +315,7 @@ def retry_budget(rng, count):
     budget = Budget(*numbers, clock)
     play = Play(rng, world, text("retry_budget", *numbers), Retry(Paying(budget, clock), Service(world.services, "s")))
     while play.asked < count:
-        tick(play, budget.window)
+        tick(play, budget.window, budget.made)
         around(play, [""])
         ask(play, REQUESTS)
     return play.end(), play.asked
@@ -337,18 +337,15 @@ def retry_backoff(rng, count):
 
 def budget(rng, count):
     world = World()
-    numbers = terms(rng)
+    is_usual = rng.random() < 0.1
+    numbers = (10 * SECOND, 10, 1, 5) if is_usual else terms(rng)
     world.moment = rng.choice([0, 0, 7, 100 * SECOND, rng.randint(0, LAST)])
     clock = Clock(world)
     budget = Budget(*numbers, clock)
-    is_usual = rng.random() < 0.1
-    if is_usual:
-        world.told()
-        budget = Budget(10 * SECOND, 10, 1, 5, clock)
     first = "usual_budget" if is_usual else text("budget", *numbers)
     play = Play(rng, world, f"{first}; at {world.moment}")
     while play.asked < count:
-        tick(play, rng.choice([1, budget.window // 2, budget.window, 5 * budget.window]))
+        tick(play, rng.choice([1, budget.window // 2, budget.window, 5 * budget.window]), budget.made)
         luck = rng.random()
         if luck < 0.5:
             budget.deposit(clock.read())
