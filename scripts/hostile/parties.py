@@ -316,6 +316,8 @@ def replies(rng):
                 f"echo {rng.randint(0, 3)}",
                 f"fail {rng.randint(0, 3)}",
                 f"ok {rng.randint(0, 255)}",
+                f"ok {rng.randint(0, 255)} after {rng.randint(0, 2)}",
+                f"err {rng.randint(0, 255)}",
                 f"err {rng.randint(0, 255)} after {rng.randint(0, 2)}",
             ]
         )
@@ -338,42 +340,44 @@ def tick(play, step, origin=0):
 
 
 def around(play, sides, clones=True, breaks=True):
-    """A change around the service, now and then."""
+    """A change around the service, now and then. No clones are refused for long."""
     rng = play.rng
     side = rng.choice(sides)
+    plan = play.world.others if side else play.world.services
     luck = rng.random()
     if luck < 0.12:
         play.change(side, f"readiness {moods(rng, breaks)}")
     elif luck < 0.24:
         play.change(side, f"replies {replies(rng)}")
     elif luck < 0.34:
-        play.change(side, f"answer {rng.randint(0, 8)} {rng.choice(['ok', 'err'])} {rng.randint(0, 255)}")
-    elif clones and luck < 0.4:
-        play.change(side, f"clones {rng.choice([0, 1, 2, 5, 255, 255, 255])}")
+        play.change(side, f"answer {rng.randint(0, min(plan.calls, 8))} {rng.choice(['ok', 'err'])} {rng.randint(0, 255)}")
+    elif clones and (luck < 0.37 or plan.clones == 0 and luck < 0.5):
+        play.change(side, f"clones {rng.choice([0, 1, 2, 5]) if plan.clones == 255 else 255}")
 
 
 def ask(play, requests, clones=True, drops=True):
-    """Something is asked of a handle or a future at random."""
+    """Something is asked of a handle or a future at random, mostly of one that is there."""
     rng = play.rng
     there = [place for place, handle in enumerate(play.handles) if handle is not None]
-    place = rng.choice(there) if there and rng.random() < 0.95 else rng.randrange(len(play.handles))
+    live = [place for place, future in enumerate(play.futures) if future is not None and not play.done[place]]
+    handle = rng.choice(there) if there and rng.random() < 0.97 else rng.randrange(len(play.handles))
+    future = rng.choice(live[-6:]) if live and rng.random() < 0.95 else rng.randint(0, len(play.futures))
     luck = rng.random()
-    if luck < 0.3 and rng.random() < 0.9 and play.may_call[place]:
-        luck = 0.4
-    if luck < 0.3:
-        play.poll(place)
-    elif luck < 0.5:
-        play.call(place, rng.choice(requests))
+    if luck < 0.45 or luck < 0.85 and not live:
+        if rng.random() < (0.7 if play.may_call[handle] else 0.05):
+            play.call(handle, rng.choice(requests))
+        else:
+            play.poll(handle)
     elif luck < 0.85:
-        play.future(rng.randint(max(0, len(play.futures) - 6), len(play.futures)))
-    elif luck < 0.92:
+        play.future(future)
+    elif luck < 0.93:
         play.drop_future(rng.randint(max(0, len(play.futures) - 8), len(play.futures)))
-    elif luck < 0.97 and clones and len(play.handles) < 6:
-        play.clone(place)
-    elif luck > 0.985 and drops and (len(there) > 1 or rng.random() < 0.1):
-        play.drop(place)
+    elif luck < 0.98 and clones and len(play.handles) < 6:
+        play.clone(handle)
+    elif drops and luck > 0.98 and (len(there) > 1 or rng.random() < 0.1):
+        play.drop(handle)
     else:
-        play.poll(place)
+        play.poll(handle)
 
 
 def scripts(rng, of_one, count=10000):

@@ -326,17 +326,20 @@ def buffer(rng, count):
     play = Play(rng, world, f"buffer {bound}", Buffer(mail))
     breaks = rng.random() < 0.4
     while play.asked < count:
+        if not worker.is_there:
+            # The mail is closed: some more asks.
+            count = min(count, play.asked + 20)
         around(play, [""], clones=False, breaks=breaks)
         luck = rng.random()
         if luck < 0.2:
             play.ask("work", worker.poll())
-        elif luck < 0.202:
+        elif luck < 0.203:
             was_there = worker.is_there
             if was_there:
                 worker.gone()
             play.ask("drop worker", None if was_there else "skipped")
-        elif luck < 0.23:
-            mail.shares = rng.choice([0, 1, 2, 255, 255, 255])
+        elif luck < 0.22 or mail.shares == 0 and luck < 0.4:
+            mail.shares = rng.choice([0, 1, 2]) if mail.shares == 255 else 255
             play.ask(f"shares {mail.shares}")
         else:
             ask(play, REQUESTS)

@@ -220,25 +220,29 @@ def spawn_ready(rng, count):
     first = rng.choice(["spawn_ready"] * 6 + ["spawn_ready at_once", "spawn_ready by_turns", "spawn_ready at_once by_turns", "spawn_ready_layer", "spawn_ready_layer cloned"])
     service = (ByTurns if "by_turns" in first else Service)(world.services, "s")
     tasks = Tasks(world, "at_once" in first)
-    shares = [255]
-    handle = SpawnReady(service, tasks, Latch(world, Slot(), "layer" not in first, shares))
+    shares, slot = [255], Slot()
+    handle = SpawnReady(service, tasks, Latch(world, slot, "layer" not in first, shares))
     play = Play(rng, world, first, handle)
+    breaks = rng.random() < 0.3
     while play.asked < count:
-        around(play, [""], clones=False)
+        if slot.state in ("ended", "aborted"):
+            # The service is gone: a few more asks.
+            count = min(count, play.asked + 8)
+        around(play, [""], clones=False, breaks=breaks)
         luck = rng.random()
-        if luck < 0.25:
+        if luck < (0.4 if tasks.waiting else 0.02):
             play.ask("task", tasks.poll())
-        elif luck < 0.27:
+        elif luck < 0.41 and rng.random() < 0.1:
             tasks.drop_newest()
             play.ask("drop task")
-        elif luck < 0.3:
+        elif luck < 0.43:
             tasks.ended.clear()
             play.ask("drop ended")
-        elif luck < 0.33:
-            tasks.room = rng.choice([0, 1, 2, 255, 255])
+        elif luck < 0.46:
+            tasks.room = rng.choice([0, 1, 2]) if tasks.room > 2 else 255
             play.ask(f"room {tasks.room}")
-        elif luck < 0.36:
-            shares[0] = rng.choice([0, 1, 2, 255, 255])
+        elif luck < 0.49:
+            shares[0] = rng.choice([0, 1, 2]) if shares[0] > 2 else 255
             play.ask(f"shares {shares[0]}")
         else:
             ask(play, REQUESTS, clones=False)
