@@ -1,361 +1,368 @@
-"""Writes scripts of `Select`, `Delay`, `Latency` and `Hedge` over hostile parties into a folder: python3 scripts/hostile/hedge.py FOLDER"""
+"""Select, Delay, Latency and Hedge over a hostile party."""
 
-import random
-import re
 import sys
-from pathlib import Path
 
-from parties import LAST, Clock, Part, Play, Service, Sleep, World, around, ask, err, is_err, is_ok, ok, scripts, tick, wrapped
-from script import write
+from retry import Refused, Sleep
+from stage import LAST_MOMENT, Hostile, Inner, Part, Play, Stage, within, write_hostile
 
-REQUESTS = [0, 1, 2, 7, 8, 90, 91, 255]
+NO_COPY = 90
+ONCE = 91
+MILLISECOND = 10**6
 
 
 class Twice(Part):
-    """Copies each request but 90, lets each but 91 be made again, and delays it by as many nanoseconds as it says."""
+    """Copies each request but one, lets each but one be made again, and delays each by as many nanoseconds as it says."""
 
-    def copy(self, request):
-        self.note(f"left {request}" if request == 90 else f"copied {request}")
-        return None if request == 90 else request
+    def clone(self):
+        copy = self.plan.clone(self.name)
+        return copy and Twice(self.plan, copy)
+
+    def copied(self, request):
+        self.plan.stage.note(f"{'left' if request == NO_COPY else 'copied'} {request}")
+        return None if request == NO_COPY else request
 
     def delay(self, request):
-        self.note(f"delay {request}")
+        self.plan.stage.note(f"delay {request}")
         return request
 
     def allows(self, request):
-        self.note(f"allowed {request} {str(request != 91).lower()}")
-        return request != 91
+        self.plan.stage.note(f"allowed {request} {'false' if request == ONCE else 'true'}")
+        return request != ONCE
 
 
 class Longest:
     def delay(self, request):
-        return LAST
+        return LAST_MOMENT
 
     def drop(self):
         pass
 
 
-class Select:
-    """The first side is asked first, and its error goes before one of the second."""
+class Nest:
+    """Parts that are dropped in this order, where they are there."""
 
-    def __init__(self, policy, a, b):
-        self.policy, self.a, self.b = policy, a, b
+    def __init__(self, *parts):
+        self.parts = parts
+
+    def drop(self):
+        for part in self.parts:
+            if part:
+                part.drop()
+
+
+class Shared:
+    """A share of the clock."""
+
+    def __init__(self, stage):
+        self.stage = stage
+        stage.note("clock shared")
+
+    def drop(self):
+        self.stage.drops("clock")
+
+
+class Select(Nest):
+    """Both sides are asked, and the first's error goes before one of the second."""
+
+    def __init__(self, policy, first, second):
+        super().__init__(policy, first, second)
+        self.policy = policy
+        self.first = first
+        self.second = second
 
     def poll(self):
-        first = wrapped(self.a.poll(), "First")
-        second = wrapped(self.b.poll(), "Second")
-        if is_err(first):
-            return first
-        if is_err(second):
-            return second
-        return ok() if is_ok(first) and is_ok(second) else None
+        answers = within(self.first.poll(), "First"), within(self.second.poll(), "Second")
+        errors = [answer for answer in answers if answer.startswith("error ")]
+        if errors:
+            return errors[0]
+        return "pending" if "pending" in answers else "ready"
 
     def call(self, request):
-        copy = self.policy.copy(request)
-        second = None if copy is None else self.b.call(copy)
-        return Either(self.a.call(request), second)
-
-    def drop(self):
-        for part in (self.policy, self.a, self.b):
-            part.drop()
+        copy = self.policy.copied(request)
+        second = None if copy is None else self.second.call(copy)
+        return Either(self.first.call(request), second)
 
 
-class Either:
-    """The first answer of two calls."""
+class Either(Nest):
+    """The first answer of two calls, of which the second may not be made."""
 
     def __init__(self, first, second):
-        self.first, self.second = first, second
+        super().__init__(first, second)
+        self.first = first
+        self.second = second
 
     def poll(self):
-        answer = wrapped(self.first.poll(), "First")
-        if answer is None and self.second is not None:
-            answer = wrapped(self.second.poll(), "Second")
-        return answer
-
-    def drop(self):
-        self.first.drop()
-        if self.second is not None:
-            self.second.drop()
+        answer = within(self.first.poll(), "First")
+        return within(self.second.poll(), "Second") if answer == "pending" and self.second else answer
 
 
-class Delay:
-    """Always ready. A call waits, and is then made of a clone once that is ready."""
+class Delay(Nest):
+    """A clone waits for each call. It is always ready."""
 
-    def __init__(self, policy, service, clock):
-        self.policy, self.service, self.clock = policy, service, clock
+    def __init__(self, stage, policy, inner, clock):
+        super().__init__(policy, inner, clock)
+        self.stage = stage
+        self.policy = policy
+        self.inner = inner
 
     def poll(self):
-        return ok()
+        return "ready"
 
     def call(self, request):
         delay = self.policy.delay(request)
-        sleep = Sleep(self.clock.share(), delay)
-        copy = self.service.clone()
-        if copy is None:
-            sleep.drop()
-            return Refused()
-        return Delayed(sleep, copy, request)
-
-    def drop(self):
-        for part in (self.policy, self.service, self.clock):
-            part.drop()
-
-
-class Refused:
-    def poll(self):
-        return err("out of memory")
-
-    def drop(self):
-        pass
+        sleep = Sleep(self.stage, delay)
+        inner = self.inner.clone()
+        if inner:
+            return Delayed(sleep, inner, request)
+        sleep.drop()
+        return Refused()
 
 
 class Delayed:
-    """What is over is dropped at once."""
+    """A wait, then the readiness of the clone, and then its response. What is over is dropped at once."""
 
-    def __init__(self, sleep, service, request):
-        self.sleep, self.service, self.request, self.response = sleep, service, request, None
+    def __init__(self, sleep, inner, request):
+        self.sleep = sleep
+        self.inner = inner
+        self.request = request
+        self.response = None
 
     def poll(self):
-        if self.sleep is not None:
-            if self.sleep.poll() is None:
-                return None
+        if self.sleep:
+            if self.sleep.poll() == "pending":
+                return "pending"
             self.sleep.drop()
             self.sleep = None
-        return wrapped(self.oneshot(), "Inner")
+        return within(self.ask() if self.inner else self.answer())
 
-    def oneshot(self):
-        if self.response is None:
-            answer = self.service.poll()
-            if answer is None:
-                return None
-            if is_ok(answer):
-                self.response = self.service.call(self.request)
-                answer = self.response.poll()
-                if answer is not None:
-                    self.response.drop()
-                    self.response = None
-            self.service.drop()
-            self.service = None
+    def ask(self):
+        answer = self.inner.poll()
+        if answer == "pending":
             return answer
+        if answer == "ready":
+            self.response = self.inner.call(self.request)
+            answer = self.answer()
+        self.inner.drop()
+        self.inner = None
+        return answer
+
+    def answer(self):
         answer = self.response.poll()
-        if answer is not None:
+        if answer != "pending":
             self.response.drop()
             self.response = None
         return answer
 
     def drop(self):
-        for part in (self.sleep, self.service, self.response):
-            if part is not None:
-                part.drop()
+        Nest(self.sleep, self.inner, self.response).drop()
 
 
-class Latency:
-    """The time from a call to its response is recorded by a clone of the recorder."""
+class Latency(Nest):
+    """A clone of the recorder is told how long each call took that answered well."""
 
-    def __init__(self, recorder, service, clock):
-        self.recorder, self.service, self.clock = recorder, service, clock
+    def __init__(self, stage, recorder, inner, clock):
+        super().__init__(recorder, inner, clock)
+        self.stage = stage
+        self.recorder = recorder
+        self.inner = inner
 
     def poll(self):
-        return self.service.poll()
+        return self.inner.poll()
 
     def call(self, request):
-        start = self.clock.read()
+        start = self.stage.read()
         recorder = self.recorder.clone()
-        response = self.service.call(request)
-        return Timed(start, recorder, response, self.clock.share())
+        response = self.inner.call(request)
+        return Timed(self.stage, start, recorder, response)
 
     def clone(self):
         recorder = self.recorder.clone()
-        if recorder is None:
-            return None
-        service = self.service.clone()
-        if service is None:
+        inner = recorder and self.inner.clone()
+        if recorder and not inner:
             recorder.drop()
-            return None
-        return Latency(recorder, service, self.clock.share())
-
-    def drop(self):
-        for part in (self.recorder, self.service, self.clock):
-            part.drop()
+        return inner and Latency(self.stage, recorder, inner, Shared(self.stage))
 
 
-class Timed:
-    """A clock that goes back gives no time, and an error isn't recorded."""
+class Timed(Nest):
+    """A clock that went back gives no time."""
 
-    def __init__(self, start, recorder, response, clock):
-        self.start, self.recorder, self.response, self.clock = start, recorder, response, clock
+    def __init__(self, stage, start, recorder, response):
+        super().__init__(recorder, response, Shared(stage))
+        self.stage = stage
+        self.start = start
+        self.recorder = recorder
+        self.response = response
 
     def poll(self):
         answer = self.response.poll()
-        if is_ok(answer) and self.recorder is not None:
-            self.recorder.record(max(self.clock.read() - self.start, 0))
+        if answer.startswith("ok ") and self.recorder:
+            self.recorder.record(max(self.stage.read() - self.start, 0))
         return answer
-
-    def drop(self):
-        for part in (self.recorder, self.response, self.clock):
-            if part is not None:
-                part.drop()
 
 
 class Recorder(Part):
+    def clone(self):
+        copy = self.plan.clone(self.name)
+        return copy and Recorder(self.plan, copy)
+
     def record(self, latency):
-        self.note(f"recorded {latency}")
+        self.plan.stage.note(f"recorded {latency}")
+
+
+class Periods:
+    """All points, each with the period in which it is read, and the present period, which never goes back."""
+
+    def __init__(self, length, made):
+        self.length = length
+        self.made = made
+        self.present = 0
+        self.points = []
+
+    def known(self):
+        return [millis for period, millis in self.points if period == self.present]
 
 
 class Histogram:
-    """Points, each with the period in which it is read. All shares have one list, and one present period."""
+    """A share of the points, whose latch may note its steps. Each step first moves on to the moment's period."""
 
-    def __init__(self, points, clock, is_told):
-        self.points, self.clock, self.is_told = points, clock, is_told
+    def __init__(self, stage, periods, is_noted):
+        self.stage = stage
+        self.periods = periods
+        self.is_noted = is_noted
+        stage.note("clock shared")
 
     def note(self, text):
-        if self.is_told:
-            self.clock.world.note(text)
+        if self.is_noted:
+            self.stage.note(f"latch {text}")
 
-    def step(self, text):
-        """A step first rotates: the present period is the greatest number of whole periods so far."""
-        moment = self.clock.read()
-        self.note(f"latch stepped {text.format(moment)}")
-        self.points.rotate(moment)
+    def step(self, name, *values):
+        periods, moment = self.periods, self.stage.read()
+        self.note(f"stepped {name}({', '.join(map(str, (moment, *values)))})")
+        periods.present = max(periods.present, (moment - periods.made) // periods.length)
 
     def seed(self, millis):
-        self.step(f"Seed({{}}, {millis})")
-        self.points.add(0, millis)
+        self.step("Seed", millis)
+        self.periods.points.append((self.periods.present, millis))
 
     def record(self, latency):
-        millis = -(-latency // 10**6)
-        self.step(f"Record({{}}, {millis})")
-        self.points.add(1, millis)
+        millis = -(-latency // MILLISECOND)
+        self.step("Record", millis)
+        self.periods.points.append((self.periods.present + 1, millis))
 
     def count(self):
-        self.step("Points({})")
-        return len(self.points.read())
+        self.step("Points")
+        return len(self.periods.known())
 
-    def quantile(self, part):
-        self.step(f"Quantile({{}}, Fraction {{{{ numerator: {part[0]}, divisor: {part[1]} }}}})")
-        points = sorted(self.points.read())
-        number = -(-len(points) * part[0] // part[1])
-        return points[min(max(number, 1), len(points)) - 1] if points else 0
+    def quantile(self, numerator, divisor):
+        self.step("Quantile", f"Fraction {{ numerator: {numerator}, divisor: {divisor} }}")
+        known = sorted(self.periods.known())
+        place = -(-len(known) * numerator // divisor)
+        return known[min(max(place, 1), len(known)) - 1] if known else 0
 
     def clone(self):
-        self.note("latch shared")
-        return Histogram(self.points, self.clock.share(), self.is_told)
+        self.note("shared")
+        return Histogram(self.stage, self.periods, self.is_noted)
 
     def drop(self):
-        self.note("latch dropped")
-        self.clock.drop()
+        self.note("dropped")
+        self.stage.drops("clock")
 
 
-class Points:
-    def __init__(self, period, made):
-        self.period, self.made, self.present, self.all = period, made, 0, []
-
-    def rotate(self, moment):
-        self.present = max(self.present, max(moment - self.made, 0) // self.period)
-
-    def add(self, later, millis):
-        self.all.append((self.present + later, millis))
-
-    def read(self):
-        return [millis for period, millis in self.all if period == self.present]
-
-
-class Quantile:
-    """The delay of a second request."""
+class Quantile(Nest):
+    """How long a second request waits."""
 
     def __init__(self, histogram, part):
-        self.histogram, self.part = histogram, part
+        super().__init__(histogram)
+        self.histogram = histogram
+        self.part = part
 
     def delay(self, request):
-        return min(self.histogram.quantile(self.part) * 10**6, LAST)
-
-    def drop(self):
-        self.histogram.drop()
+        return min(self.histogram.quantile(*self.part) * MILLISECOND, LAST_MOMENT)
 
 
-class Known:
-    """A request is copied where the policy copies it and enough latencies are known."""
+class Known(Nest):
+    """A request is made twice where the policy copies it and so many latencies are known."""
 
     def __init__(self, policy, histogram, least):
-        self.policy, self.histogram, self.least = policy, histogram, least
+        super().__init__(policy, histogram)
+        self.policy = policy
+        self.histogram = histogram
+        self.least = least
 
-    def copy(self, request):
-        copy = self.policy.copy(request)
+    def copied(self, request):
+        copy = self.policy.copied(request)
         return None if copy is None or self.histogram.count() < self.least else copy
-
-    def drop(self):
-        self.policy.drop()
-        self.histogram.drop()
 
 
 class Filter:
-    """A call leaves a clone behind, and is made of the service that was polled once the policy allows it."""
+    """A call leaves a clone behind, and asks the policy."""
 
-    def __init__(self, service, policy):
-        self.service, self.policy = service, policy
+    def __init__(self, inner, policy):
+        self.inner = inner
+        self.policy = policy
 
     def poll(self):
-        return wrapped(self.service.poll(), "Inner")
+        return within(self.inner.poll())
 
     def call(self, request):
-        copy = self.service.clone()
+        copy = self.inner.clone()
         if copy is None:
             return Refused()
-        service, self.service = self.service, copy
-        return Checked(service, request if self.policy.allows(request) else None)
+        inner, self.inner = self.inner, copy
+        return Checked(inner, request, self.policy.allows(request))
 
     def clone(self):
-        service = self.service.clone()
-        if service is None:
-            return None
-        policy = self.policy.clone()
-        if policy is None:
-            service.drop()
-            return None
-        return Filter(service, policy)
+        inner = self.inner.clone()
+        policy = inner and self.policy.clone()
+        if inner and not policy:
+            inner.drop()
+        return policy and Filter(inner, policy)
 
     def drop(self):
-        self.service.drop()
-        self.policy.drop()
+        Nest(self.inner, self.policy).drop()
 
 
 class Checked:
-    """A request that isn't allowed waits for ever."""
+    """A request that isn't allowed waits for ever. Another is made of the service that was polled."""
 
-    def __init__(self, service, request):
-        self.service, self.request, self.response = service, request, None
+    def __init__(self, inner, request, is_allowed):
+        self.inner = inner
+        self.request = request
+        self.is_allowed = is_allowed
+        self.response = None
 
     def poll(self):
-        if self.response is None:
-            if self.request is None:
-                return None
-            self.response = self.service.call(self.request)
-            self.service.drop()
-        return wrapped(self.response.poll(), "Inner")
+        if not self.is_allowed:
+            return "pending"
+        if self.inner:
+            self.response = self.inner.call(self.request)
+            self.inner.drop()
+            self.inner = None
+        return within(self.response.poll())
 
     def drop(self):
-        (self.service if self.response is None else self.response).drop()
+        Nest(self.inner, self.response).drop()
 
 
 class Hedge:
-    """The `Select` of a recorded clone, and of the service itself recorded, filtered and delayed, with one error."""
+    """The Select of a recorded clone, and of the service itself, recorded, filtered and delayed, with one error."""
 
-    def __init__(self, histogram, service, policy, least, part, clock):
-        first = Latency(histogram.clone(), service.clone(), clock.share())
-        second = Latency(histogram.clone(), service, clock.share())
-        filtered = Filter(second, policy.clone())
-        delay = Quantile(histogram.clone(), part)
-        self.inner = Select(Known(policy, histogram, least), first, Delay(delay, filtered, clock.share()))
-        clock.drop()
+    def __init__(self, stage, histogram, least, part):
+        inner, policy = Inner(stage.services, "s"), Twice(stage.others, "p")
+        first = Latency(stage, histogram.clone(), inner.clone(), Shared(stage))
+        second = Filter(Latency(stage, histogram.clone(), inner, Shared(stage)), policy.clone())
+        delayed = Delay(stage, Quantile(histogram.clone(), part), second, Shared(stage))
+        self.select = Select(Known(policy, histogram, least), first, delayed)
+        stage.drops("clock")
 
     def poll(self):
-        return flat(self.inner.poll())
+        return flat(self.select.poll())
 
     def call(self, request):
-        return Flat(self.inner.call(request))
+        return Flat(self.select.call(request))
 
     def drop(self):
-        self.inner.drop()
+        self.select.drop()
 
 
 class Flat:
@@ -370,75 +377,76 @@ class Flat:
 
 
 def flat(answer):
-    """The one error of a hedge."""
-    if not is_err(answer):
+    """The variants of the parts' errors are one."""
+    if not answer.startswith("error "):
         return answer
-    number = re.search(r"\d+", answer[1])
-    return err(f"Inner({number[0]})" if number else "out of memory")
+    number = "".join(filter(str.isdigit, answer))
+    return f"error Inner({number})" if number else "error out of memory"
 
 
-def select(rng, count):
-    world = World()
-    service = Select(Twice(world.others, "p"), Service(world.services, "a"), Service(world.others, "b"))
-    play = Play(rng, world, "select", service)
-    while play.asked < count:
-        around(play, ["", "others "], clones=False)
-        ask(play, REQUESTS, clones=False)
-    return play.end(), play.asked
+class Hedging(Hostile):
+    """Likes requests that the policy knows, and services that answer late."""
+
+    def call(self):
+        fitting = self.play.handles[0] and self.play.may_call[0]
+        if not fitting and self.rng.random() < 0.9:
+            return self.poll()
+        self.play.call(0, self.rng.choice([NO_COPY, ONCE, *range(8), self.rng.randrange(256)]))
 
 
-def delay(rng, count):
-    world = World()
+def select(rng):
+    stage = Stage()
+    service = Select(Twice(stage.others, "p"), Inner(stage.services, "a"), Inner(stage.others, "b"))
+    return Hedging(rng, Play(stage, "select", service), clones=False, others=True).steps(rng.randrange(60, 100))
+
+
+def delay(rng):
+    stage = Stage()
     is_longest = rng.random() < 0.1
-    policy = Longest() if is_longest else Twice(world.others, "p")
-    service = Delay(policy, Service(world.services, "s"), Clock(world))
-    play = Play(rng, world, "longest_delay" if is_longest else "delay", service)
-    while play.asked < count:
-        tick(play, 40)
-        around(play, [""])
-        ask(play, REQUESTS, clones=False)
-    return play.end(), play.asked
+    policy = Longest() if is_longest else Twice(stage.others, "p")
+    service = Delay(stage, policy, Inner(stage.services, "s"), Shared(stage))
+    stage.told()
+    play = Play(stage, "longest_delay" if is_longest else "delay", service)
+    sleeps = lambda: [future.sleep for future in play.futures[-6:] if isinstance(future, Delayed)]
+    marks = lambda: [sleep.deadline for sleep in sleeps() if sleep]
+    return Hedging(rng, play, clones=False, marks=marks).steps(rng.randrange(60, 100))
 
 
-def latency(rng, count):
-    world = World()
-    service = Latency(Recorder(world.others, "n"), Service(world.services, "s"), Clock(world))
-    play = Play(rng, world, "latency", service)
-    while play.asked < count:
-        tick(play, 40)
-        around(play, ["", "others "])
-        ask(play, REQUESTS)
-    return play.end(), play.asked
+def latency(rng):
+    stage = Stage()
+    service = Latency(stage, Recorder(stage.others, "n"), Inner(stage.services, "s"), Shared(stage))
+    stage.told()
+    play = Play(stage, "latency", service)
+    marks = lambda: [future.start for future in play.futures[-4:] if future]
+    return Hostile(rng, play, others=True, marks=marks).steps(rng.randrange(60, 100))
 
 
-def hedge(rng, count):
-    world = World()
-    world.moment = rng.choice([0, 3, rng.randint(0, LAST)])
-    least, part = rng.choice([0, 1, 2, 3, 10, 11]), rng.choice([(9, 10), (1, 2), (0, 1), (1, 1), (3, 2)])
-    is_told, is_seeded = rng.random() < 0.6, rng.random() < 0.6
-    period, made, seeds = 60 * 10**9, 0, [1] * 8 + [10] * 2
-    first = f"hedge {least}" + ("" if is_seeded else " unseeded")
-    clock = Clock(world)
-    if is_told:
-        part = 9, 10
+def hedge(rng):
+    stage = Stage()
+    stage.moment = rng.choice([0, 3, rng.randint(0, LAST_MOMENT)])
+    least, is_seeded = rng.choice([0, 0, 1, 2, 3, 10, 11]), rng.random() < 0.6
+    is_noted = rng.random() < 0.6
+    if is_noted:
+        part, periods, seeds = (9, 10), Periods(60_000 * MILLISECOND, 0), [1] * 8 + [10] * 2
+        first = f"hedge {least}" + ("" if is_seeded else " unseeded")
     else:
-        period, made, seeds = rng.choice([1, 100, 10**6, 5 * 10**6]), clock.read(), [1, 3]
-        first = f"locked_hedge {least} {part[0]} {part[1]} {period}" + (" seeded" if is_seeded else "")
-    histogram = Histogram(Points(period, made), clock.share(), is_told)
+        part, seeds = rng.choice([(9, 10), (1, 2), (0, 1), (1, 1), (3, 2)]), [1, 3]
+        periods = Periods(rng.choice([1, 100, MILLISECOND, 5 * MILLISECOND]), stage.read())
+        first = f"locked_hedge {least} {part[0]} {part[1]} {periods.length}" + (" seeded" if is_seeded else "")
+    histogram = Histogram(stage, periods, is_noted)
     for millis in seeds if is_seeded else []:
         histogram.seed(millis)
-    service = Hedge(histogram, Service(world.services, "s"), Twice(world.others, "p"), least, part, clock)
-    play = Play(rng, world, f"{first}; at {world.moment}", service)
-    while play.asked < count:
-        tick(play, rng.choice([period, 10**6, 5 * 10**6]), made)
-        around(play, ["", "", "others "])
-        ask(play, REQUESTS, clones=False)
-    return play.end(), play.asked
+    play = Play(stage, f"{first}; at {stage.moment}", Hedge(stage, histogram, least, part))
+
+    def marks():
+        seconds = [future.inner.second for future in play.futures[-6:] if future]
+        sleeps = [second.sleep for second in seconds if isinstance(second, Delayed)]
+        period = periods.made + periods.present * periods.length
+        return [sleep.deadline for sleep in sleeps if sleep] + [period + later * periods.length for later in (1, 2)]
+
+    return Hedging(rng, play, clones=False, others=True, marks=marks).steps(rng.randrange(60, 100))
 
 
-def main(folder):
-    for seed, of_one in enumerate([select, delay, latency, hedge]):
-        write(Path(folder) / f"scripted_hedge.{of_one.__name__}.script", scripts(random.Random(seed), of_one))
-
-
-main(sys.argv[1])
+if __name__ == "__main__":
+    for scripts in (select, delay, latency, hedge):
+        write_hostile(sys.argv[1], "scripted_hedge", scripts.__name__, scripts)

@@ -1,53 +1,51 @@
-"""Writes scripts of `Buffer`, `ReadyCache` and `Balance` over hostile parties into a folder: python3 scripts/hostile/pool.py FOLDER"""
+"""Buffer with its worker, ReadyCache and Balance over a hostile party."""
 
-import random
 import sys
-from pathlib import Path
 
-from parties import LAST, Plan, Play, Service, World, around, ask, err, is_err, is_ok, moods, ok, replies, scripts, wrapped
-from script import write
-
-REQUESTS = [0, 1, 7, 255]
+from spawn import Answered
+from stage import LAST_MOMENT, Hostile, Inner, Plan, Play, Stage, within, write_hostile
 
 PASSES = 64
+CLOSED = "error buffer's worker closed unexpectedly"
 
 
 class Keys:
-    """Who leaves last gives its key to who comes next."""
+    """The key that was given back last is the next."""
 
     def __init__(self):
-        self.count, self.free = 0, []
+        self.count = 0
+        self.unused = []
 
     def take(self):
-        if self.free:
-            return self.free.pop()
-        self.count += 1
-        return self.count - 1
+        self.count += not self.unused
+        return self.unused.pop() if self.unused else self.count - 1
 
     def give(self, key):
-        self.free.append(key)
+        self.unused.append(key)
 
 
-class Line:
-    """Tickets in the order of asking, each held or waiting under a key. One has a place exactly if it is among the first `bound`."""
+class Places:
+    """Tickets in the order of asking, each held or waiting under a key. The first ones, as many as there are places, have one."""
 
     HELD = "held"
 
-    def __init__(self, bound):
-        self.bound, self.tickets, self.keys = bound, [], Keys()
+    def __init__(self, most):
+        self.most = most
+        self.tickets = []
+        self.keys = Keys()
 
     def join(self):
-        if len(self.tickets) < self.bound:
-            self.tickets.append(self.HELD)
-            return None
-        self.tickets.append(self.keys.take())
-        return self.tickets[-1]
+        """The key to wait under, or none with a place."""
+        key = self.keys.take() if len(self.tickets) >= self.most else None
+        self.tickets.append(self.HELD if key is None else key)
+        return key
 
     def look(self, key):
-        place = self.tickets.index(key)
-        if place >= self.bound:
+        """The same of this key."""
+        at = self.tickets.index(key)
+        if at >= self.most:
             return key
-        self.tickets[place] = self.HELD
+        self.tickets[at] = self.HELD
         self.keys.give(key)
         return None
 
@@ -57,17 +55,34 @@ class Line:
             self.keys.give(ticket)
 
 
-class Mail:
-    """All messages in the order of sending, beside the line for their places. A message is a list: its id, its request while it is queued, and its outcome."""
+class Message:
+    """Queued as long as it has its request. Its outcome is open, failed, cancelled, lost, or the response."""
 
-    def __init__(self, world, bound):
-        self.world, self.line, self.ids, self.messages = world, Line(bound), Keys(), []
-        self.stored, self.is_closed, self.buffers, self.has_worker, self.reserved = None, False, 1, True, 0
+    def __init__(self, id, request):
+        self.id = id
+        self.request = request
+        self.outcome = "open"
+
+
+class Mail:
+    """All messages in the order of sending, beside their places."""
+
+    def __init__(self, stage, most):
+        self.stage = stage
+        self.places = Places(most)
+        self.ids = Keys()
+        self.messages = []
+        self.reserved = 0
+        self.stored = None
+        self.is_closed = False
+        self.buffers = 1
+        self.has_worker = True
         self.shares = 255
 
     def share(self):
+        """Whether there is a further share of the latch."""
         if self.shares == 0:
-            self.world.note("no share")
+            self.stage.note("no share")
             return False
         if self.shares < 255:
             self.shares -= 1
@@ -75,632 +90,644 @@ class Mail:
 
     def told(self):
         """What closed mail tells."""
-        return CLOSED if self.stored is None else failed(self.stored)
+        if self.stored is None:
+            return CLOSED
+        return f"error Service(ServiceError {{ error: {self.stored} }}): buffered service failed: {self.stored}"
 
-    def ask(self, key):
-        """Asks for a place, or looks for that of the key: an error, the key to wait under, or none."""
-        self.world.note("Reserve" if key is None else f"Look {key}")
-        if self.is_closed:
-            return self.told(), None
-        key = self.line.join() if key is None else self.line.look(key)
-        if key is None:
-            self.reserved += 1
-        return None, key
-
-    def cancel(self, key):
-        self.world.note(f"Cancel {key}")
-        if not self.is_closed:
-            self.line.leave(key)
+    def reserve(self, key):
+        """The key to wait under, or none with a place."""
+        key = self.places.join() if key is None else self.places.look(key)
+        self.reserved += key is None
+        return key
 
     def unreserve(self):
-        self.world.note("Unreserve")
-        self.give_place()
-
-    def give_place(self):
         self.reserved -= 1
-        self.line.leave()
+        self.places.leave()
 
     def send(self, request):
-        """An error, or the id."""
-        self.world.note("Send")
-        if not self.has_worker:
-            self.give_place()
-            return self.told(), None
+        """The id of a message in the reserved place."""
         self.reserved -= 1
-        message = [self.ids.take(), request, "open"]
-        self.messages.append(message)
-        return None, message[0]
+        self.messages.append(Message(self.ids.take(), request))
+        return self.messages[-1].id
 
     def of(self, id):
-        return next(message for message in self.messages if message[0] == id)
+        return next(message for message in self.messages if message.id == id)
+
+    def queued(self):
+        return [message for message in self.messages if message.request is not None]
+
+    def unqueue(self, message):
+        message.request = None
+        self.places.leave()
 
     def remove(self, message):
-        if message[1] is not None:
-            self.line.leave()
         self.messages.remove(message)
-        self.ids.give(message[0])
+        self.ids.give(message.id)
 
     def take(self):
-        """A message, or whether only cancelled ones were queued, or the mail is at its end."""
-        self.world.note("Take")
-        is_cleared = False
-        for message in list(self.messages):
-            if message[1] is None:
-                continue
-            if message[2] == "cancelled":
-                self.remove(message)
-                is_cleared = True
-                continue
-            id, request, _ = message
-            message[1] = None
-            self.line.leave()
-            return id, request
-        if is_cleared:
-            return "cleared"
-        return "end" if self.reserved == 0 and (self.is_closed or self.buffers == 0) else "empty"
+        """The oldest message that isn't cancelled, with its request; or whether there were only others, or it is the end."""
+        cleared = False
+        for message in self.queued():
+            request = message.request
+            self.unqueue(message)
+            if message.outcome != "cancelled":
+                return message.id, request
+            self.remove(message)
+            cleared = True
+        is_over = self.reserved == 0 and (self.is_closed or self.buffers == 0)
+        return "cleared" if cleared else "end" if is_over else "empty"
 
     def live(self, id):
-        self.world.note(f"Live {id}")
         message = self.of(id)
-        if message[2] == "open":
-            return True
-        self.remove(message)
-        return False
-
-    def fail(self, id, error):
-        self.world.note(f"Fail {id}")
-        self.of(id)[2] = "failed"
-        if self.stored is None:
-            self.stored = error
-        self.close()
+        if message.outcome == "cancelled":
+            self.remove(message)
+        return message.outcome == "open"
 
     def close(self):
         self.is_closed = True
-        self.line.tickets = [ticket for ticket in self.line.tickets if ticket == Line.HELD]
+        self.places.tickets = [ticket for ticket in self.places.tickets if ticket == Places.HELD]
+
+    def fail(self, id, error):
+        self.of(id).outcome = "failed"
+        self.stored = error
+        self.close()
 
     def outcome(self, id):
-        self.world.note(f"Outcome {id}")
         message = self.of(id)
-        if message[2] == "open":
-            return None
-        self.remove(message)
-        return message[2]
+        if message.outcome != "open":
+            self.remove(message)
+        return message.outcome
 
     def forget(self, id):
-        self.world.note(f"Forget {id}")
         message = self.of(id)
-        if message[2] == "open":
-            message[2] = "cancelled"
+        if message.outcome == "open":
+            message.outcome = "cancelled"
             return
         self.remove(message)
-        if not isinstance(message[2], str):
-            message[2].drop()
+        if not isinstance(message.outcome, str):
+            message.outcome.drop()
 
     def worker_gone(self):
-        self.world.note("WorkerGone")
+        for message in self.queued():
+            self.unqueue(message)
         for message in list(self.messages):
-            if message[2] == "open":
-                if message[1] is not None:
-                    self.line.leave()
-                message[1:] = [None, "lost"]
-            elif message[2] == "cancelled":
+            if message.outcome == "cancelled":
                 self.remove(message)
+            elif message.outcome == "open":
+                message.outcome = "lost"
         self.close()
         self.has_worker = False
 
 
-CLOSED = err("buffer's worker closed unexpectedly")
-
-
-def failed(error):
-    return err(f"Service(ServiceError {{ error: {error} }}): buffered service failed: {error}")
-
-
 class Buffer:
-    """Away, asking under a key, or with a place."""
+    """Away, asking under a key, or with a place; and whether it has the share for a response."""
 
     def __init__(self, mail):
-        self.mail, self.has_share, self.key, self.has_place = mail, False, None, False
+        self.mail = mail
+        self.key = None
+        self.has_place = False
+        self.has_share = False
 
     def poll(self):
         if self.has_place:
-            return ok()
+            return "ready"
         if not self.has_share and not self.mail.share():
-            return err("out of memory")
+            return "error out of memory"
         self.has_share = True
-        error, self.key = self.mail.ask(self.key)
-        if error is not None:
-            return error
+        self.mail.stage.note("Reserve" if self.key is None else f"Look {self.key}")
+        if self.mail.is_closed:
+            self.key = None
+            return self.mail.told()
+        self.key = self.mail.reserve(self.key)
         self.has_place = self.key is None
-        return ok() if self.has_place else None
+        return "ready" if self.has_place else "pending"
 
     def call(self, request):
+        self.mail.stage.note("Send")
         self.has_place = False
-        error, id = self.mail.send(request)
-        if error is None:
-            self.has_share = False
-        return Answer(self.mail, id, error)
+        if not self.mail.has_worker:
+            self.mail.unreserve()
+            return Reply(self.mail, None, self.mail.told())
+        self.has_share = False
+        return Reply(self.mail, self.mail.send(request), None)
 
     def clone(self):
         if not self.mail.share():
             return None
-        self.mail.world.note("Join")
+        self.mail.stage.note("Join")
         self.mail.buffers += 1
         return Buffer(self.mail)
 
     def drop(self):
         if self.key is not None:
-            self.mail.cancel(self.key)
+            self.mail.stage.note(f"Cancel {self.key}")
+            if not self.mail.is_closed:
+                self.mail.places.leave(self.key)
         if self.has_place:
+            self.mail.stage.note("Unreserve")
             self.mail.unreserve()
-        self.mail.world.note("Part")
+        self.mail.stage.note("Part")
         self.mail.buffers -= 1
 
 
-class Answer:
-    """Tells an error, waits for the outcome of its message, or polls the future that it got."""
+class Reply:
+    """Has an error to tell, waits for its message's outcome, or has got its response."""
 
-    def __init__(self, mail, id, error):
-        self.mail, self.id, self.error, self.future = mail, id, error, None
+    def __init__(self, mail, id, told):
+        self.mail = mail
+        self.id = id
+        self.told = told
+        self.response = None
 
     def poll(self):
-        if self.error is not None:
-            return self.error
-        if self.future is None:
-            outcome = self.mail.outcome(self.id)
-            if outcome is None:
-                return None
-            self.id = None
-            if isinstance(outcome, str):
-                return CLOSED if outcome == "lost" else failed(self.mail.stored)
-            self.future = outcome
-        return wrapped(self.future.poll(), "Inner")
+        if self.told:
+            return self.told
+        if self.response:
+            return within(self.response.poll())
+        self.mail.stage.note(f"Outcome {self.id}")
+        outcome = self.mail.outcome(self.id)
+        if outcome == "open":
+            return "pending"
+        self.id = None
+        if isinstance(outcome, str):
+            return CLOSED if outcome == "lost" else self.mail.told()
+        self.response = outcome
+        return within(self.response.poll())
 
     def drop(self):
         if self.id is not None:
+            self.mail.stage.note(f"Forget {self.id}")
             self.mail.forget(self.id)
-        if self.future is not None:
-            self.future.drop()
+        if self.response:
+            self.response.drop()
 
 
 class Worker:
-    def __init__(self, mail, service):
-        self.mail, self.service, self.kept, self.has_failed, self.is_there = mail, service, None, False, True
+    """A service, and the message that it keeps while that isn't ready."""
 
-    def poll(self):
-        if not self.is_there:
+    def __init__(self, mail, inner):
+        self.mail = mail
+        self.inner = inner
+        self.kept = None
+        self.has_failed = False
+
+    def work(self):
+        if not self.inner:
             return "skipped"
         for _ in range(PASSES):
             answer = self.step()
-            if answer is not None:
-                if answer == "ended":
-                    self.gone()
+            if answer:
                 return answer
         return "pending"
 
     def step(self):
-        """One pass."""
-        if self.kept is not None:
+        """One pass, which may answer."""
+        note = self.mail.stage.note
+        if self.kept:
             (id, request), self.kept = self.kept, None
+            note(f"Live {id}")
             return self.serve(id, request) if self.mail.live(id) else None
-        taken = self.mail.take()
-        if isinstance(taken, str):
-            return {"cleared": None, "empty": "pending", "end": "ended"}[taken]
-        id, request = taken
-        if not self.has_failed:
-            return self.serve(id, request)
-        self.mail.world.note(f"FailStored {id}")
-        self.mail.of(id)[2] = "failed"
-        return None
+        note("Take")
+        match self.mail.take():
+            case "cleared":
+                return None
+            case "empty":
+                return "pending"
+            case "end":
+                self.gone()
+                return "ended"
+            case id, request:
+                if not self.has_failed:
+                    return self.serve(id, request)
+                note(f"FailStored {id}")
+                self.mail.of(id).outcome = "failed"
 
     def serve(self, id, request):
-        answer = self.service.poll()
-        if answer is None:
+        answer = self.inner.poll()
+        if answer == "pending":
             self.kept = id, request
-            return "pending"
-        if is_err(answer):
-            self.mail.fail(id, answer[1])
+            return answer
+        if answer == "ready":
+            response = self.inner.call(request)
+            self.mail.stage.note(f"Answer {id}")
+            self.mail.of(id).outcome = response
+        else:
+            self.mail.stage.note(f"Fail {id}")
+            self.mail.fail(id, answer.removeprefix("error "))
             self.has_failed = True
-            return None
-        future = self.service.call(request)
-        self.mail.world.note(f"Answer {id}")
-        self.mail.of(id)[2] = future
-        return None
 
     def gone(self):
-        self.is_there = False
+        self.mail.stage.note("WorkerGone")
         self.mail.worker_gone()
-        self.service.drop()
+        self.inner.drop()
+        self.inner = None
 
     def drop(self):
-        if self.is_there:
+        if self.inner:
             self.gone()
-        self.mail.world.note("mail at its end, 0 requests left")
+        self.mail.stage.note("mail at its end, 0 requests left")
 
 
-def buffer(rng, count):
-    world = World()
-    bound = rng.choice([1, 1, 2, 3, 10])
-    mail = Mail(world, bound)
-    worker = Worker(mail, Service(world.services, "s"))
-    play = Play(rng, world, f"buffer {bound}", Buffer(mail))
-    breaks = rng.random() < 0.4
-    while play.asked < count:
-        if not worker.is_there:
-            # The mail is closed: some more asks.
-            count = min(count, play.asked + 20)
-        around(play, [""], clones=False, breaks=breaks)
-        luck = rng.random()
-        if luck < 0.2:
-            play.ask("work", worker.poll())
-        elif luck < 0.203:
-            was_there = worker.is_there
-            if was_there:
+class Party(Hostile):
+    """Asks words of the program's own often. Its services may never break."""
+
+    WEIGHTS = {**Hostile.WEIGHTS, "extra": 40}
+
+    def __init__(self, rng, play, extras, clones=False):
+        super().__init__(rng, play, clones=clones, extras=extras)
+        self.breaks = rng.random() < 0.5
+
+    def state(self):
+        state = super().state()
+        return state if self.breaks or not state.startswith("error ") else "pending"
+
+
+def buffer(rng):
+    stage = Stage()
+    places = rng.choice([1, 1, 2, 3, 10])
+    mail = Mail(stage, places)
+    worker = Worker(mail, Inner(stage.services, "s"))
+    play = Play(stage, f"buffer {places}", Buffer(mail), ended=[worker])
+
+    def work():
+        play.ask("work", worker.work())
+
+    def drop_worker():
+        if rng.random() < 0.2:
+            answer = None if worker.inner else "skipped"
+            if worker.inner:
                 worker.gone()
-            play.ask("drop worker", None if was_there else "skipped")
-        elif luck < 0.22 or mail.shares == 0 and luck < 0.4:
-            mail.shares = rng.choice([0, 1, 2]) if mail.shares == 255 else 255
-            play.ask(f"shares {mail.shares}")
-        else:
-            ask(play, REQUESTS)
-    return play.end(worker), play.asked
+            play.ask("drop worker", answer)
+
+    def shares():
+        mail.shares = rng.choice([0, 1, 2]) if mail.shares == 255 else 255
+        play.ask(f"shares {mail.shares}")
+
+    hostile = Party(rng, play, [work] * 14 + [drop_worker, shares, shares], clones=True)
+    left = rng.randrange(60, 100)
+    while left > 0:
+        hostile.step()
+        # Not much comes once the mail is closed.
+        left = left - 1 if worker.inner else min(left, 20) - 1
+    return play.end()
 
 
 class Cache:
     """The ready endpoints, each under its key, and the pending ones, longest waiting first, each cancelled or not."""
 
     def __init__(self):
-        self.ready, self.pending = [], []
+        self.ready = []
+        self.pending = []
 
     def index(self, key):
-        return next((place for place, (other, _) in enumerate(self.ready) if other == key), None)
+        return next((index for index, (other, _) in enumerate(self.ready) if other == key), len(self.ready))
 
-    def waits(self, key):
+    def awaited(self, key):
         """The key's pending endpoint that isn't cancelled."""
         return next((entry for entry in self.pending if entry[0] == key and not entry[2]), None)
+
+    def cancel(self, key):
+        entry = self.awaited(key)
+        if entry:
+            entry[2] = True
+        return bool(entry)
 
     def push(self, key, service):
         self.cancel(key)
         self.pending.append([key, service, False])
 
-    def cancel(self, key):
-        entry = self.waits(key)
-        if entry is not None:
-            entry[2] = True
-        return entry is not None
-
     def remove(self, index):
         """The last one takes its place."""
-        service = self.ready[index][1]
-        last = self.ready.pop()
-        if index < len(self.ready):
-            self.ready[index] = last
-        return service
+        removed = self.ready[index]
+        self.ready[index] = self.ready[-1]
+        self.ready.pop()
+        return removed
 
     def evict(self, key):
         was_pending, index = self.cancel(key), self.index(key)
-        if index is not None:
-            self.remove(index).drop()
-        return was_pending or index is not None
+        if index == len(self.ready):
+            return was_pending
+        self.remove(index)[1].drop()
+        return True
 
     def poll(self):
         for entry in list(self.pending):
             key, service, is_cancelled = entry
-            if is_cancelled:
-                self.pending.remove(entry)
-                service.drop()
-                continue
-            answer = service.poll()
-            if answer is None:
+            answer = "cancelled" if is_cancelled else service.poll()
+            if answer == "pending":
                 continue
             self.pending.remove(entry)
-            if is_err(answer):
-                service.drop()
-                return err(f"Failed({key}, {answer[1]})")
-            index = self.index(key)
-            if index is None:
-                self.ready.append((key, service))
-            else:
-                old, self.ready[index] = self.ready[index][1], (key, service)
-                old.drop()
-        return None if self.pending else ok()
+            if answer == "ready":
+                self.promote(key, service)
+                continue
+            service.drop()
+            if answer != "cancelled":
+                return failed(key, answer)
+        return "pending" if self.pending else "ready"
+
+    def promote(self, key, service):
+        index = self.index(key)
+        old = self.ready[index : index + 1]
+        self.ready[index : index + 1] = [(key, service)]
+        for _, service in old:
+            service.drop()
 
     def check(self, index):
-        """Whether the endpoint at the index is ready, or why it failed."""
-        if index is None or index >= len(self.ready):
-            return ok("false")
+        if index >= len(self.ready):
+            return "false"
         key, service = self.ready[index]
         answer = service.poll()
-        if is_ok(answer):
-            return ok("true")
+        if answer == "ready":
+            return "true"
         self.remove(index)
-        if is_err(answer):
-            service.drop()
-            return err(f"Failed({key}, {answer[1]})")
-        self.wait(key, service)
-        return ok("false")
+        if answer == "pending":
+            self.put_back(key, service)
+            return "false"
+        service.drop()
+        return failed(key, answer)
 
-    def wait(self, key, service):
-        """It waits as the last, or is dropped where a newer one of its key waits."""
-        if self.waits(key) is None:
-            self.pending.append([key, service, False])
-        else:
+    def put_back(self, key, service):
+        """It waits as the last, unless a newer one of its key waits."""
+        if self.awaited(key):
             service.drop()
+        else:
+            self.pending.append([key, service, False])
 
     def call(self, index, request):
         key, service = self.ready[index]
         response = service.call(request)
         self.remove(index)
-        self.wait(key, service)
+        self.put_back(key, service)
         return response
 
     def services(self):
         return [service for _, service in self.ready] + [entry[1] for entry in self.pending]
 
-    def drop(self):
-        for service in self.services():
-            service.drop()
+
+def failed(key, answer):
+    return f"error Failed({key}, {answer.removeprefix('error ')})"
 
 
-def fleet(world):
-    """Each endpoint has a plan of its own."""
-    return {name: Plan(world) for name in "abcd"}
+class Fleet(Hostile):
+    """Endpoints with a plan each."""
 
+    def __init__(self, rng, play, extras, weights):
+        self.WEIGHTS = weights
+        super().__init__(rng, play, clones=False, extras=[*extras, self.endpoint])
+        self.plans = {name: Plan(play.stage) for name in "abcd"}
+        self.breaks = rng.random() < 0.6
 
-def turn(play, plans, breaks=True):
-    """An endpoint answers otherwise from now on."""
-    rng = play.rng
-    name = rng.choice("abcd")
-    if rng.random() < 0.6:
-        text = moods(rng, breaks)
-        plans[name].moods = text.split(", ")
-        play.ask(f"{name} readiness {text}")
-    else:
-        text = replies(rng)
-        plans[name].replies = text.split(", ")
-        play.ask(f"{name} replies {text}")
+    def state(self):
+        state = super().state()
+        return state if self.breaks or not state.startswith("error ") else "pending"
 
-
-def told(answer):
-    return f"error {answer[1]}" if is_err(answer) else answer[1]
-
-
-def drop_all(play, words, services):
-    """In which order the pending ones are dropped isn't said: how many is."""
-    play.script.ask(words, None, [".."])
-    play.world.told()
-    names = [service.name for service in services]
-    for name in "abcd" if names else "":
-        play.script.ask(f"count {name} dropped", str(names.count(name)))
-
-
-def ready_cache(rng, count):
-    world = World()
-    plans, cache = fleet(world), Cache()
-    play = Play(rng, world, "ready_cache")
-    keys = rng.choice([2, 4, 8])
-    breaks = rng.random() < 0.7
-    while play.asked < count:
-        name, key = rng.choice("abcd"), rng.randrange(keys)
-        made = Service(plans[name], name)
-        index = rng.randint(0, len(cache.ready))
-        luck = rng.random()
-        if luck < 0.2:
-            times = rng.choice([1] * 40 + [2, 3, 130])
-            for _ in range(times):
-                cache.push(key, Service(plans[name], name))
-            play.ask(f"push {key} {name}" + (f" {times}" if times > 1 else ""))
-        elif luck < 0.4:
-            answer = cache.poll()
-            play.ask("poll", "pending" if answer is None else "ready" if is_ok(answer) else told(answer))
-        elif luck < 0.46:
-            play.ask(f"check {key}", told(cache.check(cache.index(key))))
-        elif luck < 0.52:
-            play.ask(f"check_index {index}", told(cache.check(index)))
-        elif luck < 0.6:
-            answer = cache.check(index)
-            if answer == ok("true"):
-                cache.call(index, key).drop()
-            play.ask(f"call_index {index} {key}", told(answer))
-        elif luck < 0.66:
-            answer = cache.check(cache.index(key))
-            if answer == ok("true"):
-                cache.push(key, made)
-                cache.call(cache.index(key), key).drop()
-            else:
-                made.drop()
-            play.ask(f"push_and_call {key} {name}", told(answer))
-        elif luck < 0.72:
-            play.ask(f"evict {key}", str(cache.evict(key)).lower())
-        elif luck < 0.78:
-            at = cache.index(key)
-            waits = "" if cache.waits(key) is None else ", pending"
-            play.ask(f"find {key}", ("not ready" if at is None else f"{key} at {at}") + waits)
-        elif luck < 0.8:
-            play.ask(f"find_index {index}", str(cache.ready[index][0]) if index < len(cache.ready) else "none")
-        elif luck < 0.84:
-            by_index = rng.random() < 0.5
-            at = index if by_index else cache.index(key)
-            is_there = at is not None and at < len(cache.ready)
-            gone = made
-            if is_there:
-                gone, cache.ready[at] = cache.ready[at][1], (cache.ready[at][0], made)
-            gone.drop()
-            play.ask(f"replace_index {index} {name}" if by_index else f"replace {key} {name}", None if is_there else "none")
-        elif luck < 0.92:
-            ready, pending = len(cache.ready), len(cache.pending)
-            of_keys = "".join(f" {key}" for key, _ in cache.ready)
-            play.ask("look", f"ready{of_keys}, {ready} + {pending} = {ready + pending}" + ("" if ready + pending else ", empty"))
+    def endpoint(self):
+        """One of them answers otherwise from now on."""
+        name = self.rng.choice("abcd")
+        plan = self.plans[name]
+        if self.rng.random() < 0.7:
+            plan.readiness = self.list_of(self.state)
+            self.play.ask(f"{name} readiness {', '.join(plan.readiness)}")
         else:
-            turn(play, plans, breaks)
-    drop_all(play, "drop cache", cache.services())
-    return play.end(), play.asked
+            plan.replies = self.list_of(self.reply)
+            self.play.ask(f"{name} replies {', '.join(plan.replies)}")
+
+    def end(self, words, services):
+        """Drops all. In which order isn't said of those that are pending, but how many there are of each name is."""
+        self.play.script.ask(words, None, [".."])
+        names = [service.name for service in services]
+        for name in sorted(set(names)):
+            self.play.ask(f"count {name} dropped", str(names.count(name)))
+        return self.play.end()
 
 
-class Weighed(Service):
-    """Says its load, which may compare with none."""
+def ready_cache(rng):
+    stage, cache = Stage(), Cache()
+    play = Play(stage, "ready_cache", None)
+    keys = rng.choice([2, 4, 8])
+    request = lambda: rng.randrange(256)
+    key = lambda: rng.randrange(keys)
+    index = lambda: rng.randint(0, len(cache.ready))
+
+    def made():
+        name = rng.choice("abcd")
+        return Inner(hostile.plans[name], name)
+
+    def push():
+        of, service, count = key(), made(), rng.choice([1] * 40 + [2, 3, 130])
+        for _ in range(count):
+            cache.push(of, Inner(service.plan, service.name))
+        play.ask(f"push {of} {service.name}" + (f" {count}" if count > 1 else ""))
+
+    def poll():
+        play.ask("poll", cache.poll())
+
+    def check():
+        of = key()
+        play.ask(f"check {of}", cache.check(cache.index(of)))
+
+    def check_index():
+        at = index()
+        play.ask(f"check_index {at}", cache.check(at))
+
+    def call_index():
+        at, number = index(), request()
+        answer = cache.check(at)
+        if answer == "true":
+            cache.call(at, number).drop()
+        play.ask(f"call_index {at} {number}", answer)
+
+    def push_and_call():
+        of, service = key(), made()
+        answer = cache.check(cache.index(of))
+        if answer == "true":
+            cache.push(of, service)
+            cache.call(cache.index(of), of).drop()
+        else:
+            service.drop()
+        play.ask(f"push_and_call {of} {service.name}", answer)
+
+    def evict():
+        of = key()
+        play.ask(f"evict {of}", "true" if cache.evict(of) else "false")
+
+    def find():
+        of = key()
+        at, waits = cache.index(of), ", pending" if cache.awaited(of) else ""
+        play.ask(f"find {of}", (f"{of} at {at}" if at < len(cache.ready) else "not ready") + waits)
+
+    def find_index():
+        at = index()
+        play.ask(f"find_index {at}", str(cache.ready[at][0]) if at < len(cache.ready) else "none")
+
+    def replace():
+        of, by_index, gone = key(), rng.random() < 0.5, made()
+        at, name = index() if by_index else cache.index(of), gone.name
+        is_there = at < len(cache.ready)
+        if is_there:
+            cache.ready[at], gone = (cache.ready[at][0], gone), cache.ready[at][1]
+        gone.drop()
+        play.ask(f"replace_index {at} {name}" if by_index else f"replace {of} {name}", None if is_there else "none")
+
+    def look():
+        ready, pending = len(cache.ready), len(cache.pending)
+        of = "".join(f" {key}" for key, _ in cache.ready)
+        play.ask("look", f"ready{of}, {ready} + {pending} = {ready + pending}" + ("" if ready + pending else ", empty"))
+
+    extras = [push] * 5 + [poll] * 5 + [check, check_index, call_index, call_index, push_and_call, push_and_call, evict, find, find_index, replace, look]
+    hostile = Fleet(rng, play, extras, {"extra": 1})
+    for _ in range(rng.randrange(60, 100)):
+        hostile.step()
+    return hostile.end("drop cache", cache.services())
+
+
+class Weighed(Inner):
+    """Tells its load."""
 
     def __init__(self, plan, name, load):
         super().__init__(plan, name)
         self.load = load
 
     def weigh(self):
-        self.plan.world.note(f"{self.name} weighed")
+        self.plan.stage.note(f"{self.name} weighed")
         return self.load
 
 
 class Discovery:
-    """What is found next: an insert, a removal, an error, nothing yet or nothing ever."""
+    """What is found next: an insert, a removal, an error, nothing yet, or nothing ever. Or one key comes and goes for ever."""
 
-    def __init__(self, world):
-        self.world, self.found, self.is_closed, self.turns, self.is_there = world, [], False, None, False
+    def __init__(self, stage):
+        self.stage = stage
+        self.found = []
+        self.is_closed = False
+        self.turns = None
 
     def poll(self):
-        if self.turns is not None:
-            key, name = self.turns
-            find = ("removed", key) if self.is_there else ("inserted", key, name, 0)
-            self.is_there = not self.is_there
+        if self.turns:
+            find = self.turns[0]
+            self.turns.reverse()
         elif self.found:
             find = self.found.pop(0)
         else:
             find = ("ended",) if self.is_closed else ("pending",)
-        self.world.note(" ".join(["discovery", *map(str, find[:3])]))
+        self.stage.note(" ".join(map(str, ("discovery", *find[:3]))))
         return find
-
-    def drop(self):
-        self.world.note("discovery dropped")
 
 
 class Balance:
-    """Takes the changes, promotes, and chooses."""
+    """Takes the changes, promotes, and chooses. An index is kept from a choice to its call."""
 
-    def __init__(self, world, plans, discovery, words, compares):
-        self.world, self.plans, self.discovery, self.words, self.compares = world, plans, discovery, words, compares
-        self.cache, self.kept, self.has_ended = Cache(), None, False
+    def __init__(self, stage, discovery, words, compares):
+        self.stage = stage
+        self.discovery = discovery
+        self.words = words
+        self.compares = compares
+        self.cache = Cache()
+        self.kept = None
+        self.is_over = False
+        self.plans = None
 
     def poll(self):
-        for _ in range(0 if self.has_ended else PASSES):
-            what, *of = self.discovery.poll()
-            if what == "inserted":
-                key, name, load = of
-                self.cache.push(key, Weighed(self.plans[name], name, load))
-            elif what == "removed":
-                self.cache.evict(of[0])
-            elif what == "error":
-                return err(f"Discover({of[0]}): load balancer discovery error: {of[0]}")
-            else:
-                self.has_ended = what == "ended"
-                break
-        while is_err(self.cache.poll()):
+        error = None if self.is_over else self.changes()
+        if error:
+            return f"error Discover({error}): load balancer discovery error: {error}"
+        while self.cache.poll().startswith("error "):
             pass
         return self.choose()
 
-    def choose(self):
-        while True:
-            if self.kept is not None:
-                if self.cache.check(self.kept) == ok("true"):
-                    return ok()
-                self.kept = None
-            self.kept = self.pick()
-            if self.kept is None:
-                return None
+    def changes(self):
+        """An error of the discovery, or none."""
+        for _ in range(PASSES):
+            match self.discovery.poll():
+                case "inserted", key, name, load:
+                    self.cache.push(key, Weighed(self.plans[name], name, load))
+                case "removed", key:
+                    self.cache.evict(key)
+                case "error", error:
+                    return str(error)
+                case (answer,):
+                    self.is_over = answer == "ended"
+                    return None
+        return None
 
-    def pick(self):
+    def choose(self):
+        while self.kept is None or self.cache.check(self.kept) != "true":
+            self.kept = self.picked()
+            if self.kept is None:
+                return "pending"
+        return "ready"
+
+    def picked(self):
         ready = self.cache.ready
         if len(ready) < 2:
             return 0 if ready else None
         first, second = self.word() % (len(ready) - 1), self.word() % len(ready)
         if first == second:
             first = len(ready) - 1
-        loads = [ready[place][1].weigh() for place in (first, second)]
+        loads = [ready[index][1].weigh() for index in (first, second)]
         return first if self.compares and loads[0] <= loads[1] else second
 
     def word(self):
         word = self.words.pop(0) if self.words else 0
-        self.world.note(f"word {word}")
+        self.stage.note(f"word {word}")
         return word
 
     def call(self, request):
         index, self.kept = self.kept, None
         return Answered(self.cache.call(index, request))
 
-    def drop(self):
-        self.discovery.drop()
-        self.cache.drop()
 
+def balance(rng):
+    stage = Stage()
+    discovery, compares = Discovery(stage), rng.random() < 0.8
+    words = [rng.choice([0, 1, 2, 3, LAST_MOMENT, rng.randint(0, LAST_MOMENT)]) for _ in range(rng.randrange(9))]
+    service = Balance(stage, discovery, words, compares)
+    play = Play(stage, " ".join(["balance" if compares else "balance_never", *map(str, words)]), service)
+    key, name, load = (lambda: rng.randrange(6)), (lambda: rng.choice("abcd")), (lambda: rng.randrange(4))
 
-class Answered:
-    """Dropped as it answers."""
+    def insert():
+        found = "inserted", key(), name(), load()
+        discovery.found.append(found)
+        play.ask("insert {} {} {}".format(*found[1:]))
 
-    def __init__(self, inner):
-        self.inner = inner
-
-    def poll(self):
-        answer = self.inner.poll()
-        if answer is not None:
-            self.drop()
-        return wrapped(answer, "Inner")
-
-    def drop(self):
-        if self.inner is not None:
-            self.inner.drop()
-        self.inner = None
-
-
-def discover(play, discovery):
-    """Something is to be found."""
-    rng = play.rng
-    key, name, load = rng.randrange(6), rng.choice("abcd"), rng.randrange(4)
-    luck = rng.random()
-    if luck < 0.5:
-        discovery.found.append(("inserted", key, name, load))
-        play.ask(f"insert {key} {name} {load}")
-    elif luck < 0.53:
+    def insert_many():
         first, end = rng.choice([(0, 3), (2, 9), (10, 80), (5, 5)])
-        discovery.found += [("inserted", key, name, load) for key in range(first, end)]
-        play.ask(f"insert {first}..{end} {name} {load}")
-    elif luck < 0.85:
-        discovery.found.append(("removed", key))
-        play.ask(f"remove {key}")
-    elif luck < 0.95:
-        discovery.found.append(("error", key))
-        play.ask(f"fail {key}")
-    elif luck < 0.955:
-        discovery.is_closed = True
-        play.ask("close")
-    elif luck < 0.96:
-        discovery.turns = key, name
-        play.ask(f"turns {key} {name}")
+        of, weight = name(), load()
+        discovery.found += [("inserted", key, of, weight) for key in range(first, end)]
+        play.ask(f"insert {first}..{end} {of} {weight}")
+
+    def remove():
+        discovery.found.append(("removed", key()))
+        play.ask(f"remove {discovery.found[-1][1]}")
+
+    def fail():
+        discovery.found.append(("error", key()))
+        play.ask(f"fail {discovery.found[-1][1]}")
+
+    def last():
+        """Seldom there is no further change, or no end of them."""
+        if rng.random() < 0.1:
+            discovery.is_closed = True
+            play.ask("close")
+        elif rng.random() < 0.05:
+            of, who = key(), name()
+            discovery.turns = [("inserted", of, who, 0), ("removed", of)]
+            play.ask(f"turns {of} {who}")
+
+    def length():
+        count = len(service.cache.services())
+        play.ask("len", str(count) if count else "0, empty")
+
+    extras = [insert] * 8 + [remove] * 5 + [insert_many, fail, last, length, length]
+    hostile = Fleet(rng, play, extras, {**Hostile.WEIGHTS, "extra": 50, "turn": 0})
+    hostile.extras.extend([hostile.endpoint] * 5)
+    service.plans = hostile.plans
+    for _ in range(rng.randrange(60, 100)):
+        hostile.step()
+    play.handles = [None]
+    return hostile.end("drop a", service.cache.services())
 
 
-def balance(rng, count):
-    world = World()
-    plans, discovery = fleet(world), Discovery(world)
-    words = [rng.choice([0, 1, 2, 3, LAST, rng.randint(0, LAST)]) for _ in range(rng.randint(0, 8))]
-    compares = rng.random() < 0.8
-    first = " ".join(["balance" if compares else "balance_never", *map(str, words)])
-    service = Balance(world, plans, discovery, words, compares)
-    play = Play(rng, world, first, service)
-    breaks = rng.random() < 0.6
-    while play.asked < count:
-        luck = rng.random()
-        if luck < 0.3:
-            discover(play, discovery)
-        elif luck < 0.42:
-            turn(play, plans, breaks)
-        elif luck < 0.46:
-            length = len(service.cache.services())
-            play.ask("len", str(length) if length else "0, empty")
-        else:
-            ask(play, REQUESTS, clones=False, drops=False)
-    drop_all(play, "drop a", service.cache.services())
-    play.handles[0] = None
-    return play.end(), play.asked
-
-
-def main(folder):
-    for seed, (program, of_one) in enumerate([("buffer", buffer), ("balance", ready_cache), ("balance", balance)]):
-        write(Path(folder) / f"scripted_{program}.{of_one.__name__}.script", scripts(random.Random(40 + seed), of_one))
-
-
-main(sys.argv[1])
+if __name__ == "__main__":
+    for program, scripts in (("buffer", buffer), ("balance", ready_cache), ("balance", balance)):
+        write_hostile(sys.argv[1], f"scripted_{program}", scripts.__name__, scripts)

@@ -1,13 +1,8 @@
-"""Writes scripts of `SpawnReady` over hostile parties into a folder: python3 scripts/hostile/spawn.py FOLDER"""
+"""SpawnReady, its slot and its tasks over a hostile party."""
 
-import random
 import sys
-from pathlib import Path
 
-from parties import Play, Service, World, around, ask, err, is_ok, scripts, wrapped
-from script import write
-
-REQUESTS = [0, 3, 7, 255]
+from stage import Hostile, Inner, Play, Stage, within, write_hostile
 
 PASSES = 64
 
@@ -16,7 +11,8 @@ class Slot:
     """Idle, running, or aborted; or it holds a service, has failed with an error, or has ended."""
 
     def __init__(self):
-        self.state, self.value = "idle", None
+        self.state = "idle"
+        self.value = None
 
     def start(self):
         if self.state == "idle":
@@ -30,10 +26,13 @@ class Slot:
         if self.state == "running":
             self.state = "ended"
 
+    def is_aborted(self):
+        return self.state == "aborted"
+
     def look(self):
         state, value = self.state, self.value
-        self.value = None
         self.state = {"holds": "idle", "failed": "ended"}.get(state, state)
+        self.value = None
         return state, value
 
     def abort(self):
@@ -43,104 +42,112 @@ class Slot:
 
 
 class Latch:
-    """A share of a slot. The layer's notes nothing."""
+    """A share of a slot, whose steps may be noted, and whose shares may be refused then."""
 
-    def __init__(self, world, slot, is_told, shares):
-        self.world, self.slot, self.is_told, self.shares = world, slot, is_told, shares
+    def __init__(self, stage, is_noted):
+        self.stage = stage
+        self.is_noted = is_noted
+        self.slot = Slot()
+        self.shares = 255
 
     def note(self, text):
-        if self.is_told:
-            self.world.note(text)
+        if self.is_noted:
+            self.stage.note(text)
 
-    def step(self, text, step, *values):
-        self.note(text)
+    def step(self, name, step, *values):
+        self.note(name)
         return step(*values)
 
     def share(self):
-        if self.is_told and self.shares[0] == 0:
+        """Whether there is a further share."""
+        if self.is_noted and self.shares == 0:
             self.note("share refused")
-            return None
-        if self.shares[0] < 255:
-            self.shares[0] -= 1
+            return False
+        if self.shares < 255:
+            self.shares -= 1
         self.note("latch shared")
-        return Latch(self.world, self.slot, self.is_told, self.shares)
+        return True
 
     def drop(self):
         self.note("latch dropped")
 
 
-class ByTurns(Service):
+class ByTurns(Inner):
     """Pending unasked at the first poll, at the third, and so on."""
 
     is_asked = True
 
     def poll(self):
         self.is_asked = not self.is_asked
-        if not self.is_asked:
-            self.plan.world.note(f"{self.name} pending")
-            return None
-        return super().poll()
+        if self.is_asked:
+            return super().poll()
+        self.plan.stage.note(f"{self.name} pending")
+        return "pending"
 
 
 class Task:
-    def __init__(self, service, latch):
-        self.service, self.latch = service, latch
+    """Has a service and a share of the latch until it is done."""
+
+    def __init__(self, inner, latch):
+        self.inner = inner
+        self.latch = latch
 
     def poll(self):
-        """Whether it is done."""
-        slot = self.latch.slot
-        if self.latch.step("Aborted", lambda: slot.state == "aborted"):
-            left = [self.latch, self.service]
-        else:
-            answer = self.service.poll()
-            if answer is None:
-                return False
-            if is_ok(answer):
-                self.latch.step("Put", slot.put, "holds", self.service)
-                left = [self.latch]
-            else:
-                self.latch.step("PutError", slot.put, "failed", answer)
-                left = [self.latch, self.service]
+        latch, slot = self.latch, self.latch.slot
+        if latch.step("Aborted", slot.is_aborted):
+            return self.done(latch, self.inner)
+        answer = self.inner.poll()
+        if answer == "pending":
+            return "pending"
+        if answer == "ready":
+            latch.step("Put", slot.put, "holds", self.inner)
+            return self.done(latch)
+        latch.step("PutError", slot.put, "failed", answer)
+        return self.done(latch, self.inner)
+
+    def done(self, *left):
         for part in left:
             part.drop()
-        self.service = self.latch = None
-        return True
+        self.latch = None
+        return "ended"
 
     def drop(self):
-        if self.latch is not None:
+        if self.latch:
             self.latch.step("TaskGone", self.latch.slot.gone)
-            self.service.drop()
+            self.inner.drop()
             self.latch.drop()
 
 
 class Tasks:
-    """Those that were handed over, the newest last, and those that ended."""
+    """Those that were handed over, the newest last, unless each is polled at once and dropped."""
 
-    def __init__(self, world, at_once):
-        self.world, self.at_once = world, at_once
-        self.waiting, self.ended, self.room = [], [], 255
+    def __init__(self, stage, at_once):
+        self.stage = stage
+        self.at_once = at_once
+        self.waiting = []
+        self.room = 255
 
     def spawn(self, task):
+        """Whether it is taken."""
+        if not self.at_once and self.room == 0:
+            self.stage.note("not spawned")
+            return False
+        self.stage.note("spawned")
         if self.at_once:
-            self.world.note("spawned")
             task.poll()
             task.drop()
-            return True
-        if self.room == 0:
-            self.world.note("not spawned")
-            return False
-        self.room -= 1
-        self.world.note("spawned")
-        self.waiting.append(task)
+        else:
+            self.room -= 1
+            self.waiting.append(task)
         return True
 
     def poll(self):
         if not self.waiting:
             return "skipped"
-        if not self.waiting[-1].poll():
-            return "pending"
-        self.ended.append(self.waiting.pop())
-        return "ended"
+        answer = self.waiting[-1].poll()
+        if answer == "ended":
+            self.waiting.pop()
+        return answer
 
     def drop_newest(self):
         if self.waiting:
@@ -152,101 +159,128 @@ class Tasks:
 
 
 class SpawnReady:
-    def __init__(self, service, tasks, latch):
-        self.service, self.tasks, self.latch, self.is_running = service, tasks, latch, False
+    """Its service, unless a task has it, and whether its slot runs already while the service is here."""
+
+    def __init__(self, inner, tasks, latch):
+        self.inner = inner
+        self.tasks = tasks
+        self.latch = latch
+        self.is_running = False
 
     def poll(self):
         for _ in range(PASSES):
-            is_over, answer = self.look() if self.service is None else self.drive()
-            if is_over:
+            answer = self.drive() if self.inner else self.look()
+            if answer:
                 return answer
-        return None
+        return "pending"
 
     def look(self):
         state, value = self.latch.step("Look", self.latch.slot.look)
-        if state == "holds":
-            self.service, self.is_running = value, False
-            return False, None
-        if state == "failed":
-            return True, wrapped(value, "Inner")
-        return True, None if state == "running" else err("service is gone")
+        match state:
+            case "holds":
+                self.inner, self.is_running = value, False
+                return None
+            case "failed":
+                return within(value)
+            case "running":
+                return "pending"
+        return "error service is gone"
 
     def drive(self):
-        answer = self.service.poll()
-        if answer is not None:
-            return True, wrapped(answer, "Inner")
-        share = self.latch.share()
-        if share is None:
-            return True, err("out of memory")
+        answer = self.inner.poll()
+        if answer != "pending":
+            return within(answer)
+        if not self.latch.share():
+            return "error out of memory"
         if not self.is_running:
             self.latch.step("Start", self.latch.slot.start)
             self.is_running = True
-        if self.tasks.spawn(Task(self.service, share)):
-            self.service = None
-            return False, None
-        share.drop()
-        return True, err("task was not spawned")
+        if self.tasks.spawn(Task(self.inner, self.latch)):
+            self.inner = None
+            return None
+        self.latch.drop()
+        return "error task was not spawned"
 
     def call(self, request):
-        return Response(self.service.call(request))
+        return Answered(self.inner.call(request))
 
     def drop(self):
         self.latch.step("Abort", self.latch.slot.abort)
-        if self.service is not None:
-            self.service.drop()
+        if self.inner:
+            self.inner.drop()
         self.latch.drop()
 
 
-class Response:
-    """Dropped as it answers."""
+class Answered:
+    """A response that is dropped as it answers."""
 
-    def __init__(self, inner):
-        self.inner = inner
+    def __init__(self, response):
+        self.response = response
 
     def poll(self):
-        answer = self.inner.poll()
-        if answer is not None:
+        answer = self.response.poll()
+        if answer != "pending":
             self.drop()
-        return wrapped(answer, "Inner")
+        return within(answer)
 
     def drop(self):
-        if self.inner is not None:
-            self.inner.drop()
-        self.inner = None
+        if self.response:
+            self.response.drop()
+        self.response = None
 
 
-def spawn_ready(rng, count):
-    world = World()
-    first = rng.choice(["spawn_ready"] * 6 + ["spawn_ready at_once", "spawn_ready by_turns", "spawn_ready at_once by_turns", "spawn_ready_layer", "spawn_ready_layer cloned"])
-    service = (ByTurns if "by_turns" in first else Service)(world.services, "s")
-    tasks = Tasks(world, "at_once" in first)
-    shares, slot = [255], Slot()
-    handle = SpawnReady(service, tasks, Latch(world, slot, "layer" not in first, shares))
-    play = Play(rng, world, first, handle)
-    breaks = rng.random() < 0.3
-    while play.asked < count:
-        if slot.state in ("ended", "aborted"):
-            # The service is gone: a few more asks.
-            count = min(count, play.asked + 8)
-        around(play, [""], clones=False, breaks=breaks)
-        luck = rng.random()
-        if luck < (0.4 if tasks.waiting else 0.02):
+class Spawning(Hostile):
+    WEIGHTS = {**Hostile.WEIGHTS, "extra": 40}
+
+    def __init__(self, rng, play, breaks, extras):
+        super().__init__(rng, play, clones=False, extras=extras)
+        self.breaks = breaks
+
+    def state(self):
+        """Many services never fail: one that fails in its task is gone."""
+        state = super().state()
+        return state if self.breaks or not state.startswith("error ") else "pending"
+
+
+FIRST = ["spawn_ready"] * 8 + ["spawn_ready at_once", "spawn_ready by_turns", "spawn_ready at_once by_turns", "spawn_ready_layer", "spawn_ready_layer cloned"]
+
+
+def spawn_ready(rng):
+    stage = Stage()
+    first = rng.choice(FIRST)
+    inner = (ByTurns if "by_turns" in first else Inner)(stage.services, "s")
+    tasks, latch = Tasks(stage, "at_once" in first), Latch(stage, "layer" not in first)
+    play = Play(stage, first, SpawnReady(inner, tasks, latch), ended=[tasks])
+
+    def task():
+        if tasks.waiting or rng.random() < 0.1:
             play.ask("task", tasks.poll())
-        elif luck < 0.41 and rng.random() < 0.1:
+
+    def drop():
+        if rng.random() < 0.1:
+            play.drop_handle(0)
+        elif rng.random() < 0.1:
             tasks.drop_newest()
             play.ask("drop task")
-        elif luck < 0.43:
-            tasks.ended.clear()
-            play.ask("drop ended")
-        elif luck < 0.46:
-            tasks.room = rng.choice([0, 1, 2]) if tasks.room > 2 else 255
-            play.ask(f"room {tasks.room}")
-        elif luck < 0.49:
-            shares[0] = rng.choice([0, 1, 2]) if shares[0] > 2 else 255
-            play.ask(f"shares {shares[0]}")
         else:
-            ask(play, REQUESTS, clones=False)
-    return play.end(tasks), play.asked
+            play.ask("drop ended")
+
+    def room():
+        tasks.room = rng.choice([0, 1, 2]) if tasks.room > 2 else 255
+        play.ask(f"room {tasks.room}")
+
+    def shares():
+        latch.shares = rng.choice([0, 1, 2]) if latch.shares > 2 else 255
+        play.ask(f"shares {latch.shares}")
+
+    hostile = Spawning(rng, play, rng.random() < 0.3, [task] * 10 + [drop, room, shares])
+    left = rng.randrange(60, 100)
+    while left > 0:
+        hostile.step()
+        # Not much comes once the service is gone.
+        left = min(left, 10) - 1 if latch.slot.state in ("ended", "aborted") else left - 1
+    return play.end()
 
 
-write(Path(sys.argv[1]) / "scripted_spawn.spawn_ready.script", scripts(random.Random(10), spawn_ready))
+if __name__ == "__main__":
+    write_hostile(sys.argv[1], "scripted_spawn", "spawn_ready", spawn_ready)
