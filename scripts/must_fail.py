@@ -20,6 +20,7 @@ kit reads for the crate. A later run tries only what has changed, and says how m
 The last line is `N refused, M not`, or `N refused, M not, K untried`; status 1 where M isn't 0.
 """
 import collections
+import contextlib
 import hashlib
 import importlib.machinery
 import importlib.util
@@ -247,12 +248,21 @@ class Tried:
         flags = ["--jobs", "1"]
         for name in functions:
             flags += ["--only", name]
-        with self.lanes, tempfile.TemporaryDirectory(dir=self.room) as copy:
+        with self.lanes.one():
+            ran = self.check_over_copy(edits, flags)
+        if ran.returncode < 0:
+            # (a signal ended it, as where memory runs out: once more, with no other check beside it)
+            with self.lanes.alone():
+                ran = self.check_over_copy(edits, flags)
+        return ran
+
+    def check_over_copy(self, edits, flags):
+        with tempfile.TemporaryDirectory(dir=self.room) as copy:
             if os.path.isdir(self.kept):
                 shutil.copytree(self.kept, copy, dirs_exist_ok=True)
             self.checks += 1
             ran = rt.checked(self.crate, texts_of(self.crate, edits), flags, copy)
-            if not edits:
+            if not edits and ran.returncode >= 0:
                 os.rename(copy, self.kept)
                 os.mkdir(copy)
         return ran
@@ -269,7 +279,7 @@ class Tried:
         first = next((it.functions[:1] for it in self.edits if it.functions), [])
         ran = self.check([], first)
         if ran.returncode:
-            print(f"must-fail {self.crate.name}: NOT PROVED without an edit:\n{ran.stdout[-3000:]}", flush=True)
+            print(f"must-fail {self.crate.name}: NOT PROVED without an edit (status {ran.returncode}):\n{ran.stdout[-3000:]}", flush=True)
         return not ran.returncode
 
     def try_together(self, edits):
@@ -416,10 +426,27 @@ def chosen(edits, crates, names, flags):
     return [it for it in edits if is_tried(it)], [it for it in edits if not is_tried(it)]
 
 
+class Lanes:
+    """So many checks run at once, or one alone."""
+
+    def __init__(self, number):
+        self.number, self.free, self.whole = number, threading.Semaphore(number), threading.Lock()
+
+    def one(self):
+        return self.free
+
+    @contextlib.contextmanager
+    def alone(self):
+        with self.whole, contextlib.ExitStack() as held:
+            for _ in range(self.number):
+                held.enter_context(self.free)
+            yield
+
+
 def tries(edits, store, room):
     """Tries the edits, and returns what came of each."""
     number = os.environ.get("RT_JOBS", "")
-    lanes = threading.Semaphore(int(number) if number.isdigit() else max(1, min(rt.processors(), rt.free() // 4_500_000_000)))
+    lanes = Lanes(int(number) if number.isdigit() else max(1, min(rt.processors(), rt.free() // 4_500_000_000)))
     by_crate = collections.defaultdict(list)
     for it in edits:
         by_crate[it.crate].append(it)

@@ -7,7 +7,7 @@
 set -uo pipefail
 
 crate=${1:?usage: scripts/refused.sh CRATE}
-most=100
+most=1000
 last=4
 cd "$(dirname "${BASH_SOURCE[0]}")" || exit 1
 program=$PWD/../crates/$crate/out/${crate}_tests

@@ -9,25 +9,31 @@ set -uo pipefail
 cd "$(dirname "${BASH_SOURCE[0]}")" || exit 1
 kit=$(dirname "$(dirname "$(realpath "$(command -v rt)")")")/toolchain/bin
 room=$(mktemp -d)
+library=$room/fail_alloc.so
 trap 'rm -rf "$room"' EXIT
-"$kit/clang" -O1 -shared -fPIC -nostdlib -fuse-ld="$kit/ld.lld" -o "$room/fail_alloc.so" fail_alloc.c || exit 1
+"$kit/clang" -O1 -shared -fPIC -nostdlib -fuse-ld="$kit/ld.lld" -o "$library" fail_alloc.c || exit 1
 
-# Plays the file once for each allocation.
+not_told() {
+    cat "$room/said" "$room/error" >&2
+    echo "refused_scripts: $file, allocation $number: not told" >&2
+    return 1
+}
+
+# Plays the file once for each allocation. A histogram that gets no memory leaves a request without a second attempt, which no answer tells: so of
+# hedge.script it is asked alone that it ends.
 play() {
-    local program=$1 file=$2 own=0 told=0 quiet=0 number status last
+    local program=$1 file=$2 room=$3 own=0 told=0 quiet=0 number status last
+    mkdir "$room" || return 1
     for ((number = 1; quiet < 40; number++)); do
-        LD_PRELOAD="$room/fail_alloc.so" FAIL_ALLOC=$number timeout 60 "$program" --refused "$file" > "$room/said" 2> "$room/error"
+        LD_PRELOAD="$library" FAIL_ALLOC=$number timeout 60 "$program" --refused "$file" > "$room/said" 2> "$room/error"
         status=$?
         last=$(tail -n 1 "$room/said")
         case "$status $last" in
             "0 "*" scripts, 0 lines wrong, 0 refusals") quiet=$((quiet + 1)) ;;
             "0 "*" scripts, 0 lines wrong, "*) told=$((told + 1)) quiet=0 ;;
+            "0 "*) [ "$(basename "$file")" = hedge.script ] || not_told || return 1; quiet=0 ;;
             *)
-                if [ "$status" != 1 ] || ! grep -q OutOfMemory "$room/error"; then
-                    cat "$room/said" "$room/error" >&2
-                    echo "refused_scripts: $file, allocation $number: not told" >&2
-                    return 1
-                fi
+                [ "$status" = 1 ] && grep -q OutOfMemory "$room/error" || not_told || return 1
                 own=$((own + 1)) quiet=0
                 ;;
         esac
@@ -35,10 +41,20 @@ play() {
     echo "refused_scripts: $(basename "$file"): $((number - 41)) allocations, of which $own the program's own, and $told told by an answer"
 }
 
+# As many files at once as there are processors.
+failed=0
+running=0
 for crate; do
-    program=$PWD/../crates/$crate/out/$crate
+    program=${PROGRAMS:-$PWD/../crates/$crate/out}/$crate
     [ -x "$program" ] || { echo "refused_scripts: $program isn't there: rt run makes it" >&2; exit 1; }
     for file in ../crates/"$crate"/data/*.script; do
-        play "$program" "$file" || exit 1
+        [ "$running" -lt "$(nproc)" ] || { wait -n || failed=1; running=$((running - 1)); }
+        play "$program" "$file" "$room/$crate.$(basename "$file")" &
+        running=$((running + 1))
     done
 done
+while [ "$running" -gt 0 ]; do
+    wait -n || failed=1
+    running=$((running - 1))
+done
+exit "$failed"

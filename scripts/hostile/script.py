@@ -25,7 +25,13 @@ class Script:
         return "\n".join(self.lines) + "\n"
 
 
+def events(text):
+    """How much is asked in a script: its lines after the first, but for the clock's moments."""
+    return sum(not asked.startswith("at ") for asked in text.splitlines()[1:])
+
+
 def write(file, scripts):
-    """Writes the texts of scripts as one file."""
+    """Writes the texts of scripts as one file, which begins with how many events it has."""
     with open(file, "w", encoding="utf-8") as it:
+        it.write(f"# {sum(map(events, scripts))} events\n\n")
         it.write("\n".join(scripts))

@@ -5,9 +5,12 @@
 //! `locked_limit PERMITS [layer] [global] [two]`: over a lock, of which nothing is noted. The layer may make a second service `t`, by a
 //! clone of the layer.
 //!
+//! `steered_limits`: two such services of one permit each, of which a `Steer` picks the first.
+//!
 //! `global_limit_layer SHARES`: a layer over the noted latch, with one permit.
 
-use crate::parts::{Beside, Permits};
+use crate::parts::{Beside, First, Permits};
+use futures::task::Poll;
 use scripted::party::Party;
 use scripted::report::Report;
 use scripted::script::{Numbers, Script};
@@ -18,7 +21,7 @@ use std::sync::Wait;
 use tests_support::future::After;
 use tests_support::latch::Noting;
 use tests_support::log::Log;
-use tests_support::run::is_ready;
+use tests_support::run::polled;
 use tests_support::service::Scripted;
 use tower_base::latch::held::Viewed;
 use tower_base::latch::{Guarded, Latch};
@@ -27,6 +30,7 @@ use tower_base::service::Service;
 use tower_limit::limit::concurrency::{LineCore, Semaphore};
 use tower_limit::limit::{ConcurrencyLimit, ConcurrencyLimitLayer, GlobalConcurrencyLimitLayer};
 use tower_ware::filter::{AsyncFilter, AsyncPredicateFn};
+use tower_ware::steer::Steer;
 
 /// A line of permits, behind a latch whose steps are noted.
 pub fn noting<'a, L: Latch<LineCore>>(
@@ -72,6 +76,7 @@ fn watched<L: Latch<LineCore>>(
 ) -> Result<(), AllocError> {
     let mut permits = Permits {
         alloc: script.alloc(),
+        log: script.stage().log,
         share: None,
     };
     if script.has("watched") {
@@ -89,14 +94,16 @@ fn lent<'a, L: Latch<LineCore>>(
     script: &Script<'a>,
     report: &mut Report<'_>,
     mut service: ConcurrencyLimit<Scripted<'a>, L>,
-    permits: &mut Permits<L>,
+    permits: &mut Permits<'a, L>,
 ) -> Result<(), AllocError> {
     if script.has("get_mut") {
         *service.get_mut() = script.service('t');
         drop(service.get_ref().clone()?);
     }
     if script.has("into_inner") {
-        is_ready::<u8, _>(script.solo(), &mut service);
+        if let Poll::Ready(Err(_)) = polled::<u8, _>(script.solo(), &mut service) {
+            return script.over(report, "out of memory");
+        }
         drop(service.into_inner());
         return script.play_party(report, permits);
     }
@@ -214,6 +221,28 @@ where
         other,
     };
     script.play_with(report, service, &Numbers, &mut party)
+}
+
+// Two limits of one permit each, of which the first is picked.
+fn steered<'a, R: Wait + Copy>(
+    rt: R,
+    script: &Script<'a>,
+) -> Result<Steer<Locked<'a, R>, First, u8>, AllocError> {
+    let alloc = script.alloc();
+    let first = ConcurrencyLimit::new(rt, alloc, script.service('s'), 1)?;
+    let second = ConcurrencyLimit::new(rt, alloc, script.service('t'), 1)?;
+    Steer::new(alloc, vec![in alloc; first, second]?, First)
+}
+
+pub fn play_steered<R: Wait + Copy>(
+    rt: R,
+    script: &Script<'_>,
+    report: &mut Report<'_>,
+) -> Result<(), AllocError> {
+    match steered(rt, script) {
+        Ok(service) => script.play(report, service),
+        Err(AllocError) => script.over(report, "out of memory"),
+    }
 }
 
 pub fn play_layer<R: Wait + Copy>(

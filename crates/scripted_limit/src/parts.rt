@@ -4,20 +4,23 @@ use futures::task::{Poll, Solo};
 use scripted::party::Party;
 use std::alloc::{AllocError, Global};
 use std::fmt::Display;
+use tests_support::log::Log;
 use tests_support::run::polled;
 use tower_base::latch::Latch;
 use tower_base::latch::held::Viewed;
 use tower_base::service::Service;
 use tower_limit::limit::concurrency::{LineCore, Semaphore};
+use tower_ware::steer::Picker;
 
-/// A share of the semaphore, if the script watches it: `free` tells how many permits are free.
+/// A share of the semaphore, if the script watches it: `free` tells how many permits are free, and so does the end.
 #[derive(Drop)]
-pub struct Permits<L: Latch<LineCore>> {
+pub struct Permits<'a, L: Latch<LineCore>> {
     pub alloc: Global,
+    pub log: &'a Log,
     pub share: Option<Semaphore<L>>,
 }
 
-impl<L: Latch<LineCore>> Party for Permits<L> {
+impl<'a, L: Latch<LineCore>> Party for Permits<'a, L> {
     fn act(&mut self, words: &str) -> Result<Option<String>, AllocError> {
         match (words, &self.share) {
             ("free", Some(share)) => Ok(Some(share.available_permits().to_string(self.alloc)?)),
@@ -30,7 +33,22 @@ impl<L: Latch<LineCore>> Party for Permits<L> {
     }
 
     fn end(&mut self) {
+        let Some(share) = &self.share else {
+            return;
+        };
+        let (free, max) = (share.available_permits(), share.max());
         self.share = None;
+        self.log.note(format_args!("{free} of {max} permits free"));
+    }
+}
+
+/// Picks the first service.
+#[derive(Clone, Copy)]
+pub struct First;
+
+impl<S> Picker<S, u8> for First {
+    fn pick(&mut self, _request: &u8, _services: &[S]) -> usize {
+        0
     }
 }
 

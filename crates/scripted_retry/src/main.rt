@@ -3,6 +3,7 @@
 
 mod backoff;
 mod budget;
+mod paid;
 mod parts;
 mod policy;
 mod retry;
@@ -28,6 +29,8 @@ impl<R: Wait + Copy> Services for Retries<R> {
                 script, report,
             ),
             "retry_limited" if script.knows(&[]) => retry::play_limited(self.rt, script, report),
+            "retry_budget" if script.knows(&[]) => paid::play_budget(self.rt, script, report),
+            "retry_backoff" if script.knows(&[]) => paid::play_backoff(script, report),
             "budget" if script.knows(&[]) => budget::play(self.rt, script, report),
             "usual_budget" if script.knows(&[]) => budget::play_usual(self.rt, script, report),
             "backoff" if script.knows(&["refused"]) => backoff::play(script, report),

@@ -1,5 +1,6 @@
-//! Which steps a latch is asked for: four runs, each up to its last answer. A fifth, a hedge's, is a script (`scripted_hedge/data/hedge.script`).
+//! Which steps a latch is asked for: five runs, each up to its last answer.
 
+use crate::nest::waits_ten_milliseconds;
 use std::alloc::{AllocError, AllocGlobal, Global};
 use std::cell::Cell;
 use std::fmt::Write;
@@ -17,6 +18,8 @@ use tower_limit::limit::ConcurrencyLimit;
 use tower_limit::limit::concurrency::{LineCore, Semaphore};
 use tower_limit::load::pending_requests::{Count, CountCore};
 use tower_limit::load::{CompleteOnResponse, Load, PendingRequests};
+use tower_retry::hedge::rotating_histogram::HistoCore;
+use tower_retry::hedge::{Hedge, Policy};
 use tower_retry::retry::budget::{Budget, BudgetCore, TpsBudget};
 
 // The steps among these events, each before a semicolon.
@@ -182,6 +185,53 @@ fn check_pending_requests<L: Latch<CountCore>>(
     Ok(())
 }
 
+// Copies each request, and lets each be made again.
+#[derive(Clone, Copy, Drop)]
+struct Always;
+
+impl Policy<u8> for Always {
+    fn clone_request(&self, request: &u8) -> Option<u8> {
+        Some(*request)
+    }
+
+    fn can_retry(&self, _request: &u8) -> bool {
+        true
+    }
+}
+
+// Ten latencies are known, eight of one millisecond and two of ten, and a call waits as long as nine of ten took. Neither of its
+// two requests is answered.
+fn check_hedge<L: Latch<HistoCore>>(
+    rt: &HostRuntime,
+    checks: &Checks,
+    log: &Log,
+    latch: L,
+) -> Result<(), Fail> {
+    let (shares, moment, script) = (Cell::new(u8::MAX), Cell::new(0), Script::new(log));
+    script.replies(&[Reply::Never]);
+    let made = Hedge::with_latch_and_mock_latencies(
+        Noting::new(log, &shares, latch),
+        Scripted::new(&script, 's'),
+        Always,
+        10,
+        Fraction::new(9, 10),
+        Hand::new(log, &moment),
+        &[1, 1, 1, 1, 1, 1, 1, 1, 10, 10],
+    );
+    match made {
+        Ok(hedge) => checks.holds(waits_ten_milliseconds(&task(rt)?, &moment, hedge)),
+        Err(AllocError) => return Err("no hedge".into()),
+    }
+    check_steps(
+        checks,
+        rt.alloc(),
+        log,
+        "Seed(0, 1);Seed(0, 1);Seed(0, 1);Seed(0, 1);Seed(0, 1);Seed(0, 1);Seed(0, 1);Seed(0, 1);\
+         Seed(0, 10);Seed(0, 10);Points(0);Quantile(0, Fraction { numerator: 9, divisor: 10 });",
+    );
+    Ok(())
+}
+
 #[test]
 fn counting_latch(rt: HostRuntime) -> Result<(), Fail> {
     let alloc = rt.alloc();
@@ -194,6 +244,8 @@ fn counting_latch(rt: HostRuntime) -> Result<(), Fail> {
     let budget = TpsBudget::with_latch(latch, Hand::new(&log, &moment));
     check_budget(&rt, &checks, &log, budget)?;
     let _drops = log.told(alloc)?;
+    let histogram = Guarded::new(rt, alloc, HistoCore::new(alloc, 60_000_000_000, 0))?;
+    check_hedge(&rt, &checks, &log, histogram)?;
     let count = Guarded::new(rt, alloc, CountCore::new())?;
     check_pending_requests(&rt, &checks, &log, count)?;
     checks.verdict()

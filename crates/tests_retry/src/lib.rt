@@ -10,4 +10,6 @@ mod budget;
 #[cfg(test)]
 mod counting_latch;
 #[cfg(test)]
+mod nest;
+#[cfg(test)]
 mod silent;

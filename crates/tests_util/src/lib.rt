@@ -12,6 +12,8 @@ mod make_service;
 #[cfg(test)]
 mod map_future;
 #[cfg(test)]
+mod outlasts;
+#[cfg(test)]
 mod ready;
 #[cfg(test)]
 mod shared;

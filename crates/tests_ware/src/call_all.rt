@@ -1,6 +1,7 @@
 //! `tower::util::{CallAll, CallAllUnordered}`: how a service comes out again, and what is dropped then.
+ghost use Rattle.std.specs.Prelude.{IfOk, IfSome};
 
-use futures::task::Poll;
+use futures::task::{Poll, Solo};
 use std::test::Fail;
 use tests_support::checks::Checks;
 use tests_support::log::Log;
@@ -159,6 +160,77 @@ fn service_is_there_after_the_end(rt: HostRuntime) -> Result<(), Fail> {
     }
     drop(calls.take_service());
     checks.told(&log, "requests ended;s dropped;");
+    checks.verdict()
+}
+
+// Does one after another: `next` polls the stream, `send 2` sends requests up to two in all, and `admit` lets the service be ready
+// once.
+fn play<F>(
+    solo: &Solo,
+    desk: &Desk<'_>,
+    calls: &mut Option<F>,
+    acts: &str,
+    text: &mut String,
+) -> Result<(), Fail>
+where
+    F: Flow<Item = Result<u8, Error<u8>>>,
+    requires { IfSome calls.old F.can_poll }
+    ensures { IfOk result (λ _. IfSome calls.new F.can_poll) }
+{
+    for act in acts.split(';') {
+        match act {
+            "next" => tell_next(solo, calls, text),
+            "admit" => desk.script.moods(&[Willing, Busy]),
+            _ => {
+                let sent = act.strip_prefix("send ").ok_or("not an act")?;
+                desk.outbox.send(sent.parse().map_err(|_| "not a number")?);
+            }
+        }
+    }
+    Ok(())
+}
+
+// Requests are sent to a service that is let in once for each. It comes out again after the last answer.
+#[test]
+fn service_comes_out_after_its_answers(rt: HostRuntime) -> Result<(), Fail> {
+    let checks = Checks::new(rt.alloc());
+    let log = Log::new(rt.alloc())?;
+    let desk = Desk::new(&log, Outbox::new(0, false));
+    desk.script.moods(&[Busy]);
+    let solo = task(&rt)?;
+    let mut text = String::new(rt.alloc());
+    let mut calls = Some(CallAll::new(rt.alloc(), desk.service(), desk.requests()));
+    play(
+        &solo,
+        &desk,
+        &mut calls,
+        "next;send 1;next;admit;next;next;admit;send 3;next;next;admit;next;admit;next;admit;send 4;next;next;admit",
+        &mut text,
+    )?;
+    checks.same(
+        &text.as_str(),
+        &"pending;pending;0;pending;1;pending;2;pending;3;pending;",
+    );
+    desk.outbox.close();
+    let Some(mut calls) = calls else {
+        return Err("it ended".into());
+    };
+    let mut cx = solo.begin();
+    let answer = calls.flow(&mut cx);
+    cx.cancel();
+    checks.same(&answer, &Poll::Ready(None));
+    if !calls.has_service() {
+        return Err("no service".into());
+    }
+    drop(calls.take_service());
+    checks.told(
+        &log,
+        "requests pending;requests gave 0;s pending;s ready;s called 0;s(0) ready;s(0) dropped;\
+         requests pending;requests gave 1;s ready;s called 1;s(1) ready;s(1) dropped;\
+         requests gave 2;s pending;s ready;s called 2;s(2) ready;s(2) dropped;\
+         requests pending;requests gave 3;s ready;s called 3;s(3) ready;s(3) dropped;\
+         requests pending;requests ended;s dropped;",
+    );
     checks.verdict()
 }
 

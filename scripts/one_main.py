@@ -1,0 +1,104 @@
+#!/usr/bin/env python3
+"""scripts/one_main.py hedge | DEPTH..: proves a program whose whole stack is called in one `main`, beside the library as it is built here.
+
+`hedge` is the program of scripts/one_main/hedge.txt, a whole `Hedge`. A depth, from 1 to 10, is `example_ten_layers` with so many of its layers, the
+innermost ones. Each is proved alone, with nothing kept, and a row of a table says what its check took. Where the libraries aren't built yet they are
+built first. The status is 1 if a program isn't proved.
+"""
+import os
+import re
+import resource
+import subprocess
+import sys
+import tempfile
+
+ROOT = os.path.dirname(os.path.dirname(os.path.realpath(__file__)))
+EXAMPLE = f"{ROOT}/crates/example_ten_layers/src"
+
+
+def read(path):
+    with open(path, encoding="utf-8") as it:
+        return it.read()
+
+
+def without_unused(text):
+    """The text without the imports, the modules and the lines `let NAME` that nothing uses."""
+    lines = text.split("\n")
+    while True:
+        body = [it for it in lines if not re.match(r"(use|mod) ", it)]
+        is_used = lambda name, but: any(re.search(rf"\b{name}\b", it) for it in body if it is not but)
+        found = []
+        for line in lines:
+            if let := re.match(r"    let (\w+) = ", line):
+                kept = [line] if is_used(let[1], line) else []
+            elif module := re.match(r"mod (\w+);", line):
+                kept = [line] if any(it.startswith(f"use {module[1]}::") for it in lines) else []
+            elif use := re.match(r"(use .*::)\{?([\w, ]+)\}?;", line):
+                # (a trait is used by its methods)
+                names = [it for it in use[2].split(", ") if it in ("BlockOnExt", "io") or is_used(it, line)]
+                kept = [f"{use[1]}{names[0] if len(names) == 1 else '{' + ', '.join(names) + '}'};"] if names else []
+            else:
+                kept = [line]
+            found += kept
+        if found == lines:
+            return re.sub(r"\n{3,}", "\n\n", "\n".join(found))
+        lines = found
+
+
+def program_of(depth):
+    """The files of the example with its innermost layers alone."""
+    main = read(f"{EXAMPLE}/main.rt")
+    layers = re.findall(r"\n        \.(?!service_fn)\w+\((?:[^\n]|\n {12}| *\n        \}\))*", main)
+    assert len(layers) == 10, layers
+    for layer in layers[:10 - depth]:
+        main = main.replace(layer, "")
+    files = {"main.rt": without_unused(main.replace("10 middleware", f"{depth} middleware"))}
+    policy, retries = read(f"{EXAMPLE}/policy.rt").split("/// Two retries")
+    if "retry(" not in main:
+        policy, retries = without_unused(policy), None
+    if "mod policy" in files["main.rt"]:
+        files["policy.rt"] = policy.rstrip("\n") + "\n" if retries is None else f"{policy}/// Two retries{retries}"
+    if "mod short" in files["main.rt"]:
+        files["short.rt"] = read(f"{EXAMPLE}/short.rt")
+    return files
+
+
+def prove(name, files):
+    """Proves a program of these files in a repository of its own, beside links to the crates of this one."""
+    with tempfile.TemporaryDirectory(prefix="one-main-") as room:
+        os.makedirs(f"{room}/crates/one_main/src")
+        os.makedirs(f"{room}/crates/one_main/specs")
+        open(f"{room}/crates/one_main/specs/Lib.antt", "w").close()
+        for file, text in files.items():
+            with open(f"{room}/crates/one_main/src/{file}", "w", encoding="utf-8") as it:
+                it.write(text)
+        libraries = [it for it in read(f"{ROOT}/crates.txt").splitlines() if re.match(r"tower(_(?!bench|run)\w+)?[ :]", it)]
+        for line in libraries:
+            crate = re.match(r"\w+", line)[0]
+            os.symlink(f"{ROOT}/crates/{crate}", f"{room}/crates/{crate}")
+        with open(f"{room}/crates.txt", "w", encoding="utf-8") as it:
+            it.write("\n".join([*libraries, "one_main may_wait=3: tower futures thiserror", ""]))
+        with open(f"{room}/HANDLES", "w", encoding="utf-8") as it:
+            it.write(read(f"{ROOT}/HANDLES"))
+        subprocess.run(["rt", "lib"], cwd=f"{room}/crates/tower", check=True, stdout=subprocess.DEVNULL, stderr=subprocess.DEVNULL)
+        before = resource.getrusage(resource.RUSAGE_CHILDREN)
+        ran = subprocess.run(["rt", "check", "--only", "main"], cwd=f"{room}/crates/one_main", stdout=subprocess.PIPE, stderr=subprocess.STDOUT, text=True)
+        after = resource.getrusage(resource.RUSAGE_CHILDREN)
+    took = after.ru_utime + after.ru_stime - before.ru_utime - before.ru_stime
+    is_proved = not ran.returncode
+    if not is_proved:
+        print(ran.stdout[-3000:], file=sys.stderr)
+    print(f"| {name} | {took:.0f} | {after.ru_maxrss // 1024} | {'yes' if is_proved else 'NO'} |", flush=True)
+    return is_proved
+
+
+def main(words):
+    if not words or not all(it == "hedge" or it.isdigit() and 0 < int(it) < 11 for it in words):
+        sys.exit("usage: scripts/one_main.py hedge | DEPTH..")
+    print("| Layers | Processor seconds | MB at most | Proved |\n|---|---|---|---|")
+    proved = [prove(it, {"main.rt": read(f"{ROOT}/scripts/one_main/hedge.txt")} if it == "hedge" else program_of(int(it))) for it in words]
+    return 0 if all(proved) else 1
+
+
+if __name__ == "__main__":
+    sys.exit(main(sys.argv[1:]))
