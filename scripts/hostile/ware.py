@@ -352,11 +352,24 @@ class Linked:
             self.response.drop()
 
 
+class HostileMaker(Hostile):
+    """Connects and links fail often. A connect that never answers would end all, so there are few."""
+
+    WEIGHTS = Hostile.WEIGHTS | {"turn": 24}
+
+    def state(self):
+        return self.rng.choice([super().state(), f"error {self.rng.randrange(256)}"])
+
+    def reply(self):
+        failed = f"err {self.rng.randrange(256)}"
+        return self.rng.choice([super().reply(), *self.replies_in_time(), *[failed] * 6])
+
+
 def reconnect(rng):
     stage = Stage()
     linked = rng.random() < 0.3
     play = Play(stage, "reconnect linked" if linked else "reconnect", Reconnect(stage, linked))
-    return Hostile(rng, play, clones=False, others=True).steps(rng.randrange(60, 100))
+    return HostileMaker(rng, play, clones=False, others=True).steps(rng.randrange(60, 100))
 
 
 class Steer:
