@@ -1,6 +1,7 @@
 """Retry, with any policy, with a budget and with a backoff, TpsBudget and ExponentialBackoff over a hostile party."""
 
 import sys
+from collections import Counter
 
 from stage import LAST_MOMENT, Hostile, Inner, Part, Play, Stage, within, write_hostile
 
@@ -172,7 +173,7 @@ def retry(rng):
 
 
 class Budget:
-    """Every amount so far, each with its generation. An amount counts in its own generation and in the ten after it."""
+    """The sum of the amounts of each generation. An amount counts in its own and in the ten after it."""
 
     def __init__(self, stage, ttl, least, retries, requests):
         self.window = ttl // 10
@@ -185,7 +186,7 @@ class Budget:
         self.stage = stage
         self.made = stage.read()
         self.present = 0
-        self.amounts = []
+        self.sums = Counter()
 
     def advance(self):
         """The generation never goes back."""
@@ -193,13 +194,13 @@ class Budget:
 
     def deposit(self):
         self.advance()
-        self.amounts.append((self.present, self.gain))
+        self.sums[self.present] += self.gain
 
     def withdraw(self):
         self.advance()
-        balance = self.reserve + sum(amount for generation, amount in self.amounts if self.present <= generation + 10)
+        balance = self.reserve + sum(self.sums[self.present - back] for back in range(11))
         if balance >= self.price:
-            self.amounts.append((self.present, -self.price))
+            self.sums[self.present] -= self.price
         return balance >= self.price
 
     def marks(self):
