@@ -154,7 +154,8 @@ def words_of(rng):
 
     def word():
         polls, request = rng.randrange(3), rng.randrange(256)
-        return rng.choice(["done", "again", f"again {polls}", f"change {request}", f"change {request} {polls}", f"answer {rng.choice(['ok', 'err'])} {request}"])
+        answer = f"answer {rng.choice(['ok', 'err'])} {request}"
+        return rng.choice(["done", "again", f"again {polls}", f"change {request}", f"change {request} {polls}", answer])
 
     return [word() for _ in range(rng.randrange(1, 4))] + (["always"] if rng.random() < 0.1 else [])
 
