@@ -64,8 +64,7 @@ where
     R: Wait + RandomSource + AllocGlobal,
     B: Service<u64, Response = u64, Error = Error<E>> + Clone,
     E: Drop,
-    requires sound { B.sound buffer }
-    requires clones { (x y : B) → B.is_clone x y → B.sound x → B.sound y }
+    requires { (service : B) → B.sound service }
 {
     let mut tally = Tally {
         answered: 0,

@@ -1,7 +1,8 @@
 //! `tower::util::{CallAll, CallAllUnordered}`: how a service comes out again, and what is dropped then.
-ghost use Rattle.std.specs.Prelude.{IfOk, IfSome};
 
 use futures::task::{Poll, Solo};
+use scripted::flow::{Flowing, next};
+use std::alloc::Global;
 use std::test::Fail;
 use tests_support::checks::Checks;
 use tests_support::log::Log;
@@ -164,22 +165,22 @@ fn service_is_there_after_the_end(rt: HostRuntime) -> Result<(), Fail> {
 }
 
 // Does one after another: `next` polls the stream, `send 2` sends requests up to two in all, and `admit` lets the service be ready
-// once.
-fn play<F>(
+// once. What came of each poll.
+fn play<F: Flow<Item = Result<u8, Error<u8>>>>(
+    alloc: Global,
     solo: &Solo,
     desk: &Desk<'_>,
-    calls: &mut Option<F>,
+    calls: &mut Option<Flowing<F>>,
     acts: &str,
-    text: &mut String,
-) -> Result<(), Fail>
-where
-    F: Flow<Item = Result<u8, Error<u8>>>,
-    requires { IfSome calls.old F.can_poll }
-    ensures { IfOk result (λ _. IfSome calls.new F.can_poll) }
-{
+) -> Result<String, Fail> {
+    let mut text = String::new(alloc);
     for act in acts.split(';') {
         match act {
-            "next" => tell_next(solo, calls, text),
+            "next" => {
+                let answer = next(alloc, solo, calls)?;
+                text.push_str(answer.as_str())?;
+                text.push_str(";")?;
+            }
             "admit" => desk.script.moods(&[Willing, Busy]),
             _ => {
                 let sent = act.strip_prefix("send ").ok_or("not an act")?;
@@ -187,7 +188,7 @@ where
             }
         }
     }
-    Ok(())
+    Ok(text)
 }
 
 // Requests are sent to a service that is let in once for each. It comes out again after the last answer.
@@ -198,23 +199,24 @@ fn service_comes_out_after_its_answers(rt: HostRuntime) -> Result<(), Fail> {
     let desk = Desk::new(&log, Outbox::new(0, false));
     desk.script.moods(&[Busy]);
     let solo = task(&rt)?;
-    let mut text = String::new(rt.alloc());
-    let mut calls = Some(CallAll::new(rt.alloc(), desk.service(), desk.requests()));
-    play(
+    let calls = CallAll::new(rt.alloc(), desk.service(), desk.requests());
+    let mut calls = Some(Flowing::new(calls));
+    let text = play(
+        rt.alloc(),
         &solo,
         &desk,
         &mut calls,
         "next;send 1;next;admit;next;next;admit;send 3;next;next;admit;next;admit;next;admit;send 4;next;next;admit",
-        &mut text,
     )?;
     checks.same(
         &text.as_str(),
-        &"pending;pending;0;pending;1;pending;2;pending;3;pending;",
+        &"pending;pending;ok 0;pending;ok 1;pending;ok 2;pending;ok 3;pending;",
     );
     desk.outbox.close();
-    let Some(mut calls) = calls else {
+    let Some(calls) = calls else {
         return Err("it ended".into());
     };
+    let mut calls = calls.into_inner();
     let mut cx = solo.begin();
     let answer = calls.flow(&mut cx);
     cx.cancel();
