@@ -87,7 +87,7 @@ def main(words):
     if not words or not all(it == "hedge" or it.isdigit() and 0 < int(it) < 11 for it in words):
         sys.exit("usage: scripts/one_main.py hedge | DEPTH..")
     with tempfile.TemporaryDirectory(prefix="one-main-") as room:
-        subprocess.run([f"{ROOT}/scripts/vendor", room], check=True, stdout=subprocess.DEVNULL)
+        subprocess.run([f"{ROOT}/scripts/vendor", "--built", room], check=True, stdout=subprocess.DEVNULL)
         subprocess.run(["rt", "lib"], cwd=f"{room}/crates/tower", check=True, stdout=subprocess.DEVNULL, stderr=subprocess.DEVNULL)
         with open(f"{room}/crates.txt", "a", encoding="utf-8") as it:
             it.write("one_main may_wait=3: tower futures thiserror\n")
