@@ -355,7 +355,7 @@ class Linked:
 class HostileMaker(Hostile):
     """Connects and links fail often. A connect that never answers would end all, so there are few."""
 
-    WEIGHTS = Hostile.WEIGHTS | {"turn": 24}
+    WEIGHTS = Hostile.WEIGHTS | {"call": 14, "turn": 30}
 
     def state(self):
         return self.rng.choice([super().state(), f"error {self.rng.randrange(256)}"])
