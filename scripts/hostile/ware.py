@@ -353,23 +353,29 @@ class Linked:
 
 
 class HostileMaker(Hostile):
-    """Connects and links fail often. A connect that never answers would end all, so there are few."""
+    """Connects and links fail often."""
 
-    WEIGHTS = Hostile.WEIGHTS | {"turn": 24}
+    WEIGHTS = Hostile.WEIGHTS | {"extra": 30, "turn": 6}
 
-    def state(self):
-        return self.rng.choice([super().state(), f"error {self.rng.randrange(256)}"])
+    def __init__(self, rng, play):
+        super().__init__(rng, play, clones=False, others=True, extras=[self.connect_fails, self.link_fails])
 
-    def reply(self):
-        failed = f"err {self.rng.randrange(256)}"
-        return self.rng.choice([super().reply(), *self.replies_in_time(), *[failed] * 6])
+    def connect_fails(self):
+        plan = self.play.stage.services
+        plan.replies = [f"err {self.rng.randrange(256)}", self.rng.choice(self.replies_in_time())]
+        self.play.ask(f"replies {', '.join(plan.replies)}")
+
+    def link_fails(self):
+        plan = self.play.stage.others
+        plan.readiness = [f"error {self.rng.randrange(256)}", self.state()]
+        self.play.ask(f"others readiness {', '.join(plan.readiness)}")
 
 
 def reconnect(rng):
     stage = Stage()
     linked = rng.random() < 0.3
     play = Play(stage, "reconnect linked" if linked else "reconnect", Reconnect(stage, linked))
-    return HostileMaker(rng, play, clones=False, others=True).steps(rng.randrange(60, 100))
+    return HostileMaker(rng, play).steps(rng.randrange(60, 100))
 
 
 class Steer:
