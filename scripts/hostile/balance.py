@@ -105,12 +105,15 @@ def failed(key, answer):
 
 
 class Fleet(Party):
-    """Endpoints with a plan each."""
+    """Endpoints with a plan each, which are often pending, and in half of the scripts often fail."""
 
     def __init__(self, rng, play, extras, weights):
         self.WEIGHTS = weights
         super().__init__(rng, play, [*extras, self.endpoint])
         self.plans = {name: Plan(play.stage) for name in "abcd"}
+
+    def state(self):
+        return self.rng.choice(["ready", "ready", "pending", "pending", f"error {self.rng.randrange(256)}" if self.breaks else "ready"])
 
     def endpoint(self):
         """One of them answers otherwise from now on."""
@@ -135,7 +138,7 @@ class Fleet(Party):
 def ready_cache(rng):
     stage, cache = Stage(), Cache()
     play = Play(stage, "ready_cache", None)
-    keys = rng.choice([2, 4, 8])
+    keys = rng.choice([2, 4, 8, 16])
     request = lambda: rng.randrange(256)
     key = lambda: rng.randrange(keys)
     index = lambda: rng.randint(0, len(cache.ready))
@@ -205,7 +208,7 @@ def ready_cache(rng):
         of = "".join(f" {key}" for key, _ in cache.ready)
         play.ask("look", f"ready{of}, {ready} + {pending} = {ready + pending}" + ("" if ready + pending else ", empty"))
 
-    extras = [push] * 5 + [poll] * 5 + [check, check_index, call_index, call_index, push_and_call, push_and_call, evict, find, find_index, replace, look]
+    extras = [push] * 9 + [poll] * 4 + [look] * 3 + [check, check_index, evict, find, find_index, replace] + [call_index, push_and_call] * 2
     hostile = Fleet(rng, play, extras, {"extra": 1})
     for _ in range(rng.randrange(60, 100)):
         hostile.step()

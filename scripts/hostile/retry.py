@@ -291,12 +291,26 @@ class Now:
         pass
 
 
+class Failing(Hostile):
+    """Many calls fail, and are polled often."""
+
+    WEIGHTS = {**Hostile.WEIGHTS, "future": 50, "drop_future": 3}
+
+    def __init__(self, rng, play, marks):
+        super().__init__(rng, play, marks=marks)
+        self.play.stage.services.replies = ["fail"]
+        self.play.ask("replies fail")
+
+    def reply(self):
+        return self.rng.choice(["fail", f"fail {self.rng.randrange(1, 4)}", super().reply()])
+
+
 def retry_budget(rng):
     stage = Stage()
     numbers = terms(rng)
     budget = Budget(stage, *numbers)
     play = Play(stage, first_of("retry_budget", *numbers), Retry(Paying(budget), Inner(stage.services, "s")))
-    return Hostile(rng, play, marks=budget.marks).steps(rng.randrange(60, 100))
+    return Failing(rng, play, budget.marks).steps(rng.randrange(60, 100))
 
 
 class Sleep:
@@ -453,7 +467,7 @@ def retry_backoff(rng):
     play = Play(stage, first, Retry(policy, Inner(stage.services, "s")))
     waits = lambda: [future.wait for future in play.futures[-6:] if isinstance(future, Attempts)]
     marks = lambda: [wait.deadline for wait in waits() if wait]
-    return Hostile(rng, play, marks=marks).steps(rng.randrange(60, 100))
+    return Failing(rng, play, marks).steps(rng.randrange(60, 100))
 
 
 if __name__ == "__main__":
