@@ -353,22 +353,25 @@ class Linked:
 
 
 class HostileMaker(Hostile):
-    """Connects and links fail often."""
+    """The maker, its connects and its links fail often."""
 
     WEIGHTS = Hostile.WEIGHTS | {"extra": 30, "turn": 6}
 
     def __init__(self, rng, play):
-        super().__init__(rng, play, clones=False, others=True, extras=[self.connect_fails, self.link_fails])
+        extras = [self.maker_fails, self.connect_fails, self.connect_fails, self.link_fails, self.link_fails]
+        super().__init__(rng, play, clones=False, others=True, extras=extras)
+
+    def maker_fails(self):
+        self.set_readiness("", self.failing())
 
     def connect_fails(self):
-        plan = self.play.stage.services
-        plan.replies = [f"err {self.rng.randrange(256)}", self.rng.choice(self.replies_in_time())]
-        self.play.ask(f"replies {', '.join(plan.replies)}")
+        self.set_replies("", [f"err {self.rng.randrange(256)}", self.rng.choice(self.replies_in_time())])
 
     def link_fails(self):
-        plan = self.play.stage.others
-        plan.readiness = [f"error {self.rng.randrange(256)}", self.state()]
-        self.play.ask(f"others readiness {', '.join(plan.readiness)}")
+        self.set_readiness("others ", self.failing())
+
+    def failing(self):
+        return [f"error {self.rng.randrange(256)}", self.state()]
 
 
 def reconnect(rng):
