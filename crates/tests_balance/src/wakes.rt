@@ -1,4 +1,4 @@
-//! Whether a poll of a balancer wakes its task. Its own service is never asked.
+//! Whether a poll of a balancer wakes its task, and how many services of a list it takes. Its own service is never called.
 ghost use Rattle.std.specs.Prelude.{⊤};
 
 use futures::future::{Future, Ready, ready};
@@ -7,14 +7,17 @@ use futures::test::MockTask;
 use std::convert::Infallible;
 use std::test::Fail;
 use tests_support::checks::Checks;
+use tests_support::run::{polled, task};
 use tower::balance::p2c::Balance;
 use tower_base::service::Service;
 use tower_limit::discover::{Change, Discover, ServiceList};
 use tower_limit::load::Load;
 
-// An endpoint that is ready.
+// An endpoint that is always ready, or never.
 #[derive(Drop)]
-struct Quiet;
+struct Quiet {
+    is_ready: bool,
+}
 
 impl Load for Quiet {
     type Metric = u8;
@@ -35,8 +38,11 @@ impl Service<u8> for Quiet {
 
     ghost readies = { λ _ _ _. tt };
 
-    fn poll_ready(&mut self, _cx: &mut Context<'_>) -> Poll<Result<(), Infallible>> {
-        Poll::Ready(Ok(()))
+    fn poll_ready(&mut self, cx: &mut Context<'_>) -> Poll<Result<(), Infallible>> {
+        if self.is_ready {
+            return Poll::Ready(Ok(()));
+        }
+        cx.yield_now()
     }
 
     fn call(&mut self, request: u8) -> Ready<Result<u8, Infallible>> {
@@ -65,7 +71,7 @@ impl Discover for Surge {
     ) -> Poll<Option<Result<Change<usize, Quiet>, Infallible>>> {
         self.is_there = !self.is_there;
         if self.is_there {
-            Poll::Ready(Some(Ok(Change::Insert(0, Quiet))))
+            Poll::Ready(Some(Ok(Change::Insert(0, Quiet { is_ready: true }))))
         } else {
             Poll::Ready(Some(Ok(Change::Remove(0))))
         }
@@ -102,5 +108,23 @@ fn poll_of_64_changes_wakes_its_task(rt: HostRuntime) -> Result<(), Fail> {
     let task = MockTask::new(&rt)?;
     assert!(rt; task.poll(&mut over).is_pending());
     checks.holds(!task.is_woken());
+    checks.verdict()
+}
+
+#[test]
+fn list_of_a_hundred_takes_two_polls(rt: HostRuntime) -> Result<(), Fail> {
+    let checks = Checks::new(rt.alloc());
+    let mut services = Vec::new(rt.alloc());
+    for _ in 0..100u8 {
+        services
+            .push(Quiet { is_ready: false })
+            .map_err(|_| "no room")?;
+    }
+    let mut balance = Balance::new(rt.alloc(), ServiceList::new(services));
+    let solo = task(&rt)?;
+    assert!(rt; polled(&solo, &mut balance).is_pending());
+    checks.same(&balance.len(), &64);
+    assert!(rt; polled(&solo, &mut balance).is_pending());
+    checks.same(&balance.len(), &100);
     checks.verdict()
 }
