@@ -30,7 +30,8 @@ play() {
 }
 
 mkdir "$room/scripts"
-for generator in $(grep -l '__main__' hostile/*.py); do
+for generator in hostile/*.py; do
+    grep -q __main__ "$generator" || continue
     python3 "$generator" "$room/scripts" || fail "$generator"
 done
 for file in "$room"/scripts/*.script; do

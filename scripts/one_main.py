@@ -2,12 +2,13 @@
 """scripts/one_main.py hedge | DEPTH..: proves a program whose whole stack is called in one `main`, beside the library as it is built here.
 
 `hedge` is the program of scripts/one_main/hedge.txt, a whole `Hedge`. A depth, from 1 to 10, is `example_ten_layers` with so many of its layers, the
-innermost ones. Each is proved alone, with nothing kept, and a row of a table says what its check took. Where the libraries aren't built yet they are
-built first. The status is 1 if a program isn't proved.
+innermost ones. Each is proved alone, with nothing kept, in a repository that scripts/vendor makes, and a row of a table says what its check took (the
+memory is the most of any so far). The status is 1 if a program isn't proved.
 """
 import os
 import re
 import resource
+import shutil
 import subprocess
 import sys
 import tempfile
@@ -63,41 +64,36 @@ def program_of(depth):
     return files
 
 
-def prove(name, files):
-    """Proves a program of these files in a repository of its own, beside links to the crates of this one."""
-    with tempfile.TemporaryDirectory(prefix="one-main-") as room:
-        os.makedirs(f"{room}/crates/one_main/src")
-        os.makedirs(f"{room}/crates/one_main/specs")
-        open(f"{room}/crates/one_main/specs/Lib.antt", "w").close()
-        for file, text in files.items():
-            with open(f"{room}/crates/one_main/src/{file}", "w", encoding="utf-8") as it:
-                it.write(text)
-        libraries = [it for it in read(f"{ROOT}/crates.txt").splitlines() if re.match(r"tower(_(?!bench|run)\w+)?[ :]", it)]
-        for line in libraries:
-            crate = re.match(r"\w+", line)[0]
-            os.symlink(f"{ROOT}/crates/{crate}", f"{room}/crates/{crate}")
-        with open(f"{room}/crates.txt", "w", encoding="utf-8") as it:
-            it.write("\n".join([*libraries, "one_main may_wait=3: tower futures thiserror", ""]))
-        with open(f"{room}/HANDLES", "w", encoding="utf-8") as it:
-            it.write(read(f"{ROOT}/HANDLES"))
-        subprocess.run(["rt", "lib"], cwd=f"{room}/crates/tower", check=True, stdout=subprocess.DEVNULL, stderr=subprocess.DEVNULL)
-        before = resource.getrusage(resource.RUSAGE_CHILDREN)
-        ran = subprocess.run(["rt", "check", "--only", "main"], cwd=f"{room}/crates/one_main", stdout=subprocess.PIPE, stderr=subprocess.STDOUT, text=True)
-        after = resource.getrusage(resource.RUSAGE_CHILDREN)
+def prove(room, name, files):
+    """Proves a program of these files, with nothing kept, beside the library in the room."""
+    crate = f"{room}/crates/one_main"
+    shutil.rmtree(crate, ignore_errors=True)
+    os.makedirs(f"{crate}/src")
+    os.makedirs(f"{crate}/specs")
+    for file, text in {"specs/Lib.antt": "", **{f"src/{it}": text for it, text in files.items()}}.items():
+        with open(f"{crate}/{file}", "w", encoding="utf-8") as it:
+            it.write(text)
+    before = resource.getrusage(resource.RUSAGE_CHILDREN)
+    ran = subprocess.run(["rt", "check", "--only", "main"], cwd=crate, stdout=subprocess.PIPE, stderr=subprocess.STDOUT, text=True)
+    after = resource.getrusage(resource.RUSAGE_CHILDREN)
     took = after.ru_utime + after.ru_stime - before.ru_utime - before.ru_stime
-    is_proved = not ran.returncode
-    if not is_proved:
+    if ran.returncode:
         print(ran.stdout[-3000:], file=sys.stderr)
-    print(f"| {name} | {took:.0f} | {after.ru_maxrss // 1024} | {'yes' if is_proved else 'NO'} |", flush=True)
-    return is_proved
+    print(f"| {name} | {took:.0f} | {after.ru_maxrss // 1024} | {'NO' if ran.returncode else 'yes'} |", flush=True)
+    return not ran.returncode
 
 
 def main(words):
     if not words or not all(it == "hedge" or it.isdigit() and 0 < int(it) < 11 for it in words):
         sys.exit("usage: scripts/one_main.py hedge | DEPTH..")
-    print("| Layers | Processor seconds | MB at most | Proved |\n|---|---|---|---|")
-    proved = [prove(it, {"main.rt": read(f"{ROOT}/scripts/one_main/hedge.txt")} if it == "hedge" else program_of(int(it))) for it in words]
-    return 0 if all(proved) else 1
+    with tempfile.TemporaryDirectory(prefix="one-main-") as room:
+        subprocess.run([f"{ROOT}/scripts/vendor", "--built", room], check=True, stdout=subprocess.DEVNULL)
+        subprocess.run(["rt", "lib"], cwd=f"{room}/crates/tower", check=True, stdout=subprocess.DEVNULL, stderr=subprocess.DEVNULL)
+        with open(f"{room}/crates.txt", "a", encoding="utf-8") as it:
+            it.write("one_main may_wait=3: tower futures thiserror\n")
+        print("| Layers | Processor seconds | MB at most | Proved |\n|---|---|---|---|", flush=True)
+        hedge = {"main.rt": read(f"{ROOT}/scripts/one_main/hedge.txt")}
+        return 0 if all([prove(room, it, hedge if it == "hedge" else program_of(int(it))) for it in words]) else 1
 
 
 if __name__ == "__main__":

@@ -7,7 +7,7 @@ room=$(mktemp -d)
 trap 'rm -rf "$room"' EXIT
 own=example_own_layer
 
-scripts/vendor "$room" > /dev/null
+scripts/vendor --built "$room" > /dev/null
 cp -r "crates/$own" "$room/crates/"
 rm -rf "$room/crates/$own/out"
 grep "^$own" crates.txt >> "$room/crates.txt"
@@ -18,6 +18,6 @@ echo "of the user's own" >> "$room/README.md"
 rm -rf "$room/crates/$own/out"
 theirs() { (cd "$room" && tar c --sort=name --mtime=@0 README.md HANDLES crates.txt crates/app "crates/$own" | sha256sum); }
 before=$(theirs)
-scripts/vendor "$room" > /dev/null
+scripts/vendor --built "$room" > /dev/null
 [ "$(theirs)" = "$before" ] || { echo "vendored: a second run changed what is the user's" >&2; exit 1; }
 echo "vendored: a user's layer was proved and run in a repository of its own"

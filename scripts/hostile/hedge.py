@@ -385,13 +385,17 @@ def flat(answer):
 
 
 class Hedging(Hostile):
-    """Likes requests that the policy knows, and services that answer late."""
+    """Likes requests that the policy knows, and answers that come late."""
+
+    WEIGHTS = {**Hostile.WEIGHTS, "future": 50, "drop_future": 4}
 
     def call(self):
-        fitting = self.play.handles[0] and self.play.may_call[0]
-        if not fitting and self.rng.random() < 0.9:
+        if not self.play.may_call[0] and self.rng.random() < 0.9:
             return self.poll()
-        self.play.call(0, self.rng.choice([NO_COPY, ONCE, *range(8), self.rng.randrange(256)]))
+        self.play.call(0, self.rng.choice([NO_COPY, ONCE, ONCE, *range(8), self.rng.randrange(256)]))
+
+    def reply(self):
+        return self.rng.choice(["never", "later", f"echo {self.rng.randrange(2, 9)}", super().reply()])
 
 
 def select(rng):
@@ -424,7 +428,9 @@ def latency(rng):
 def hedge(rng):
     stage = Stage()
     stage.moment = rng.choice([0, 3, rng.randint(0, LAST_MOMENT)])
-    least, is_seeded = rng.choice([0, 0, 1, 2, 3, 10, 11]), rng.random() < 0.6
+    stage.services.replies = [rng.choice(["never", "later", "echo 9"]), "never", "echo 2", "echo 9"]
+    around = f"at {stage.moment}; replies {', '.join(stage.services.replies)}"
+    least, is_seeded = rng.choice([0, 0, 0, 1, 2, 10, 10, 11]), rng.random() < 0.6
     is_noted = rng.random() < 0.6
     if is_noted:
         part, periods, seeds = (9, 10), Periods(60_000 * MILLISECOND, 0), [1] * 8 + [10] * 2
@@ -436,13 +442,15 @@ def hedge(rng):
     histogram = Histogram(stage, periods, is_noted)
     for millis in seeds if is_seeded else []:
         histogram.seed(millis)
-    play = Play(stage, f"{first}; at {stage.moment}", Hedge(stage, histogram, least, part))
+    play = Play(stage, f"{first}; {around}", Hedge(stage, histogram, least, part))
 
     def marks():
         seconds = [future.inner.second for future in play.futures[-6:] if future]
         sleeps = [second.sleep for second in seconds if isinstance(second, Delayed)]
-        period = periods.made + periods.present * periods.length
-        return [sleep.deadline for sleep in sleeps if sleep] + [period + later * periods.length for later in (1, 2)]
+        deadlines = [sleep.deadline for sleep in sleeps if sleep]
+        if deadlines and rng.random() < 0.9:
+            return deadlines
+        return [periods.made + (periods.present + later) * periods.length for later in (1, 2)]
 
     return Hedging(rng, play, clones=False, others=True, marks=marks).steps(rng.randrange(60, 100))
 

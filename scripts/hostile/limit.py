@@ -193,6 +193,18 @@ class Permitted:
         self.latch.give_back()
 
 
+class Watcher:
+    """The share that is kept beside the service. At the end it tells how many permits are free."""
+
+    def __init__(self, latch):
+        self.latch = latch
+
+    def drop(self):
+        self.latch.step("Free")
+        self.latch.drop()
+        self.latch.stage.note(f"{self.latch.line.free()} of {self.latch.line.most} permits free")
+
+
 class Crowd(Hostile):
     """Handles wait for each other, so more is cloned and dropped."""
 
@@ -207,7 +219,7 @@ def concurrency_limit(rng):
     is_watched = shares > 0 and latch.share()
     first = f"concurrency_limit {most} {shares}{' watched' * is_watched}"
     service = ConcurrencyLimit(Inner(stage.services, "s"), latch)
-    play = Play(stage, first, service, ended=[latch] * is_watched)
+    play = Play(stage, first, service, ended=[Watcher(latch)] * is_watched)
 
     def free():
         latch.step("Free")

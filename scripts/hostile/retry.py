@@ -1,6 +1,7 @@
 """Retry, with any policy, with a budget and with a backoff, TpsBudget and ExponentialBackoff over a hostile party."""
 
 import sys
+from collections import Counter
 
 from stage import LAST_MOMENT, Hostile, Inner, Part, Play, Stage, within, write_hostile
 
@@ -153,7 +154,8 @@ def words_of(rng):
 
     def word():
         polls, request = rng.randrange(3), rng.randrange(256)
-        return rng.choice(["done", "again", f"again {polls}", f"change {request}", f"change {request} {polls}", f"answer {rng.choice(['ok', 'err'])} {request}"])
+        answer = f"answer {rng.choice(['ok', 'err'])} {request}"
+        return rng.choice(["done", "again", f"again {polls}", f"change {request}", f"change {request} {polls}", answer])
 
     return [word() for _ in range(rng.randrange(1, 4))] + (["always"] if rng.random() < 0.1 else [])
 
@@ -172,7 +174,7 @@ def retry(rng):
 
 
 class Budget:
-    """Every amount so far, each with its generation. An amount counts in its own generation and in the ten after it."""
+    """The sum of the amounts of each generation. An amount counts in its own and in the ten after it."""
 
     def __init__(self, stage, ttl, least, retries, requests):
         self.window = ttl // 10
@@ -185,7 +187,7 @@ class Budget:
         self.stage = stage
         self.made = stage.read()
         self.present = 0
-        self.amounts = []
+        self.sums = Counter()
 
     def advance(self):
         """The generation never goes back."""
@@ -193,13 +195,13 @@ class Budget:
 
     def deposit(self):
         self.advance()
-        self.amounts.append((self.present, self.gain))
+        self.sums[self.present] += self.gain
 
     def withdraw(self):
         self.advance()
-        balance = self.reserve + sum(amount for generation, amount in self.amounts if self.present <= generation + 10)
+        balance = self.reserve + sum(self.sums[self.present - back] for back in range(11))
         if balance >= self.price:
-            self.amounts.append((self.present, -self.price))
+            self.sums[self.present] -= self.price
         return balance >= self.price
 
     def marks(self):
@@ -289,12 +291,26 @@ class Now:
         pass
 
 
+class Failing(Hostile):
+    """Many calls fail, and are polled often."""
+
+    WEIGHTS = {**Hostile.WEIGHTS, "future": 50, "drop_future": 3}
+
+    def __init__(self, rng, play, marks):
+        super().__init__(rng, play, marks=marks)
+        self.play.stage.services.replies = ["fail"]
+        self.play.ask("replies fail")
+
+    def reply(self):
+        return self.rng.choice(["fail", f"fail {self.rng.randrange(1, 4)}", super().reply()])
+
+
 def retry_budget(rng):
     stage = Stage()
     numbers = terms(rng)
     budget = Budget(stage, *numbers)
     play = Play(stage, first_of("retry_budget", *numbers), Retry(Paying(budget), Inner(stage.services, "s")))
-    return Hostile(rng, play, marks=budget.marks).steps(rng.randrange(60, 100))
+    return Failing(rng, play, budget.marks).steps(rng.randrange(60, 100))
 
 
 class Sleep:
@@ -451,7 +467,7 @@ def retry_backoff(rng):
     play = Play(stage, first, Retry(policy, Inner(stage.services, "s")))
     waits = lambda: [future.wait for future in play.futures[-6:] if isinstance(future, Attempts)]
     marks = lambda: [wait.deadline for wait in waits() if wait]
-    return Hostile(rng, play, marks=marks).steps(rng.randrange(60, 100))
+    return Failing(rng, play, marks).steps(rng.randrange(60, 100))
 
 
 if __name__ == "__main__":

@@ -229,15 +229,16 @@ class Answered:
         self.response = None
 
 
-class Spawning(Hostile):
+class Party(Hostile):
+    """Asks words of the program's own often. In half of the scripts no service ever fails: one that did is often gone for good."""
+
     WEIGHTS = {**Hostile.WEIGHTS, "extra": 40}
 
-    def __init__(self, rng, play, breaks, extras):
-        super().__init__(rng, play, clones=False, extras=extras)
-        self.breaks = breaks
+    def __init__(self, rng, play, extras, clones=False):
+        super().__init__(rng, play, clones=clones, extras=extras)
+        self.breaks = rng.random() < 0.5
 
     def state(self):
-        """Many services never fail: one that fails in its task is gone."""
         state = super().state()
         return state if self.breaks or not state.startswith("error ") else "pending"
 
@@ -273,7 +274,7 @@ def spawn_ready(rng):
         latch.shares = rng.choice([0, 1, 2]) if latch.shares > 2 else 255
         play.ask(f"shares {latch.shares}")
 
-    hostile = Spawning(rng, play, rng.random() < 0.3, [task] * 10 + [drop, room, shares])
+    hostile = Party(rng, play, [task] * 10 + [drop, room, shares])
     left = rng.randrange(60, 100)
     while left > 0:
         hostile.step()

@@ -337,17 +337,26 @@ class Hostile:
         if sum(handle is not None for handle in self.play.handles) > 1 or self.rng.random() < 0.1:
             self.play.drop_handle(self.handle())
 
+    def plan(self, side):
+        return self.play.stage.others if side else self.play.stage.services
+
+    def set_readiness(self, side, states):
+        self.plan(side).readiness = states
+        self.play.ask(f"{side}readiness {', '.join(states)}")
+
+    def set_replies(self, side, replies):
+        self.plan(side).replies = replies
+        self.play.ask(f"{side}replies {', '.join(replies)}")
+
     def turn(self):
         """Another plan for one of the sides, or the answer of a call that waits for one."""
         side = self.rng.choice(self.sides)
-        plan = self.play.stage.others if side else self.play.stage.services
+        plan = self.plan(side)
         match self.rng.choice(["readiness", "readiness", "replies", "replies", "answer", "answer", "clones"]):
             case "readiness":
-                plan.readiness = self.list_of(self.state)
-                self.play.ask(f"{side}readiness {', '.join(plan.readiness)}")
+                self.set_readiness(side, self.list_of(self.state))
             case "replies":
-                plan.replies = self.list_of(self.reply)
-                self.play.ask(f"{side}replies {', '.join(plan.replies)}")
+                self.set_replies(side, self.list_of(self.reply))
             case "answer":
                 waiting = [call for call in range(min(plan.calls, 8)) if call not in plan.answers]
                 call, value = self.place(waiting, 10), self.rng.randrange(256)

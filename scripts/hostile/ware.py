@@ -352,11 +352,33 @@ class Linked:
             self.response.drop()
 
 
+class HostileMaker(Hostile):
+    """The maker, its connects and its links fail often."""
+
+    WEIGHTS = Hostile.WEIGHTS | {"extra": 30, "turn": 6}
+
+    def __init__(self, rng, play):
+        extras = [self.maker_fails, self.connect_fails, self.connect_fails, self.link_fails, self.link_fails]
+        super().__init__(rng, play, clones=False, others=True, extras=extras)
+
+    def maker_fails(self):
+        self.set_readiness("", self.failing())
+
+    def connect_fails(self):
+        self.set_replies("", [f"err {self.rng.randrange(256)}", self.rng.choice(self.replies_in_time())])
+
+    def link_fails(self):
+        self.set_readiness("others ", self.failing())
+
+    def failing(self):
+        return [f"error {self.rng.randrange(256)}", self.state()]
+
+
 def reconnect(rng):
     stage = Stage()
     linked = rng.random() < 0.3
     play = Play(stage, "reconnect linked" if linked else "reconnect", Reconnect(stage, linked))
-    return Hostile(rng, play, clones=False, others=True).steps(rng.randrange(60, 100))
+    return HostileMaker(rng, play).steps(rng.randrange(60, 100))
 
 
 class Steer:

@@ -5,11 +5,9 @@
 //! `locked_limit PERMITS [layer] [global] [two]`: over a lock, of which nothing is noted. The layer may make a second service `t`, by a
 //! clone of the layer.
 //!
-//! `steered_limits`: two such services of one permit each, of which a `Steer` picks the first.
-//!
 //! `global_limit_layer SHARES`: a layer over the noted latch, with one permit.
 
-use crate::parts::{Beside, First, Permits};
+use crate::parts::{Beside, Permits};
 use futures::task::Poll;
 use scripted::party::Party;
 use scripted::report::Report;
@@ -30,7 +28,6 @@ use tower_base::service::Service;
 use tower_limit::limit::concurrency::{LineCore, Semaphore};
 use tower_limit::limit::{ConcurrencyLimit, ConcurrencyLimitLayer, GlobalConcurrencyLimitLayer};
 use tower_ware::filter::{AsyncFilter, AsyncPredicateFn};
-use tower_ware::steer::Steer;
 
 /// A line of permits, behind a latch whose steps are noted.
 pub fn noting<'a, L: Latch<LineCore>>(
@@ -221,28 +218,6 @@ where
         other,
     };
     script.play_with(report, service, &Numbers, &mut party)
-}
-
-// Two limits of one permit each, of which the first is picked.
-fn steered<'a, R: Wait + Copy>(
-    rt: R,
-    script: &Script<'a>,
-) -> Result<Steer<Locked<'a, R>, First, u8>, AllocError> {
-    let alloc = script.alloc();
-    let first = ConcurrencyLimit::new(rt, alloc, script.service('s'), 1)?;
-    let second = ConcurrencyLimit::new(rt, alloc, script.service('t'), 1)?;
-    Steer::new(alloc, vec![in alloc; first, second]?, First)
-}
-
-pub fn play_steered<R: Wait + Copy>(
-    rt: R,
-    script: &Script<'_>,
-    report: &mut Report<'_>,
-) -> Result<(), AllocError> {
-    match steered(rt, script) {
-        Ok(service) => script.play(report, service),
-        Err(AllocError) => script.over(report, "out of memory"),
-    }
 }
 
 pub fn play_layer<R: Wait + Copy>(

@@ -27,9 +27,6 @@ impl<R: Wait + Copy> Services for Limits<R> {
                 concurrency_limit::play(self.rt, script, report),
             "locked_limit" if script.knows(&["layer", "global", "two"]) =>
                 concurrency_limit::play_locked(self.rt, script, report),
-            "steered_limits" if script.knows(&[]) => concurrency_limit::play_steered(
-                self.rt, script, report,
-            ),
             "global_limit_layer" if script.knows(&[]) => concurrency_limit::play_layer(
                 self.rt, script, report,
             ),

@@ -10,7 +10,6 @@ use tower_base::latch::Latch;
 use tower_base::latch::held::Viewed;
 use tower_base::service::Service;
 use tower_limit::limit::concurrency::{LineCore, Semaphore};
-use tower_ware::steer::Picker;
 
 /// A share of the semaphore, if the script watches it: `free` tells how many permits are free, and so does the end.
 #[derive(Drop)]
@@ -39,16 +38,6 @@ impl<'a, L: Latch<LineCore>> Party for Permits<'a, L> {
         let (free, max) = (share.available_permits(), share.max());
         self.share = None;
         self.log.note(format_args!("{free} of {max} permits free"));
-    }
-}
-
-/// Picks the first service.
-#[derive(Clone, Copy)]
-pub struct First;
-
-impl<S> Picker<S, u8> for First {
-    fn pick(&mut self, _request: &u8, _services: &[S]) -> usize {
-        0
     }
 }
 

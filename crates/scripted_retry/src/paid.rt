@@ -74,7 +74,7 @@ impl<G: Rng, C: Clock> Policy<u8, u8, u8> for Patient<ExponentialBackoff<G, C>> 
     }
 }
 
-fn paying<L: Latch<BudgetCore>, C: Clock>(
+fn play_paid<L: Latch<BudgetCore>, C: Clock>(
     script: &Script<'_>,
     report: &mut Report<'_>,
     made: Result<TpsBudget<L, C>, AllocError>,
@@ -96,13 +96,13 @@ pub fn play_budget<R: Wait + Copy>(
             if least < 4294967296 && BudgetCore::fits(ttl, least as u32, retries) => {
             let clock = script.clock();
             let made = TpsBudget::new(rt, script.alloc(), ttl, least as u32, retries, clock);
-            paying(script, report, made)
+            play_paid(script, report, made)
         }
         _ => script.unread(report),
     }
 }
 
-fn patient<G: Rng + Clone, C: Clock>(
+fn play_waiting<G: Rng + Clone, C: Clock>(
     script: &Script<'_>,
     report: &mut Report<'_>,
     mut maker: ExponentialBackoffMaker<G, C>,
@@ -126,7 +126,7 @@ pub fn play_backoff(script: &Script<'_>, report: &mut Report<'_>) -> Result<(), 
     };
     let words = Rising::new(script.stage().log, word);
     match ExponentialBackoffMaker::new(least, most, jitter, words, script.clock()) {
-        Ok(maker) => patient(script, report, maker),
+        Ok(maker) => play_waiting(script, report, maker),
         Err(_) => script.unread(report),
     }
 }

@@ -22,7 +22,7 @@ use tower_util::util::block_on_each;
 const POLLS: u64 = 1_500;
 
 // So often does one knock at most.
-const KNOCKS: u32 = 100_000;
+const KNOCKS: u32 = 400_000;
 
 // It opens by a permit, which goes back at once. It counts how often it is asked.
 #[derive(Drop)]
