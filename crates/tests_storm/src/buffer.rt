@@ -9,14 +9,12 @@ use std::random::RandomSource;
 use std::sync::atomic::{AtomicU64, Ordering};
 use std::sync::{Arc, Wait};
 use std::test::Fail;
-use std::thread::Threads;
 use std::{io, thread};
 use tests_support::checks::Checks;
 use tower_base::latch::Guarded;
-use tower_base::latch::held::Pollable;
 use tower_base::service::{Polled, Service, Steps};
-use tower_pool::buffer::{Buffer, Error, MailCore, Worker};
-use tower_util::util::{Sealed, block_on, block_on_call, block_on_ready};
+use tower_pool::buffer::{Buffer, Error, MailCore};
+use tower_util::util::{block_on, block_on_call, block_on_ready};
 
 const CALLERS: u64 = 8;
 
@@ -69,13 +67,13 @@ struct Tally {
     closed: u64,
 }
 
-// Makes calls of the numbers from the first one on. After each tenth one a spare gets a place, and gives it back.
-fn call_all<R, S>(rt: &R, mut buffer: S, mut spares: Vec<S>, first: u64) -> io::Result<Tally>
+// Makes calls of the numbers from the first one on. After each tenth one a clone gets a place, and gives it back.
+fn call_all<R, B>(rt: &R, mut buffer: B, first: u64) -> io::Result<Tally>
 where
     R: Wait + RandomSource + AllocGlobal,
-    S: Service<u64, Response = u64>,
-    S::Error: IsClosed,
-    requires { (service : S) → S.sound service }
+    B: Service<u64, Response = u64> + Clone,
+    B::Error: IsClosed,
+    requires { (service : B) → B.sound service }
 {
     let mut tally = Tally {
         answered: 0,
@@ -90,53 +88,20 @@ where
             _ => {}
         }
         if request % 10 == 9 {
-            if let Some(mut spare) = spares.pop() {
-                let _ = block_on_ready(&mut spare, rt)?;
-            }
+            let mut spare = buffer.clone()?;
+            let _ = block_on_ready(&mut spare, rt)?;
         }
     }
     Ok(tally)
 }
 
-// What a thread does that makes calls. (A closure that a thread is given calls nothing yet whose type is a service.)
-trait Caller<R>: Drop {
-    // What came of its calls, or none where it failed.
-    fn calls(self, rt: &R) -> Option<Tally>;
-}
-
-#[derive(Drop)]
-struct Calls<B: Service<u64>> {
-    first: u64,
-    buffer: Sealed<B, u64>,
-    spares: Vec<Sealed<B, u64>>,
-}
-
-impl<R, B> Caller<R> for Calls<B>
-where
-    R: Wait + RandomSource + AllocGlobal,
-    B: Service<u64, Response = u64>,
-    B::Error: IsClosed,
-{
-    fn calls(self, rt: &R) -> Option<Tally> {
-        call_all(rt, self.buffer, self.spares, self.first).ok()
+// A clone for each caller, with the number of its first call.
+fn callers_of<B: Clone + Drop>(alloc: Global, buffer: B) -> Result<Vec<(u64, B)>, AllocError> {
+    let mut callers = Vec::new(alloc);
+    for caller in 0..CALLERS {
+        callers.push((caller.saturating_mul(CALLS), buffer.clone()?))?;
     }
-}
-
-// Clones for a thread.
-fn caller_of<B>(alloc: Global, buffer: &B, first: u64) -> Result<Calls<B>, AllocError>
-where
-    B: Service<u64> + Clone,
-    requires { (service : B) → B.sound service }
-{
-    let mut spares = Vec::new(alloc);
-    for _ in 0..CALLS / 10 {
-        spares.push(Sealed::new(buffer.clone()?))?;
-    }
-    Ok(Calls {
-        first,
-        buffer: Sealed::new(buffer.clone()?),
-        spares,
-    })
+    Ok(callers)
 }
 
 // A worker, until so many calls were made. It is dropped then, with what waits in its mail.
@@ -161,68 +126,6 @@ impl<W: Steps<Output = ()>> Steps for Shift<W> {
     }
 }
 
-// Each in a thread.
-fn run_all<R, C>(rt: &R, callers: Vec<C>) -> Result<Vec<Option<Tally>>, AllocError>
-where
-    R: Threads + Sync,
-    C: Caller<R> + Send,
-{
-    thread::map_vec(rt, callers, &|caller| caller.calls(rt))
-}
-
-// The callers, and the worker in a thread beside them.
-fn storm<R, C, W>(rt: &R, callers: Vec<C>, worker: Pollable<W>) -> Result<Vec<Option<Tally>>, Fail>
-where
-    R: Threads + Wait + RandomSource + AllocGlobal + Sync,
-    C: Caller<R> + Send,
-    W: Steps<Output = ()> + Send,
-{
-    let (ended, told) = thread::join(
-        rt,
-        || block_on(rt, Polled::new(worker.into_inner())),
-        || run_all(rt, callers),
-    );
-    ended?;
-    Ok(told?)
-}
-
-type Future = Ready<Result<u64, Infallible>>;
-
-type Mail<R> = Guarded<MailCore<u64, Pollable<Future>, Infallible>, R>;
-
-type Front<R> = Buffer<u64, Future, Infallible, Counted<Mail<R>>>;
-
-type Back<R> = Worker<Triple, u64, Future, Infallible, Counted<Mail<R>>>;
-
-// A buffer of four places and its worker.
-fn made<R: Wait + Copy>(
-    rt: R,
-    alloc: Global,
-    places: Arc<Places, Global>,
-    triple: Triple,
-) -> Result<(Front<R>, Back<R>), AllocError> {
-    let mail = Guarded::new(rt, alloc, MailCore::new(alloc, 4))?;
-    Buffer::with_latch(Counted::new(places, mail), triple)
-}
-
-// Their storm.
-fn over<R>(
-    rt: &R,
-    buffer: Front<R>,
-    worker: Back<R>,
-    calls: Arc<AtomicU64, Global>,
-) -> Result<Vec<Option<Tally>>, Fail>
-where
-    R: Threads + Wait + RandomSource + AllocGlobal + Copy + Send + Sync,
-{
-    let mut callers = Vec::new(rt.alloc());
-    for caller in 0..CALLERS {
-        callers.push(caller_of(rt.alloc(), &buffer, caller.saturating_mul(CALLS))?)?;
-    }
-    drop(buffer);
-    storm(rt, callers, Pollable::new(Shift { worker, calls }))
-}
-
 #[test]
 fn worker_is_dropped_under_storm(rt: HostRuntime) -> Result<(), Fail> {
     let alloc = rt.alloc();
@@ -231,14 +134,31 @@ fn worker_is_dropped_under_storm(rt: HostRuntime) -> Result<(), Fail> {
     let triple = Triple {
         calls: Arc::try_clone(&calls)?,
     };
-    let told = match made(rt, alloc, Arc::try_clone(&places)?, triple) {
-        Ok((buffer, worker)) => over(&rt, buffer, worker, Arc::try_clone(&calls)?)?,
+    let mail = Guarded::new(rt, alloc, MailCore::new(alloc, 4))?;
+    let latch = Counted::new(Arc::try_clone(&places)?, mail);
+    let (buffer, worker) = match Buffer::with_latch(latch, triple) {
+        Ok(made) => made,
         Err(AllocError) => return Err("no buffer".into()),
     };
+    let callers = callers_of(alloc, buffer)?;
+    let shift = Shift {
+        worker,
+        calls: Arc::try_clone(&calls)?,
+    };
+    let (ended, told) = thread::join(
+        &rt,
+        || block_on(&rt, Polled::new(shift)),
+        || thread::map_vec(
+            &rt,
+            callers,
+            &|(first, buffer)| call_all(&rt, buffer, first),
+        ),
+    );
+    ended?;
     let checks = Checks::new(alloc);
     let mut answered = 0u64;
-    for tally in told {
-        let tally = tally.ok_or("a caller failed")?;
+    for tally in told? {
+        let tally = tally?;
         checks.same(&tally.answered.saturating_add(tally.closed), &CALLS);
         answered = answered.saturating_add(tally.answered);
     }

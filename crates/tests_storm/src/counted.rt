@@ -1,10 +1,13 @@
 //! A latch of mail that counts what becomes of its places.
 
+use futures::future::Ready;
 use futures::task::Context;
 use std::alloc::{AllocError, Global};
-use std::sync::Arc;
+use std::convert::Infallible;
 use std::sync::atomic::{AtomicU64, Ordering};
-use tower_base::latch::Latch;
+use std::sync::{Arc, Wait};
+use tower_base::latch::held::Pollable;
+use tower_base::latch::{Guarded, Latch};
 use tower_pool::buffer::{MailCore, MailReply, MailStep};
 
 /// How many places were given, and how many of them were sent into or given back.
@@ -52,37 +55,49 @@ impl Places {
     }
 }
 
-/// A share of the latch.
+/// What the buffer's calls give.
+pub type Reply = Ready<Result<u64, Infallible>>;
+
+/// The mail of that buffer.
+pub type Mail = MailCore<u64, Pollable<Reply>, Infallible>;
+
+/// A share of the latch, which is a lock.
 #[derive(Drop)]
-pub struct Counted<L> {
+pub struct Counted<R> {
     places: Arc<Places, Global>,
-    inner: L,
+    inner: Guarded<Mail, R>,
 }
 
-impl<L> Counted<L> {
-    pub fn new(places: Arc<Places, Global>, inner: L) -> Counted<L> {
+impl<R> Counted<R> {
+    pub fn new(places: Arc<Places, Global>, inner: Guarded<Mail, R>) -> Counted<R> {
         Counted { places, inner }
     }
 }
 
-impl<Q: Drop, F: Drop, E: Clone, L: Latch<MailCore<Q, F, E>>> Latch<MailCore<Q, F, E>>
-    for Counted<L> {
-    ghost gave = { λ latch step reply. L.gave latch.inner step reply };
+impl<R: Wait + Copy> Latch<Mail> for Counted<R> {
+    ghost gave = { λ latch step reply. ⟦<Guarded<Mail, R> as Latch<Mail>>⟧.gave latch.inner step reply };
 
-    ghost honest = { λ latch step reply given. L.honest latch.inner step reply given };
+    ghost honest = { λ latch step reply given. ⟦<Guarded<Mail, R> as Latch<Mail>>⟧.honest latch.inner step reply given };
 
-    fn step(&self, step: MailStep<Q, F, E>) -> MailReply<Q, F, E> {
+    fn step(
+        &self,
+        step: MailStep<u64, Pollable<Reply>, Infallible>,
+    ) -> MailReply<u64, Pollable<Reply>, Infallible> {
         self.places.asked(&step);
         self.inner.step(step)
     }
 
-    fn wait(&self, step: MailStep<Q, F, E>, cx: &mut Context<'_>) -> MailReply<Q, F, E> {
+    fn wait(
+        &self,
+        step: MailStep<u64, Pollable<Reply>, Infallible>,
+        cx: &mut Context<'_>,
+    ) -> MailReply<u64, Pollable<Reply>, Infallible> {
         let reply = self.inner.wait(step, cx);
         self.places.told(&reply);
         reply
     }
 
-    fn share(&self) -> Result<Counted<L>, AllocError> {
+    fn share(&self) -> Result<Counted<R>, AllocError> {
         Ok(Counted {
             places: Arc::try_clone(&self.places)?,
             inner: self.inner.share()?,
