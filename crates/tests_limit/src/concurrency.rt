@@ -11,7 +11,7 @@ use tests_support::script::Script;
 use tests_support::service::Scripted;
 use tower_base::latch::Latch;
 use tower_base::layer::Layer;
-use tower_limit::limit::concurrency::LineCore;
+use tower_limit::limit::concurrency::{LineCore, Semaphore};
 use tower_limit::limit::{ConcurrencyLimit, ConcurrencyLimitLayer, GlobalConcurrencyLimitLayer};
 
 // How many calls are made before it isn't ready, 1001 at most, with all responses kept.
@@ -71,5 +71,7 @@ fn each_constructor_makes_so_many_permits(rt: HostRuntime) -> Result<(), Fail> {
         );
         log.told(rt.alloc())?;
     }
+    let whole = Semaphore::new(rt, rt.alloc(), usize::MAX)?;
+    checks.same(&whole.available_permits(), &usize::MAX);
     checks.verdict()
 }
