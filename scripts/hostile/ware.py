@@ -384,11 +384,12 @@ def reconnect(rng):
 class Steer:
     """A list of the services that are to be asked, at first all."""
 
-    def __init__(self, stage, picker, services, place):
+    def __init__(self, stage, picker, services, place, turns):
         self.stage = stage
         self.picker = picker
         self.services = services
         self.place = place
+        self.turns = turns
         self.listed = list(range(len(services)))
 
     def poll(self):
@@ -403,6 +404,8 @@ class Steer:
         count = len(self.services)
         self.stage.note(f"picked for {request} of {count}")
         index = self.place if self.place < count else 0
+        if self.turns:
+            self.place = index + 1
         self.listed.append(index)
         return self.services[index].call(request)
 
@@ -418,7 +421,7 @@ class Steer:
                     part.drop()
                 return None
             services.append(copy)
-        return Steer(self.stage, picker, services, self.place)
+        return Steer(self.stage, picker, services, self.place, self.turns)
 
     def drop(self):
         for part in [self.picker, *self.services]:
@@ -429,8 +432,9 @@ def steer(rng):
     stage = Stage()
     count, place = rng.randrange(1, 6), rng.randrange(6)
     services = [Inner(stage.others if number else stage.services, "abcccc"[number]) for number in range(count)]
-    service = Steer(stage, Part(stage.others, "p"), services, place)
-    return Hostile(rng, Play(stage, f"steer {count} {place}", service), others=True).steps(rng.randrange(60, 100))
+    turns = rng.random() < 0.75
+    service = Steer(stage, Part(stage.others, "p"), services, place, turns)
+    return Hostile(rng, Play(stage, f"steer {count} {place}{' turning' * turns}", service), others=True).steps(rng.randrange(60, 100))
 
 
 if __name__ == "__main__":

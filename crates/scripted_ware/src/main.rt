@@ -36,7 +36,7 @@ impl Services for Ware {
             "call_all_unordered" if script.knows(&["closed"]) => call_all::play_unordered(
                 script, report,
             ),
-            "steer" if script.knows(&[]) => steer::play(script, report),
+            "steer" if script.knows(&["turning"]) => steer::play(script, report),
             _ => script.unread(report),
         }
     }

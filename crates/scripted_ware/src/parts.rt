@@ -58,12 +58,13 @@ impl<'a> AsyncPredicate<u8> for Doubling<'a> {
     }
 }
 
-/// Picks the service at this place, or the first where there is none.
+/// Picks the service at this place, or the first where there is none. If it turns, its next place is the one after that.
 #[derive(Clone, Drop)]
 pub struct Picking<'a> {
     log: &'a Log,
     part: Place<'a>,
     place: usize,
+    turns: bool,
 }
 
 impl<'a> Picking<'a> {
@@ -73,6 +74,7 @@ impl<'a> Picking<'a> {
             log: stage.log,
             part: Place::new(&stage.others, 'p', 0),
             place,
+            turns: script.has("turning"),
         }
     }
 }
@@ -82,6 +84,10 @@ impl<'a, S> Picker<S, u8> for Picking<'a> {
         let count = services.len();
         self.log
             .note(format_args!("picked for {request} of {count}"));
-        if self.place < count { self.place } else { 0 }
+        let place = if self.place < count { self.place } else { 0 };
+        if self.turns {
+            self.place = place.saturating_add(1);
+        }
+        place
     }
 }

@@ -1,4 +1,4 @@
-//! `steer COUNT PLACE`: so many services, of which the one at this place is picked. `a` goes by the script, `b`, `c` and so on by the other.
+//! `steer COUNT PLACE [turning]`: so many services, of which the one at this place is picked, and if it is `turning` the next one next time. `a` goes by the script, `b`, `c` and so on by the other.
 
 use crate::parts::Picking;
 use scripted::report::Report;
