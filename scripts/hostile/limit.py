@@ -2,7 +2,7 @@
 
 import sys
 
-from stage import HANDLES, Hostile, Inner, Play, Stage, within, write_hostile
+from stage import HANDLES, Hostile, Inner, Play, Shares, Stage, within, write_hostile
 
 
 class RateLimit:
@@ -92,22 +92,12 @@ class Line:
         return max(0, self.most - len(self.tickets))
 
 
-class Latch:
-    """One line behind shares of a latch, of which there are so many: 255 is always."""
+class Latch(Shares):
+    """One line behind its shares."""
 
     def __init__(self, stage, most, shares):
-        self.stage = stage
+        super().__init__(stage, shares)
         self.line = Line(most)
-        self.shares = shares
-
-    def share(self):
-        if self.shares == 0:
-            self.stage.note("latch refused")
-            return False
-        if self.shares < 255:
-            self.shares -= 1
-        self.stage.note("latch shared")
-        return True
 
     def step(self, step, key=None, waited=False):
         self.stage.note(f"latch {'waited' if waited else 'stepped'} {step}" + (f"({key})" if key is not None else ""))

@@ -2,17 +2,16 @@
 
 import sys
 
-from stage import Hostile, Inner, Play, Stage, write_hostile
+from stage import Hostile, Inner, Play, Shares, Stage, write_hostile
 
 
-class PendingRequests:
+class PendingRequests(Shares):
     """A number of requests that count, which their shares of a latch end."""
 
     def __init__(self, stage):
-        self.stage = stage
+        super().__init__(stage, 255)
         self.inner = Inner(stage.services, "s")
         self.count = 0
-        self.shares = 255
 
     def poll(self):
         return self.inner.poll()
@@ -23,12 +22,8 @@ class PendingRequests:
 
     def take(self):
         """Whether one more counts."""
-        if self.shares == 0:
-            self.stage.note("latch refused")
+        if not self.share():
             return False
-        if self.shares < 255:
-            self.shares -= 1
-        self.stage.note("latch shared")
         self.stage.note("latch stepped Take")
         self.count += 1
         return True

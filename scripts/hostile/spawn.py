@@ -2,7 +2,7 @@
 
 import sys
 
-from stage import Hostile, Inner, Play, Stage, within, write_hostile
+from stage import Answered, Hostile, Inner, Play, Stage, within, write_hostile
 
 PASSES = 64
 
@@ -209,24 +209,6 @@ class SpawnReady:
         if self.inner:
             self.inner.drop()
         self.latch.drop()
-
-
-class Answered:
-    """A response that is dropped as it answers."""
-
-    def __init__(self, response):
-        self.response = response
-
-    def poll(self):
-        answer = self.response.poll()
-        if answer != "pending":
-            self.drop()
-        return within(answer)
-
-    def drop(self):
-        if self.response:
-            self.response.drop()
-        self.response = None
 
 
 class Party(Hostile):

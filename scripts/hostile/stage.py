@@ -181,6 +181,41 @@ def within(answer, variant="Inner"):
     return answer.replace("error ", f"error {variant}(") + ")" if answer.startswith("error ") else answer
 
 
+class Answered:
+    """A response that is dropped as it answers."""
+
+    def __init__(self, response):
+        self.response = response
+
+    def poll(self):
+        answer = self.response.poll()
+        if answer != "pending":
+            self.drop()
+        return within(answer)
+
+    def drop(self):
+        if self.response:
+            self.response.drop()
+        self.response = None
+
+
+class Shares:
+    """Shares of a latch, of which there are so many: 255 is always."""
+
+    def __init__(self, stage, shares):
+        self.stage = stage
+        self.shares = shares
+
+    def share(self):
+        if self.shares == 0:
+            self.stage.note("latch refused")
+            return False
+        if self.shares < 255:
+            self.shares -= 1
+        self.stage.note("latch shared")
+        return True
+
+
 class Play:
     """A script that a machine plays, by handles and futures as the program keeps them."""
 

@@ -2,7 +2,7 @@
 
 import sys
 
-from stage import Hostile, Inner, Part, Play, Response, Stage, within, write_hostile
+from stage import Answered, Hostile, Inner, Part, Play, Response, Stage, within, write_hostile
 
 PASSES = 64
 
@@ -154,25 +154,15 @@ class Filter(Filtering):
         return parts and Filter(self.stage, *parts)
 
 
-class Filtered:
-    """The response, which is dropped as it answers, or none after a refused check."""
+class Filtered(Answered):
+    """The response, or none after a refused check."""
 
     def __init__(self, request, response):
+        super().__init__(response)
         self.request = request
-        self.response = response
 
     def poll(self):
-        if not self.response:
-            return f"error Rejected({self.request})"
-        answer = self.response.poll()
-        if answer != "pending":
-            self.drop()
-        return within(answer)
-
-    def drop(self):
-        if self.response:
-            self.response.drop()
-        self.response = None
+        return super().poll() if self.response else f"error Rejected({self.request})"
 
 
 def filtered(rng):
