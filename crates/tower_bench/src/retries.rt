@@ -33,6 +33,7 @@ impl<B: Budget> Policy<u64, u64, u64> for Paying<B> {
 
     ghost cloned = { λ _ _ _ _. ⊤ };
 
+    #[inline(always)]
     fn retry(&mut self, _request: &mut u64, outcome: &mut Result<u64, u64>) -> Option<Ready<()>> {
         if outcome.is_ok() {
             self.budget.deposit();

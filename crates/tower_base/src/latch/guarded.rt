@@ -118,7 +118,7 @@ impl<C: Core> Kept<C> {
         reply
     }
 
-    // Makes one step. Where the reply waits, the wakers stay.
+    // Makes one step. If the reply waits, the wakers stay.
     fn step(&mut self, step: C::Step) -> (C::Reply, Option<Woken>)
         requires { C.admits step }
         ensures came { Came C.opens C.steps step result.0 }
@@ -133,7 +133,8 @@ impl<C: Core> Kept<C> {
         (reply, self.waiters.take())
     }
 
-    // Makes one step. Where the reply waits, the waker of the task at this share is kept.
+    // Makes one step. If the reply waits, the waker of the task at this share is kept.
+    #[inline(always)]
     fn wait(
         &mut self,
         step: C::Step,
@@ -188,8 +189,7 @@ fn step_and_wake<C: Core>(mut kept: MutexGuard<'_, Kept<C>>, step: C::Step) -> C
 }
 
 // The same for a task that may wait.
-#[cold]
-#[inline(never)]
+#[inline(always)]
 fn wait_or_wake<C: Core>(
     mut kept: MutexGuard<'_, Kept<C>>,
     step: C::Step,

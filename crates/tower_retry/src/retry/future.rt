@@ -85,6 +85,7 @@ where
 
     ghost stepped = { Stepped S.Service S.Future.stepped P.Policy P.Future.stepped };
 
+    #[inline(always)]
     fn step(&mut self, cx: &mut Context<'_>) -> Poll<Self::Output> {
         let Some(attempts) = &mut self.attempts else {
             return Poll::Ready(Err(Error::Memory));
@@ -93,6 +94,7 @@ where
     }
 }
 
+#[inline(always)]
 fn passes<P, S, Request>(
     attempts: &mut Attempts<P, S, Request, S::Future, P::Future>,
     cx: &mut Context<'_>,
@@ -115,6 +117,7 @@ where
     cx.yield_now()
 }
 
+#[inline(always)]
 fn pass<P, S, Request>(
     attempts: &mut Attempts<P, S, Request, S::Future, P::Future>,
     cx: &mut Context<'_>,
@@ -153,6 +156,7 @@ where
 }
 
 // After a result. The finished inner future is dropped as a wait begins.
+#[inline(always)]
 fn decide<P, S, Request>(
     attempts: &mut Attempts<P, S, Request, S::Future, P::Future>,
     mut outcome: Result<S::Response, S::Error>,
@@ -179,6 +183,7 @@ where
     }
 }
 
+#[inline(always)]
 fn call_again<P, S, Request>(attempts: &mut Attempts<P, S, Request, S::Future, P::Future>)
 where
     P: Policy<Request, S::Response, S::Error>,

@@ -123,6 +123,7 @@ impl Core for HistoCore {
 
     ghost is_wait = { λ _. false };
 
+    #[inline(always)]
     fn step(&mut self, step: HistoStep) -> HistoReply {
         match step {
             HistoStep::Record(moment, millis) => self.record(moment, millis),

@@ -78,6 +78,7 @@ impl<Request, S: Service<Request>, L: Latch<LineCore>> Service<Request> for Conc
 
     ghost readies = { λ old new p. ready_after _ old new S.readies p };
 
+    #[inline(always)]
     fn poll_ready(&mut self, cx: &mut Context<'_>) -> Poll<Result<(), Self::Error>> {
         if let Some(_held) = &self.permit {
             return outward(self.inner.poll_ready(cx));

@@ -74,7 +74,7 @@ impl<L: Latch<BudgetCore>, C: Clock> Budget for TpsBudget<L, C> {
 
     ghost withdrew = { Withdrew L.gave C.Clock };
 
-    #[inline(never)]
+    #[inline(always)]
     fn deposit(&mut self) {
         let moment = self.clock.now();
         match self.latch.step(BudgetStep::Deposit(moment)) {
@@ -83,7 +83,7 @@ impl<L: Latch<BudgetCore>, C: Clock> Budget for TpsBudget<L, C> {
         }
     }
 
-    #[inline(never)]
+    #[inline(always)]
     fn withdraw(&mut self) -> bool {
         let moment = self.clock.now();
         match self.latch.step(BudgetStep::Withdraw(moment)) {
