@@ -13,6 +13,11 @@ abbrev pub MayAsk : {F T : Type 0} → (F → Type 0) → Slot F T → Type 0
 MayAsk can_poll (Waiting f) = can_poll f
 MayAsk can_poll (Answered x) = ⊤
 
+-- if no answer is there
+abbrev pub OnWaiting : {F T : Type 0} → Slot F T → Type 0 → Type 0
+OnWaiting (Waiting f) p = p
+OnWaiting (Answered x) p = ⊤
+
 module _ {F T : Type 0} (f : StepsOf F T) where
   -- a future without an answer is polled once, and an answer is kept
   abbrev pub SlotAsked : Slot F T → Slot F T → Type 0
@@ -26,6 +31,11 @@ module _ {F T : Type 0} (f : StepsOf F T) where
   EachAsked [] new = new ≡ []
   EachAsked (old ∷ rest) new =
       (asked : Slot F T) × SlotAsked old asked × ((others : List (Slot F T)) × EachAsked rest others × (new ≡ asked ∷ others))
+
+  -- The front stays as it is, and the others are asked.
+  abbrev pub OthersAsked : List (Slot F T) → List (Slot F T) → Type 0
+  OthersAsked [] new = new ≡ []
+  OthersAsked (front ∷ rest) new = (others : List (Slot F T)) × EachAsked rest others × (new ≡ front ∷ others)
 
   -- the front was polled, and gave this
   abbrev pub AfterFront : F → List (Slot F T) → Poll T → Poll (Option T) → List (Slot F T) → Type 0

@@ -1,8 +1,8 @@
 //! The queue of an ordered stream.
-ghost use Rattle.std.specs.Prelude.{◌≡◌, All, IsTrue, ◌↔◌, length};
+ghost use Rattle.std.specs.Prelude.{◌≡◌, All, IsTrue, ◌↔◌};
 ghost use Rattle.std.specs.VecDeque.{deque_capacity};
 ghost use Rattle.futures.specs.Task.{Keeps};
-ghost use Rattle.tower_ware.specs.Line.{EachAsked, LineAsked, MayAsk};
+ghost use Rattle.tower_ware.specs.Line.{LineAsked, MayAsk, OthersAsked};
 ghost use Rattle.tower_ware.specs.Queue.{Empty, Grown, HasRoom, Pushed, Queue};
 ghost use Rattle.tower_ware.specs.declared.util.call_all.slot.Slot.{Slot};
 ghost use Rattle.tower_ware.specs.declared.util.call_all.slot.Slot.TheVariants.{Waiting};
@@ -47,16 +47,18 @@ impl<F, T> Line<F, T> {
     }
 }
 
-// Each future without an answer is polled.
-fn ask_each<T: Drop, F: Steps<Output = T>>(slots: &mut VecDeque<Slot<F, T>>, cx: &mut Context<'_>)
+// Each future behind the front that has no answer is polled.
+fn ask_others<T: Drop, F: Steps<Output = T>>(
+    slots: &mut VecDeque<Slot<F, T>>,
+    cx: &mut Context<'_>,
+)
     requires { All (MayAsk F.can_poll) slots.old.items }
-    ensures asked { EachAsked F.Steps.own slots.old.items slots.new.items }
-    ensures count { length slots.new.items ≡ length slots.old.items }
+    ensures asked { OthersAsked F.Steps.own slots.old.items slots.new.items }
     ensures again { All (MayAsk F.can_poll) slots.new.items }
     ensures room { deque_capacity slots.new ≡ deque_capacity slots.old }
     ensures kept { Keeps cx.old cx.new }
 {
-    for i in 0..slots.len() {
+    for i in 1..slots.len() {
         slots[i].ask(cx);
     }
 }
@@ -75,17 +77,17 @@ impl<T: Drop, F: Steps<Output = T>> Drive<T, F> for Line<F, T> {
     ghost pushed = { Pushed Waiting };
 
     fn poll(&mut self, cx: &mut Context<'_>) -> Poll<Option<T>> {
+        let Some(front) = self.slots.front_mut() else {
+            return Poll::Ready(None);
+        };
+        front.ask(cx);
+        if let Slot::Waiting(_) = front {
+            ask_others(&mut self.slots, cx);
+            return Poll::Pending;
+        }
         match self.slots.pop_front() {
-            None => Poll::Ready(None),
             Some(Slot::Answered(answer)) => Poll::Ready(Some(answer)),
-            Some(Slot::Waiting(mut front)) => match front.step(cx) {
-                Poll::Ready(answer) => Poll::Ready(Some(answer)),
-                Poll::Pending => {
-                    ask_each(&mut self.slots, cx);
-                    self.slots.push_front_reserved(Slot::Waiting(front));
-                    Poll::Pending
-                }
-            },
+            _ => unreachable!(),
         }
     }
 

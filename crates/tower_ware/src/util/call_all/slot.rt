@@ -1,6 +1,6 @@
 //! A call without a yielded answer.
-ghost use Rattle.futures.specs.Task.{Keeps};
-ghost use Rattle.tower_ware.specs.Line.{MayAsk, SlotAsked};
+ghost use Rattle.futures.specs.Task.{IsArmed, Keeps};
+ghost use Rattle.tower_ware.specs.Line.{MayAsk, OnWaiting, SlotAsked};
 
 use futures::task::{Context, Poll};
 use tower_base::service::Steps;
@@ -18,6 +18,7 @@ impl<T: Drop, F: Steps<Output = T>> Slot<F, T> {
         requires { MayAsk F.can_poll self.old }
         ensures asked { SlotAsked F.Steps.own self.old self.new }
         ensures again { MayAsk F.can_poll self.new }
+        ensures armed { OnWaiting self.new (IsArmed cx.new) }
         ensures kept { Keeps cx.old cx.new }
     {
         if let Slot::Waiting(future) = self {
