@@ -48,10 +48,7 @@ impl<F, T> Line<F, T> {
 }
 
 // Each future behind the front that has no answer is polled.
-fn ask_others<T: Drop, F: Steps<Output = T>>(
-    slots: &mut VecDeque<Slot<F, T>>,
-    cx: &mut Context<'_>,
-)
+fn ask_others<T: Drop, F: Steps<Output = T>>(slots: &mut VecDeque<Slot<F, T>>, cx: &mut Context<'_>)
     requires { All (MayAsk F.can_poll) slots.old.items }
     ensures asked { OthersAsked F.Steps.own slots.old.items slots.new.items }
     ensures again { All (MayAsk F.can_poll) slots.new.items }
