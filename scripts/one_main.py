@@ -27,7 +27,9 @@ def without_unused(text):
     lines = text.split("\n")
     while True:
         body = [it for it in lines if not re.match(r"(use|mod) ", it)]
-        is_used = lambda name, but: any(re.search(rf"\b{name}\b", it) for it in body if it is not but)
+        # (a trait is used by its methods)
+        word_of = {"BlockOnExt": "block_on_call", "Clock": "share"}
+        is_used = lambda name, but: any(re.search(rf"\b{word_of.get(name, name)}\b", it) for it in body if it is not but)
         found = []
         for line in lines:
             if let := re.match(r"    let (\w+) = ", line):
@@ -35,8 +37,7 @@ def without_unused(text):
             elif module := re.match(r"mod (\w+);", line):
                 kept = [line] if any(it.startswith(f"use {module[1]}::") for it in lines) else []
             elif use := re.match(r"(use .*::)\{?([\w, ]+)\}?;", line):
-                # (a trait is used by its methods)
-                names = [it for it in use[2].split(", ") if it in ("BlockOnExt", "io") or is_used(it, line)]
+                names = [it for it in use[2].split(", ") if is_used(it, line)]
                 kept = [f"{use[1]}{names[0] if len(names) == 1 else '{' + ', '.join(names) + '}'};"] if names else []
             else:
                 kept = [line]
