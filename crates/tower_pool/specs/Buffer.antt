@@ -137,3 +137,7 @@ pub record IsClone {L Q F E : Type 0} (gave : L → MailStep Q F E → MailReply
   pub latch : (step : MailStep Q F E) (reply : MailReply Q F E) → gave copy.latch step reply → gave old.latch step reply
   pub joined : gave old.latch Join Done
   pub away : copy ≡ record { latch = copy.latch; seat = Away; share = None }
+
+-- a clone that is refused: its latch refuses the share; or the mail, which stays as it was, can't count another `Buffer`
+abbrev pub CloneRefused : {L Q F E : Type 0} → (L → MailStep Q F E → MailReply Q F E → Type 0) → (L → Result L AllocError → Type 0) → BufferView L → AllocError → Type 0
+CloneRefused {L = L} gave shares old error = shares old.latch (Err error) ⊎ ((share : L) × shares old.latch (Ok share) × gave old.latch Join Memory)

@@ -1,6 +1,6 @@
 //! A share of a bounded queue before a service.
-ghost use Rattle.std.specs.Prelude.{◌≡◌, Some, None, IfOk, IfErr, Err, IsSome};
-ghost use Rattle.tower_pool.specs.Buffer.{BufferView, Called, GivesUp, IsClone, Polled};
+ghost use Rattle.std.specs.Prelude.{◌≡◌, Some, None, IfErr, IsSome, MatchResult};
+ghost use Rattle.tower_pool.specs.Buffer.{BufferView, Called, CloneRefused, GivesUp, IsClone, Polled};
 ghost use Rattle.tower_pool.specs.BufferReady.{ready_after};
 ghost use Rattle.tower_pool.specs.declared.buffer.seat.Seat.TheVariants.{Away, Reserved};
 
@@ -149,12 +149,16 @@ where
     }
 }
 
-/// A clone shares the mail. It has no place, and waits for none.
+/// A clone shares the mail. It has no place, and waits for none. It is refused if the latch refuses its
+/// share, or if the mail can't count another `Buffer`.
 impl<Request: Drop, F: Steps + Drop, E: Clone, L: Latch<MailCore<Request, Pollable<F>, E>>> Clone
     for Buffer<Request, F, E, L> {
     ghost is_clone = { IsClone L.gave L.shares };
 
-    fn clone(&self) -> Result<Self, AllocError> {
+    fn clone(&self) -> Result<Self, AllocError>
+        ensures cases { MatchResult result (IsClone L.gave L.shares self.now) (λ _. ¬ ⊥) }
+        ensures refused { IfErr result (CloneRefused L.gave L.shares self.now) }
+    {
         let latch = self.latch.share()?;
         match self.latch.step(MailStep::Join) {
             MailReply::Done => Ok(Buffer::away(latch)),
