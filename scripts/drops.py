@@ -7,8 +7,8 @@ each run, by what was noted:
 - Each service, response, clone and share of a noted latch was dropped once, and nothing else was.
 - Permits: all are free at the end. Loads: none is counted once all responses are dropped.
 - Mail is at its end, and no request is left. Each `Join` has its `Part`, each place its `Send` or `Unreserve`, and each wait its place, its error
-  or its `Cancel`; each response answers once at most. If the worker is kept and the mail open, then once all else is dropped as many clones as
-  there are places are ready, and one more is pending.
+  or its `Cancel`; each message's outcome is told or forgotten, once. If the worker is kept and the mail open, then once all else is dropped as many
+  clones as there are places are ready, and one more is pending.
 - A handle aborts its slot once. Each task that was spawned puts its service or error back, is gone, or ends by an abort.
 It prints how many runs there were. Status 1 and a line for each that isn't so."""
 import collections
@@ -74,10 +74,10 @@ def variants(kind, script):
         handles, responses = [f"drop {it}" for it in letters], [f"drop {it}" for it in numbers]
         if kind == "scripted_balance":
             yield [*asked[:place], *responses, "load", "end"], False
+        rest = [f"drop {it}" for it in others]
         for first, last in ((handles, responses), (responses, handles)):
-            for worker in ([f"drop {it}" for it in others], []) if others else ([],):
-                yield [*asked[:place], *first, *worker, *last, "end"], False
-                yield [*asked[:place], *worker, *first, *last, "end"], False
+            for drops in ([*rest, *first], [*first, *rest], first) if rest else (first,):
+                yield [*asked[:place], *drops, *last, "end"], False
         if kind == "scripted_buffer" and script[0].asked.startswith("buffer "):
             yield with_spare(asked, place, letters, responses), True
 
@@ -147,6 +147,11 @@ def mail(run, notes, is_fresh):
         yield f"{places} places, {count['Send']} sends and {count['Unreserve']} unreserved"
     if waits != count["Cancel"]:
         yield f"{waits} waits went on, and {count['Cancel']} were cancelled"
+    gone = next((at for at, line in enumerate(run) if "WorkerGone" in line.notes), len(run))
+    sent = sum(line.answer.startswith("call ") for line in run[:gone])
+    told = sum(any(it.startswith("Outcome") for it in line.notes) and (line.answer != "pending" or len(line.notes) > 1) for line in run)
+    if sent != told + count["Forget"]:
+        yield f"{sent} messages were sent, {told} outcomes told and {count['Forget']} forgotten"
     if count["WorkerGone"] != 1:
         yield f"the worker went {count['WorkerGone']} times"
     polls = [line.answer for line in run if line.asked.startswith("poll")][-(places_of(run[0].asked) + 1) :]
