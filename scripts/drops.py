@@ -5,7 +5,7 @@ It plays the files of PLAYED by the proved programs that `rt ci` left in out/ (o
 drops one thing, and the script goes on; or all handles and then all responses, or all responses and then all handles, and the script ends. Of
 each run, by what was noted:
 - Each service, response, clone and share of a noted latch was dropped once, and nothing else was.
-- Permits: all are free at the end. Loads: none is counted once all responses are dropped.
+- Permits: each is given back, all are free at the end, and each wait gets its permit or its `Cancel`. Loads: none is counted once all responses are dropped.
 - Mail is at its end, and no request is left. Each `Join` has its `Part`, each place its `Send` or `Unreserve`, and each wait its place, its error
   or its `Cancel`; each message's outcome is told or forgotten, once. If the worker is kept and the mail open, then once all else is dropped as many
   clones as there are places are ready, and one more is pending.
@@ -21,7 +21,7 @@ import tempfile
 TOP = os.path.dirname(os.path.dirname(os.path.abspath(__file__)))
 # The files of each program, and which of their scripts are played, by the first word.
 PLAYED = {
-    "scripted_limit": (("permits", "concurrency_limit"),),
+    "scripted_limit": (("permits", "concurrency_limit"), ("concurrency_limit", "concurrency_limit")),
     "scripted_balance": (("load", "pending_requests"),),
     "scripted_buffer": (("buffer", "buffer"), ("passes", "buffer"), ("round_a_limit", "buffer_round_a_limit")),
     "scripted_spawn": (("spawn_ready", "spawn_ready"),),
@@ -124,6 +124,16 @@ def faults(kind, run, is_fresh):
 def permits(run, notes, _):
     if "watched" in run[0].asked and not re.fullmatch(r"(\d+) of \1 permits free", notes[-1]):
         yield notes[-1]
+    # The share that was made for a permit is dropped if the permit isn't there yet.
+    asks = [line for line in run if any(it.startswith("latch waited") for it in line.notes)]
+    permits = [line for line in asks if "latch dropped" not in line.notes]
+    joins, looks = ([line for line in asks if f"latch waited {step}" in "; ".join(line.notes)] for step in ("Join", "Look"))
+    waits = sum(line not in permits for line in joins) - sum(line in permits for line in looks)
+    count = collections.Counter(note.split("(")[0] for note in notes)
+    if len(permits) != count["latch stepped Release"]:
+        yield f"{len(permits)} permits, and {count['latch stepped Release']} were given back"
+    if waits != count["latch stepped Cancel"]:
+        yield f"{waits} waits went on, and {count['latch stepped Cancel']} were cancelled"
 
 
 def loads(run, _notes, _):
@@ -194,7 +204,7 @@ def main():
             runs = []
             for script in scripts_of(f"{TOP}/crates/{kind}/data/{file}.script"):
                 first = script[0].asked.split(";")[0].split()
-                if first[0] == name and "get_mut" not in first and "into_inner" not in first and not any(it.asked.startswith("count ") for it in script):
+                if first[0] == name and not {"get_mut", "into_inner", "checked"} & set(first) and not any(it.asked.startswith("count ") for it in script):
                     runs += variants(kind, script)
             came = play(program, runs)
             if len(came) != len(runs):
