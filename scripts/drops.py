@@ -64,9 +64,10 @@ def names(script, place):
 
 
 def variants(kind, script):
-    """The runs: what is asked in each, and whether fresh clones are asked at its end."""
+    """The runs: what is asked in each, and whether fresh clones are asked at its end. Of a long script only the first and the last response go."""
     asked = [it.asked for it in script]
     others = {"scripted_buffer": ["worker"], "scripted_spawn": ["task", "ended"]}.get(kind, [])
+    rest = [f"drop {it}" for it in others]
     for place in range(1, len(script)):
         letters, numbers = names(script, place)
         for word in [*letters, *(numbers if len(numbers) < 8 else [numbers[0], numbers[-1]]), *others]:
@@ -74,7 +75,9 @@ def variants(kind, script):
         handles, responses = [f"drop {it}" for it in letters], [f"drop {it}" for it in numbers]
         if kind == "scripted_balance":
             yield [*asked[:place], *responses, "load", "end"], False
-        rest = [f"drop {it}" for it in others]
+        if len(script) > 60:
+            yield [*asked[:place], "end"], False
+            continue
         for first, last in ((handles, responses), (responses, handles)):
             for drops in ([*rest, *first], [*first, *rest], first) if rest else (first,):
                 yield [*asked[:place], *drops, *last, "end"], False
@@ -195,7 +198,7 @@ def play(program, runs):
 
 
 def main():
-    failed = total = 0
+    failed = 0
     for kind, files in PLAYED.items():
         program = f"{os.environ.get('PROGRAMS') or f'{TOP}/crates/{kind}/out'}/{kind}"
         if not os.access(program, os.X_OK):
@@ -209,12 +212,11 @@ def main():
             came = play(program, runs)
             if len(came) != len(runs):
                 sys.exit(f"drops: {file}: {len(runs)} runs, and {len(came)} came")
-            for (asked, is_fresh), run in zip(runs, came):
+            for (_, is_fresh), run in zip(runs, came):
                 for fault in faults(kind, run, is_fresh):
                     failed += 1
                     if failed < 20:
                         print(f"drops: {file}: {fault}", *(f"    {it.asked:14} => {it.answer:12} | {'; '.join(it.notes)}" for it in run), sep="\n", file=sys.stderr)
-            total += len(runs)
             print(f"drops: {file}: {len(runs)} runs")
     return failed > 0
 
