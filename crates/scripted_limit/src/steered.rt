@@ -28,7 +28,24 @@ pub fn play<R: Wait + Copy>(
     let alloc = script.alloc();
     let first = ConcurrencyLimit::new(rt, alloc, script.service('s'), 1)?;
     let second = ConcurrencyLimit::new(rt, alloc, script.service('t'), 1)?;
-    played(script, report, vec![in alloc; first, second]?)
+    of_two(script, report, first, second)
+}
+
+// (A list of a lock's type isn't covered by the check where the lock is made.)
+fn of_two<S>(
+    script: &Script<'_>,
+    report: &mut Report<'_>,
+    first: S,
+    second: S,
+) -> Result<(), AllocError>
+where
+    S: Service<u8> + Clone,
+    S::Response: Display,
+    S::Error: Debug + Display,
+    requires sound { (service : S) → S.sound service }
+{
+    let services = vec![in script.alloc(); first, second]?;
+    played(script, report, services)
 }
 
 // Plays by a steer of the services.
