@@ -1,22 +1,24 @@
-//! `Buffer` and its `Worker`.
+//! `Buffer`, whose worker runs in a pool.
 
 use crate::server::Server;
 use crate::tell;
-use futures::executor::block_on;
-use futures::future::join;
+use futures::executor::LocalPool;
+use futures::task::Doorbell;
 use std::alloc::AllocGlobal;
 use std::io;
 use std::random::RandomSource;
 use std::sync::Wait;
-use tower::ServiceExt;
-use tower::buffer::Buffer;
+use tower::{ServiceBuilder, ServiceExt};
 
-/// The worker runs beside the call, and ends once no handle of the buffer is left. Clones of one may call from elsewhere.
+/// The pool polls the worker beside the call. Clones of the buffer may call from elsewhere.
 pub fn call_beside_the_worker<R>(rt: R) -> io::Result<()>
 where
     R: Wait + RandomSource + AllocGlobal + Print + Copy,
 {
-    let (buffer, worker) = Buffer::pair(rt, rt.alloc(), Server(1), 3)?;
-    let (answer, ()) = block_on(&rt, join(buffer.oneshot(1), worker))?;
+    let mut pool = LocalPool::with_doorbell(&rt, Doorbell::parking())?;
+    let buffer = ServiceBuilder::new()
+        .buffer(rt, rt.alloc(), 3, pool.spawner()?)
+        .service(Server(1))?;
+    let answer = pool.run_until(&rt, buffer.oneshot(1))?;
     tell(rt, "buffer", answer)
 }

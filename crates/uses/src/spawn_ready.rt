@@ -1,47 +1,54 @@
-//! `SpawnReady`, and an executor for its task.
+//! `SpawnReady`, whose task runs in a pool.
 
-use crate::server::Server;
 use crate::tell;
-use futures::executor::block_on;
-use futures::task::{Doorbell, Solo};
+use futures::executor::LocalPool;
+use futures::future::{Ready, ok};
+use futures::task::{Context, Doorbell, Poll};
 use std::alloc::AllocGlobal;
-use std::cell::Cell;
+use std::convert::Infallible;
+use std::io;
 use std::random::RandomSource;
 use std::sync::Wait;
-use std::thread::Threads;
-use std::{io, thread};
-use tower::latch::held::Pollable;
-use tower::service::{Executor, Steps};
 use tower::spawn_ready::SpawnReady;
-use tower::{BlockOnExt, Service};
+use tower::{Service, ServiceExt};
 
-/// Keeps its task for whoever takes it out.
+/// Isn't ready at its first poll.
 #[derive(Drop)]
-struct Later<'a, T: Steps>(&'a Cell<Option<Pollable<T>>>);
+struct Cold {
+    is_warm: bool,
+}
 
-impl<'a, T: Steps> Executor<T> for Later<'a, T> {
-    ghost can_spawn = { λ _ task. T.can_poll task };
+impl Service<u32> for Cold {
+    type Response = u32;
 
-    fn spawn(&self, task: T) -> Result<(), T> {
-        self.0.set(Some(Pollable::new(task)));
-        Ok(())
+    type Error = Infallible;
+
+    type Future = Ready<Result<u32, Infallible>>;
+
+    // It may always be called.
+    ghost readies = { λ _ _ _. tt };
+
+    fn poll_ready(&mut self, cx: &mut Context<'_>) -> Poll<Result<(), Infallible>> {
+        if self.is_warm {
+            return Poll::Ready(Ok(()));
+        }
+        self.is_warm = true;
+        cx.yield_now()
+    }
+
+    fn call(&mut self, request: u32) -> Self::Future {
+        ok(request)
     }
 }
 
-/// The service gets ready in a task, which runs in a thread of its own, and is called then.
+/// The service gets ready in a task of the pool, and is called then.
 pub fn warm_up<R>(rt: R) -> io::Result<()>
 where
-    R: Threads + Wait + RandomSource + AllocGlobal + Print + Copy + Send + Sync,
+    R: Wait + RandomSource + AllocGlobal + Print + Copy,
 {
-    let task = Cell::new(None);
-    let mut service = SpawnReady::new(rt, rt.alloc(), Server(1), Later(&task))?;
-    let solo = Solo::new(&rt, Doorbell::spinning())?;
-    let mut cx = solo.begin();
-    let asked = service.poll_ready(&mut cx);
-    cx.end(&asked);
-    if let Some(task) = task.take() {
-        let ((), ended) = thread::join(&rt, || (), || block_on(&rt, task.into_inner()));
-        ended?;
-    }
-    tell(rt, "spawn_ready", service.block_on_call(&rt, 1)?)
+    let mut pool = LocalPool::with_doorbell(&rt, Doorbell::parking())?;
+    let cold = Cold { is_warm: false };
+    let service = SpawnReady::new(rt, rt.alloc(), cold, pool.spawner()?)?;
+    let answer = pool.run_until(&rt, service.oneshot(1))?;
+    tell(rt, "spawn_ready", answer)
 }
