@@ -142,11 +142,11 @@ where
     B: Service<u64, Response = u64>,
 {
     fn sum(self, rt: &R) -> io::Result<u64> {
-        calls(rt, self.buffer, self.count)
+        make_calls(rt, self.buffer, self.count)
     }
 }
 
-fn calls<R, B>(rt: &R, mut buffer: Sealed<B, u64>, count: u64) -> io::Result<u64>
+fn make_calls<R, B>(rt: &R, mut buffer: Sealed<B, u64>, count: u64) -> io::Result<u64>
 where
     R: Wait + RandomSource + AllocGlobal,
     B: Service<u64, Response = u64>,
