@@ -9,5 +9,3 @@ mod plain_cache;
 mod random_cache;
 #[cfg(test)]
 mod ready_cache;
-#[cfg(test)]
-mod stored;
