@@ -5,6 +5,7 @@ mod concurrency_limit;
 mod parts;
 mod rate_limit;
 mod semaphore;
+mod steered;
 
 use scripted::player::Services;
 use scripted::program::run;
@@ -34,6 +35,7 @@ impl<R: Wait + Copy> Services for Limits<R> {
                 script, report,
             ),
             "semaphore" if script.knows(&[]) => semaphore::play(self.rt, script, report),
+            "steered_limits" if script.knows(&[]) => steered::play(self.rt, script, report),
             _ => script.unread(report),
         }
     }

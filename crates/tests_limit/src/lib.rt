@@ -4,6 +4,8 @@
 #[cfg(test)]
 mod concurrency;
 #[cfg(test)]
+mod driven;
+#[cfg(test)]
 mod line_core;
 #[cfg(test)]
 mod rate;

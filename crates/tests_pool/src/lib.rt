@@ -9,3 +9,5 @@ mod plain_cache;
 mod random_cache;
 #[cfg(test)]
 mod ready_cache;
+#[cfg(test)]
+mod stored;
