@@ -9,7 +9,6 @@ import sys
 
 TOP = os.path.dirname(os.path.dirname(os.path.abspath(__file__)))
 LIBRARY = ("tower_base", "tower_util", "tower_ware", "tower_limit", "tower_retry", "tower_pool", "tower")
-# What no test makes yet: it is `drive`, with one law more.
 # What only the library itself calls.
 PRIVATE = ("Waiters", "Cells", "Held", "Slots", "Bag", "Line", "Spare", "Tally", "Mailbox", "R")
 
