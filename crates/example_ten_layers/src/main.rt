@@ -8,10 +8,9 @@ use futures::future::{Ready, ready};
 use policy::{Busy, TwoRetries};
 use short::Short;
 use std::cell::Cell;
-use std::fmt::Display;
 use std::io;
 use tower::retry::budget::TpsBudget;
-use tower::service::{Clock, SystemClock};
+use tower::service::SystemClock;
 use tower::{BlockOnExt, ServiceBuilder};
 
 // Each third call fails.
@@ -24,23 +23,15 @@ fn square(calls: &Cell<u64>, side: u64) -> Result<u64, u64> {
     }
 }
 
-fn tell<E: Display + Drop>(rt: HostRuntime, side: u64, answer: Result<u64, E>) -> io::Result<()> {
-    match answer {
-        Ok(area) => println!(rt; "the area of {side} is {area}"),
-        Err(error) => println!(rt; "no answer for {side}: {error}"),
-    }
-}
-
 fn main(rt: HostRuntime) -> io::Result<()> {
     let alloc = rt.alloc();
     let calls = Cell::new(0);
-    let clock = SystemClock::new(rt)?;
-    let budget = TpsBudget::with_clock(rt, alloc, clock.share())?;
+    let budget = TpsBudget::with_clock(rt, alloc, SystemClock::new(rt)?)?;
     let mut stack = ServiceBuilder::new()
-        .timeout(1_000_000_000, clock.share())
+        .timeout(1_000_000_000, SystemClock::new(rt)?)
         .load_shed()
         .concurrency_limit(rt, alloc, 2)
-        .rate_limit(alloc, 100, 1_000_000_000, clock.share())
+        .rate_limit(alloc, 100, 1_000_000_000, SystemClock::new(rt)?)
         .retry(TwoRetries::new(budget))
         .filter(Short)
         .map_request(|side: u64| side.wrapping_add(1))
@@ -51,7 +42,10 @@ fn main(rt: HostRuntime) -> io::Result<()> {
         })
         .service_fn(|side: u64| -> Ready<Result<u64, u64>> { ready(square(&calls, side)) })?;
     for side in 0..10 {
-        tell(rt, side, stack.block_on_call(&rt, side)?)?;
+        match stack.block_on_call(&rt, side)? {
+            Ok(area) => println!(rt; "the area of {side} is {area}")?,
+            Err(error) => println!(rt; "no answer for {side}: {error}")?,
+        }
     }
     println!(rt; "inner calls: {}", calls.get())
 }
