@@ -7,7 +7,8 @@ use Rattle.tower_base.specs.Order.{has, Apart}
 use Rattle.tower_limit.specs.Waiters.{outside}
 use Rattle.tower_pool.specs.Messages.{is_queued}
 use Rattle.tower_pool.specs.Mail.{At, Entry, SentMessage, Mail, MailSteps}
-use Rattle.tower_pool.specs.Mailbox.{Follows, Holds, StandsFor, kept, known, plain_of, queue}
+use Rattle.tower_pool.specs.MessageSteps.{Holds, kept, known, queue}
+use Rattle.tower_pool.specs.Mailbox.{Follows, StandsFor, plain_of}
 use Rattle.tower_pool.specs.declared.buffer.message.Fate.TheVariants.{Open}
 use Rattle.tower_pool.specs.declared.buffer.message.Message.{Message}
 use Rattle.tower_pool.specs.declared.buffer.mail.MailStep.{MailStep}

@@ -6,7 +6,7 @@ use Rattle.tower_base.specs.Links.{LinksView}
 use Rattle.tower_base.specs.Order.{has, without}
 use Rattle.tower_pool.specs.Messages.{Fits, is_queued}
 use Rattle.tower_pool.specs.Mail.{At, Entry, SentMessage, NoneQueued, NoneWith, OldestAt}
-use Rattle.tower_pool.specs.Mailbox.{Holds, known, kept, queue}
+use Rattle.tower_pool.specs.MessageSteps.{Holds, known, kept, queue}
 use Rattle.tower_pool.specs.Waiting.{are_apart}
 use Rattle.tower_pool.specs.declared.buffer.message.Fate.{Fate}
 use Rattle.tower_pool.specs.declared.buffer.message.Fate.TheVariants.{Open}

@@ -1,7 +1,7 @@
 use Rattle.std.proofs.Common.{◌+◌, ◌∙◌, Some, length, slice_set, refl, sym, ap, arith}
 use Rattle.slab.specs.Slab.{Slab, get, slab_len}
 use Rattle.tower_pool.specs.Mail.{Entry}
-use Rattle.tower_pool.specs.Mailbox.{known}
+use Rattle.tower_pool.specs.MessageSteps.{known}
 use Rattle.tower_pool.specs.declared.buffer.message.Fate.TheVariants.{Answered, Cancelled}
 use Rattle.tower_pool.specs.declared.buffer.message.Message.{Message}
 use Rattle.tower_pool.proofs.Fates.{taken_cancelled, taken_open}

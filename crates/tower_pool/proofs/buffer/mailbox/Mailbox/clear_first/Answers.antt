@@ -1,7 +1,7 @@
 use Rattle.std.proofs.Common.{◌≡◌, ◌+◌, ◌-◌, ◌∙◌, length, slice_set, refl, sym, ap, arith}
 use Rattle.slab.specs.Slab.{get, slab_len}
 use Rattle.tower_pool.specs.Mail.{Entry}
-use Rattle.tower_pool.specs.Mailbox.{kept}
+use Rattle.tower_pool.specs.MessageSteps.{kept}
 use Rattle.tower_pool.specs.declared.buffer.message.Fate.TheVariants.{Cancelled}
 use Rattle.tower_pool.proofs.Fates.{queued_some}
 use Rattle.tower_limit.proofs.LineMoves.{admits, admits_fits, returned, stands_as}

@@ -2,7 +2,7 @@ use Rattle.std.proofs.Common.{◌≡◌, ◌≢◌, ◌+◌, ◌∙◌, length, 
 use Rattle.slab.specs.Slab.{Slab, get, slab_len}
 use Rattle.tower_pool.specs.Messages.{bare}
 use Rattle.tower_pool.specs.Mail.{Entry}
-use Rattle.tower_pool.specs.Mailbox.{known}
+use Rattle.tower_pool.specs.MessageSteps.{known}
 use Rattle.tower_pool.specs.declared.buffer.message.Fate.TheVariants.{Cancelled, Open}
 use Rattle.tower_pool.specs.declared.buffer.message.Message.{Message}
 use Rattle.tower_pool.proofs.Fates.{bare_open, fate_some, settled}

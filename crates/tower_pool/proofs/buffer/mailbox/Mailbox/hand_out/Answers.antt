@@ -1,6 +1,6 @@
 use Rattle.std.proofs.Common.{◌≡◌, ◌+◌, ◌∙◌, length, slice_set, refl, sym, ap, arith}
 use Rattle.tower_pool.specs.Mail.{Entry}
-use Rattle.tower_pool.specs.Mailbox.{known}
+use Rattle.tower_pool.specs.MessageSteps.{known}
 use Rattle.tower_pool.specs.declared.buffer.message.Message.{Message}
 use Rattle.tower_pool.proofs.Fates.{ended_lost, ended_settled, some_is}
 use Rattle.tower_limit.proofs.LineMoves.{stands_as}

@@ -1,7 +1,7 @@
 use Rattle.std.proofs.Common.{◌≡◌, ◌+◌, ◌-◌, ◌∙◌, None, Some, length, slice_set, refl, sym, ap, subst, arith}
 use Rattle.slab.specs.Slab.{Updates}
 use Rattle.tower_pool.specs.Mail.{Entry}
-use Rattle.tower_pool.specs.Mailbox.{kept}
+use Rattle.tower_pool.specs.MessageSteps.{kept}
 use Rattle.tower_pool.specs.declared.buffer.message.Fate.TheVariants.{Open}
 use Rattle.tower_pool.specs.declared.buffer.message.Message.{Message}
 use Rattle.tower_pool.proofs.Fates.{some_is}

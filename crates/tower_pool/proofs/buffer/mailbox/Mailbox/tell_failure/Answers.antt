@@ -1,7 +1,7 @@
 use Rattle.std.proofs.Common.{◌+◌, length, slice_set, refl, ap, arith}
 use Rattle.tower_pool.specs.Messages.{is_failed, is_unsettled}
 use Rattle.tower_pool.specs.Mail.{Entry}
-use Rattle.tower_pool.specs.Mailbox.{known}
+use Rattle.tower_pool.specs.MessageSteps.{known}
 use Rattle.tower_limit.proofs.LineMoves.{stands_as}
 use Rattle.tower_pool.proofs.Messages.{Sorted}
 use Rattle.tower_pool.proofs.Moves.{gone, removed}
