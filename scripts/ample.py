@@ -7,6 +7,9 @@ import os
 import re
 import sys
 
+sys.dont_write_bytecode = True  # no folder of its own in the repository
+from must_fail import without_generics
+
 TOP = os.path.dirname(os.path.dirname(os.path.abspath(__file__)))
 LIBRARY = ("tower_base", "tower_util", "tower_ware", "tower_limit", "tower_retry", "tower_pool", "tower")
 # What only the library itself calls.
@@ -107,14 +110,6 @@ def made():
     for line in filter(None, MADE.splitlines()):
         calls, file, text = re.match(r"((?:[\w:]+ )*[\w:]+) +(\S+/\S+) +(.*)", line).groups()
         yield calls.split(), file, text
-
-
-def without_generics(text):
-    kept, depth = "", 0
-    for letter in text.replace("->", ""):
-        depth += (letter == "<") - (letter == ">")
-        kept += letter * (depth == 0 and letter != ">")
-    return kept
 
 
 def declared(path):
