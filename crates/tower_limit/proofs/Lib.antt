@@ -11,4 +11,5 @@ pub mod RateBound
 pub mod RateRuns
 pub mod RateStands
 pub mod Replies
+pub mod WaitQueues
 pub mod Waiters

@@ -1,9 +1,9 @@
 -- What holds of each list that a line stands for.
-use Rattle.std.proofs.Common.{◌≡◌, ℕ, false, ◌+◌, ◌-◌, ◌<◌, ◌≤◌, zero, suc, List, [], ◌∷◌, ◌++◌, length, length-append, Some, slice_get, slice_set, remove, refl, ap, ◌∙◌, sym, subst, arith}
+use Rattle.std.proofs.Common.{◌≡◌, ℕ, false, ◌+◌, ◌-◌, ◌<◌, ◌≤◌, zero, suc, List, [], ◌∷◌, ◌++◌, length, Some, slice_get, slice_set, remove, refl, ap, ◌∙◌, sym, subst, arith}
 use Rattle.tower_base.specs.Order.{has}
-use Rattle.tower_limit.specs.Waiters.{outside}
+use Rattle.tower_limit.specs.WaitQueue.{room, size}
 use Rattle.tower_limit.proofs.KeysLemmas.{has_at, not_both}
-use Rattle.tower_limit.proofs.Waiters.{outside_waits}
+use Rattle.tower_limit.proofs.WaitQueues.{keys_count, some_queue}
 use Rattle.tower_limit.specs.Line.{Ticket, Line, At, Lacks, Steps, LineSteps, keys_of}
 use Rattle.tower_limit.specs.LineCore.{holders, HoldersBelow, Stands, StandsFor, Follows}
 use Rattle.tower_base.specs.Latch.{FollowsMachine, StepsAs}
@@ -128,22 +128,19 @@ some_line max zero keys le = (waiting keys, waiting_stands max keys)
 some_line max (suc held) keys le =
     let r = some_line (max - 1) held keys (omega arith) in (Ticket.held ∷ r.0, (ap suc r.1.0, r.1.1, (omega arith, r.1.2)))
 
--- some line is what the core stands for: those outside the order first
+-- some line is what the core stands for
 pub some_plain : (core : LineCore) → (line : Line) × StandsFor core line
 some_plain core =
-    let r = some_line core.max core.held (outside core.waiters ++ core.waiters.order) (omega (arith, core.fits)) in (
-      record { max = core.max; tickets = r.0; room = core.waiters.entries.capacity },
-      (refl, (outside core.waiters, outside_waits core.waiters core.apart core.present, core.count, r.1), refl),
-    )
+    let q = some_queue core.queue in
+    let r = some_line core.max core.held q.0.keys (omega (arith, core.fits)) in
+    (record { max = core.max; tickets = r.0; room = room core.queue }, (refl, (q.0, q.1, r.1), refl))
 
 -- a step of a core follows the line's machine
 pub follows : (old new : LineCore) (step : LineStep) (reply : LineReply) → Follows old step reply new → FollowsMachine StandsFor LineSteps old step reply new
 follows old new step reply f plain stands =
     let r = f.goes plain.tickets stands.1 in
-    let granted : List ℕ = stands.1.0 in
-    let waiting : length (keys_of plain.tickets) ≡ old.granted + length old.waiters.order =
-    ap length stands.1.3.1 ∙ length-append granted old.waiters.order ∙ ap (λ n. n + length old.waiters.order) stands.1.2 in (
-      record { max = plain.max; tickets = r.0; room = new.waiters.entries.capacity },
+    let waiting : length (keys_of plain.tickets) ≡ size old.queue = ap length stands.1.2.1 ∙ keys_count old.queue.granted old.queue.waiters stands.1.0 stands.1.1 in (
+      record { max = plain.max; tickets = r.0; room = room new.queue },
       (
         refl,
         subst (λ (max : ℕ). Steps max plain.tickets step reply r.0) (sym stands.0) r.1,

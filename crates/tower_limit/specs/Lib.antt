@@ -21,4 +21,6 @@ pub mod RateLends
 pub mod RateReady
 pub mod RateRun
 pub mod RotatingHistogram
+pub mod Turns
+pub mod WaitQueue
 pub mod Waiters

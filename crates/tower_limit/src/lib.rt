@@ -5,3 +5,4 @@ pub mod discover;
 pub mod hedge;
 pub mod limit;
 pub mod load;
+pub mod wait_queue;

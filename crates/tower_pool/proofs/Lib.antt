@@ -1,11 +1,10 @@
 pub mod Abandoned
 pub mod AskLemmas
 pub mod CacheLemmas
+pub mod Closing
 pub mod Fates
-pub mod KeysLemmas
-pub mod LineMoves
 pub mod KeptLemmas
-pub mod Lines
+pub mod KeysLemmas
 pub mod Machine
 pub mod MailRuns
 pub mod Messages

@@ -16,7 +16,8 @@ use Rattle.tower_pool.specs.declared.buffer.mailbox.Mailbox.{Mailbox}
 use Rattle.tower_pool.proofs.Fates.{queued_some, some_is}
 use Rattle.tower_limit.proofs.KeysLemmas.{apart_cross, at_has, has_at, has_first, not_both, or_right}
 use Rattle.tower_pool.proofs.KeysLemmas.{apart_is}
-use Rattle.tower_pool.proofs.Lines.{some_line}
+use Rattle.tower_limit.proofs.Lines.{some_line}
+use Rattle.tower_limit.proofs.WaitQueues.{some_queue}
 use Rattle.tower_pool.proofs.Messages.{Sorted, here_is, not_here}
 use Rattle.tower_limit.proofs.Waiters.{outside_waits}
 
@@ -120,10 +121,10 @@ module _ {Q F E : Type 0} where
   -- some mail is what the box stands for
   pub some_mail : (box : Mailbox Q F E) → (mail : Mail Q F E) × StandsFor box mail
   some_mail box =
-      let keys = outside box.waiters ++ box.waiters.order in
-      let line = some_line box.bound (box.reserved + length box.letters.order) keys (omega (arith, box.fits)) in
+      let waiters = some_queue box.queue in
+      let line = some_line box.bound (box.reserved + length box.letters.order) waiters.0.keys (omega (arith, box.fits)) in
       let held = some_messages box.stored box.letters (record { differ = box.differ; linked = box.linked; sent = box.sent }) in
-      (plain_of box held.0 line.0, (held.1, (outside box.waiters, outside_waits box.waiters (apart_is box.waiters.order box.apart) box.present, box.count, line.1), refl))
+      (plain_of box held.0 line.0, (held.1, (waiters.0, waiters.1, line.1), refl))
 
   pub follows : (old new : Mailbox Q F E) (step : MailStep Q F E) (reply : MailReply Q F E) → Follows old step reply new
       → FollowsMachine StandsFor MailSteps old step reply new

@@ -13,7 +13,7 @@ use Rattle.tower_pool.specs.declared.buffer.letter.Message.{Message}
 use Rattle.tower_pool.proofs.Fates.{by_none, some_is}
 use Rattle.tower_limit.proofs.KeysLemmas.{has_first, length_without, without_first, without_lacks}
 use Rattle.tower_pool.proofs.KeysLemmas.{apart_is}
-use Rattle.tower_pool.proofs.LineMoves.{first_is}
+use Rattle.tower_limit.proofs.WaitQueues.{first_is}
 use Rattle.tower_pool.proofs.Messages.{FitsIf, Sorted, first_queued, holds_changed, holds_gone, none_with, queue_first, queue_gone, queue_same, sorted_as, sorted_changed, sorted_left}
 
 module _ {Q F : Type 0} where

@@ -4,6 +4,7 @@ use Rattle.slab.specs.Slab.{get, slab_len}
 use Rattle.tower_base.specs.Links.{LinksView}
 use Rattle.tower_limit.specs.Line.{Ticket}
 use Rattle.tower_limit.specs.LineCore.{StandsAt}
+use Rattle.tower_limit.specs.WaitQueue.{room, size, touches as queue_touches}
 use Rattle.tower_pool.specs.Mail.{At, Entry, Letter, Mail, MailSteps, blank}
 use Rattle.tower_pool.specs.declared.buffer.letter.Message.{Message}
 use Rattle.tower_pool.specs.declared.buffer.mail.MailStep.{MailStep}
@@ -36,14 +37,14 @@ module _ {Q F : Type 0} where
 module _ {Q F E : Type 0} where
   -- how many entries were reached so far, of those who wait and of the messages
   abbrev pub touches : Mailbox Q F E → ℕ
-  touches box = box.waiters.touches + box.letters.touches
+  touches box = queue_touches box.queue + box.letters.touches
 
   -- six at most for each message that left the queue
   abbrev pub FewEach : Mailbox Q F E → Mailbox Q F E → Type 0
   FewEach old new = touches new + 6 * length new.letters.order ≤ touches old + 6 * length old.letters.order
 
   -- `Take` reaches at most six entries for each message that leaves the queue, and any other step six, but where the worker is gone.
-  -- (`Fail` drops the waiters with their count, so that what it touched there before isn't seen.)
+  -- (`Fail` drops the queue with its count, so that what it touched there before isn't seen.)
   abbrev pub Few : Mailbox Q F E → MailStep Q F E → Mailbox Q F E → Type 0
   Few old Take new = FewEach old new
   Few old WorkerGone new = Unit {0}
@@ -64,7 +65,7 @@ module _ {Q F E : Type 0} where
 
   -- the line has the same who wait, and holds the reserved places and the queued messages
   abbrev pub HasLine : Mailbox Q F E → List Ticket → Type 0
-  HasLine box line = StandsAt box.bound (box.reserved + length box.letters.order) box.granted box.waiters line
+  HasLine box = StandsAt box.bound (box.reserved + length box.letters.order) box.queue
 
   -- the same messages have their ids, and all else is as in the box
   abbrev pub StandsFor : Mailbox Q F E → Mail Q F E → Type 0
@@ -88,5 +89,4 @@ module _ {Q F E : Type 0} where
 
   -- a further place may be asked for: there is room for its message and its key
   abbrev pub HasRoom : Mailbox Q F E → Type 0
-  HasRoom box = (slab_len box.letters.entries + box.reserved + slab_len box.waiters.entries < box.letters.entries.capacity)
-      × (slab_len box.waiters.entries < box.waiters.entries.capacity)
+  HasRoom box = (slab_len box.letters.entries + box.reserved + size box.queue < box.letters.entries.capacity) × (size box.queue < room box.queue)

@@ -2,45 +2,41 @@
 ghost use Rattle.std.specs.Prelude.{◌≡◌, ◌<◌, ◌≤◌, ◌+◌, ◌^◌, ℕ, unwrap_or, Some, None, [], true, false, length};
 ghost use Rattle.slab.specs.Slab.{get, slab_len, ContainsKey, Updates};
 ghost use Rattle.tower_base.specs.Order.{has, without, first_or};
-ghost use Rattle.tower_limit.specs.Waiters.{IsPresent, outside};
+ghost use Rattle.tower_limit.specs.WaitQueue.{granted, room, size, waiting};
 ghost use Rattle.tower_pool.specs.Letters.{Ended, FailsTaken, Fits, fate_at, is_cancelled, is_queued, lost, taken_at};
 ghost use Rattle.tower_pool.specs.Mail.{Tells};
-ghost use Rattle.tower_pool.specs.Waiting.{Admits, are_apart};
+ghost use Rattle.tower_pool.specs.Waiting.{are_apart};
 ghost use Rattle.tower_pool.specs.declared.buffer.letter.Message.{Message};
 
 use crate::buffer::letter::{Fate, Message};
 use crate::buffer::mail::{MailReply, MailStep};
 use std::alloc::{AllocError, Global};
 use tower_base::links::Links;
+use tower_limit::wait_queue::{Turn, WaitQueue};
 
 type Letters<Request, F> = Links<Message<Request, F>>;
 
-/// The messages that have their ids, which are their keys, and those who wait for places.
+/// The reserved places, the queue of those who wait for places, and the messages that have their ids, which
+/// are their keys.
 ///
-/// A queued message is linked in the order of sending, and any other stands outside that order. Who has no
-/// place is linked in the order of asking. Who was granted one, and hasn't seen it, stands outside that order.
-/// Each reserved place and each waiter has room for its message.
+/// A queued message is linked in the order of sending, and any other stands outside that order. Each reserved
+/// place and each waiter has room for its message.
 #[derive(Drop)]
 pub(crate) struct Mailbox<Request, F, E> {
     alloc: Global,
     bound: usize,
     reserved: usize,
-    granted: usize,
-    waiters: Links<()>,
+    queue: WaitQueue,
     letters: Letters<Request, F>,
     buffers: u64,
     stored: Option<E>,
     closed: bool,
     has_worker: bool,
     ghost limit: { bound < 2 ^ 64 },
-    ghost fits: { reserved + length letters.order + granted ≤ bound },
-    // Nobody waits in the order while a place is free.
-    ghost full: { 0 < length waiters.order → reserved + length letters.order + granted ≡ bound },
-    ghost apart: { are_apart waiters.order ≡ true },
-    ghost present: { IsPresent waiters },
-    ghost count: { length (outside waiters) ≡ granted },
-    ghost places: { slab_len waiters.entries ≡ granted + length waiters.order },
-    ghost room: { slab_len letters.entries + reserved + slab_len waiters.entries ≤ letters.entries.capacity },
+    ghost fits: { reserved + length letters.order + granted queue ≤ bound },
+    // Nobody waits without a place while one is free.
+    ghost full: { 0 < waiting queue → reserved + length letters.order + granted queue ≡ bound },
+    ghost room: { slab_len letters.entries + reserved + size queue ≤ letters.entries.capacity },
     ghost differ: { are_apart letters.order ≡ true },
     ghost linked: { (id : ℕ) → has letters.order id ≡ is_queued (get letters.entries id) },
     ghost sent: { (id : ℕ) (message : Message Request F) → get letters.entries id ≡ Some message → Fits stored message },
@@ -58,8 +54,7 @@ impl<Request, F, E> Mailbox<Request, F, E> {
             alloc,
             bound,
             reserved: 0,
-            granted: 0,
-            waiters: Links::new(alloc),
+            queue: WaitQueue::new(alloc),
             letters: Links::new(alloc),
             buffers: 1,
             stored: None,
@@ -92,9 +87,9 @@ impl<Request, F, E> Mailbox<Request, F, E> {
 
     // How many places are free.
     fn free(&self) -> usize
-        ensures { result + (self.now.reserved + length self.now.letters.order + self.now.granted) ≡ self.now.bound }
+        ensures { result + (self.now.reserved + length self.now.letters.order + granted self.now.queue) ≡ self.now.bound }
     {
-        self.bound - (self.reserved + self.letters.len() + self.granted)
+        self.bound - (self.reserved + self.letters.len() + self.queue.granted())
     }
 
     pub(crate) fn cancel(&mut self, key: u64) -> MailReply<Request, F, E>
@@ -104,16 +99,10 @@ impl<Request, F, E> Mailbox<Request, F, E> {
         if self.closed {
             return MailReply::Done;
         }
-        let waiting = self.waiters.len();
-        let Some(()) = self.waiters.remove(key as usize) else {
-            return MailReply::Unknown;
-        };
-        if self.waiters.len() < waiting {
+        if self.queue.leave(key) {
             return MailReply::Done;
         }
-        self.granted -= 1;
-        admit(&mut self.waiters, &mut self.granted);
-        MailReply::Done
+        MailReply::Unknown
     }
 
     pub(crate) fn unreserve(&mut self) -> MailReply<Request, F, E>
@@ -124,23 +113,23 @@ impl<Request, F, E> Mailbox<Request, F, E> {
             return MailReply::Unknown;
         }
         self.reserved -= 1;
-        admit(&mut self.waiters, &mut self.granted);
+        self.queue.admit();
         MailReply::Done
     }
 
     // Waits, where no place is free. There is room for its message.
     fn queue_up(&mut self) -> MailReply<Request, F, E>
         requires closed { self.old.closed ≡ false }
-        requires full { self.old.bound ≤ self.old.reserved + length self.old.letters.order + self.old.granted }
-        requires room { slab_len self.old.letters.entries + self.old.reserved + slab_len self.old.waiters.entries < self.old.letters.entries.capacity }
+        requires full { self.old.bound ≤ self.old.reserved + length self.old.letters.order + granted self.old.queue }
+        requires room { slab_len self.old.letters.entries + self.old.reserved + size self.old.queue < self.old.letters.entries.capacity }
         ensures follows { Follows self.old MailStep.Reserve result self.new }
-        ensures excused { result ≡ MailReply.Memory → self.old.waiters.entries.capacity ≤ slab_len self.old.waiters.entries }
+        ensures excused { result ≡ MailReply.Memory → room self.old.queue ≤ size self.old.queue }
         ensures touches { touches self.new ≤ touches self.old + 6 }
     {
-        let Ok(()) = self.waiters.reserve(1) else {
-            return MailReply::Memory;
-        };
-        MailReply::Waiting(self.waiters.push_back(()) as u64)
+        match self.queue.wait() {
+            Ok(key) => MailReply::Waiting(key),
+            Err(AllocError) => MailReply::Memory,
+        }
     }
 }
 
@@ -157,8 +146,9 @@ impl<Request: Drop, F, E: Clone> Mailbox<Request, F, E> {
         if self.closed {
             return shut(&self.stored);
         }
+        // No more messages are promised room than there is, so that their number fits in a `usize`.
         let _capacity = self.letters.capacity();
-        let promised = self.reserved + self.granted + self.waiters.len();
+        let promised = self.reserved + self.queue.granted() + self.queue.waiting();
         if promised == usize::MAX {
             return MailReply::Memory;
         }
@@ -180,15 +170,14 @@ impl<Request: Drop, F, E: Clone> Mailbox<Request, F, E> {
         if self.closed {
             return shut(&self.stored);
         }
-        if self.waiters.is_linked(key as usize) {
-            return MailReply::Waiting(key);
+        match self.queue.look(key) {
+            Turn::Granted => {
+                self.reserved += 1;
+                MailReply::Place
+            }
+            Turn::Waiting => MailReply::Waiting(key),
+            Turn::Unknown => MailReply::Unknown,
         }
-        let Some(()) = self.waiters.remove(key as usize) else {
-            return MailReply::Unknown;
-        };
-        self.granted -= 1;
-        self.reserved += 1;
-        MailReply::Place
     }
 
     pub(crate) fn send(&mut self, request: Request) -> MailReply<Request, F, E>
@@ -222,7 +211,7 @@ impl<Request: Drop, F, E: Clone> Mailbox<Request, F, E> {
             MailReply::Memory => MailReply::Memory,
             reply => {
                 self.reserved -= 1;
-                admit(&mut self.waiters, &mut self.granted);
+                self.queue.admit();
                 reply
             }
         }
@@ -271,7 +260,7 @@ impl<Request: Drop, F: Drop, E: Drop> Mailbox<Request, F, E> {
         ensures few { touches self.new ≤ touches self.old + 4 }
     {
         self.letters.remove(id);
-        admit(&mut self.waiters, &mut self.granted);
+        self.queue.admit();
     }
 
     // The oldest queued message, which somebody waits for.
@@ -283,7 +272,7 @@ impl<Request: Drop, F: Drop, E: Drop> Mailbox<Request, F, E> {
         ensures few { touches self.new ≤ touches self.old + 5 }
     {
         let request = open_first(&mut self.letters, id);
-        admit(&mut self.waiters, &mut self.granted);
+        self.queue.admit();
         MailReply::Message(id as u64, request)
     }
 
@@ -343,8 +332,7 @@ impl<Request: Drop, F: Drop, E: Drop> Mailbox<Request, F, E> {
         if !fail_taken(&mut self.letters, id as usize) {
             return MailReply::Unknown;
         }
-        self.waiters = Links::new(self.alloc);
-        self.granted = 0;
+        self.queue = WaitQueue::new(self.alloc);
         self.closed = true;
         keep_first(&mut self.stored, error);
         MailReply::Done
@@ -367,8 +355,7 @@ impl<Request: Drop, F: Drop, E: Drop> Mailbox<Request, F, E> {
         ensures { Follows self.old MailStep.WorkerGone result self.new }
     {
         abandon(&mut self.letters);
-        self.waiters = Links::new(self.alloc);
-        self.granted = 0;
+        self.queue = WaitQueue::new(self.alloc);
         self.closed = true;
         self.has_worker = false;
         MailReply::Done
@@ -437,18 +424,6 @@ fn shut<Request, F, E: Clone>(stored: &Option<E>) -> MailReply<Request, F, E>
             Ok(copy) => MailReply::Failed(copy),
             Err(AllocError) => MailReply::Memory,
         },
-    }
-}
-
-// A place is free: it is granted to the first in the order, if there is one.
-fn admit(waiters: &mut Links<()>, granted: &mut usize)
-    requires { granted.old + 1 < 2 ^ 64 }
-    ensures admits { Admits granted.old waiters.old granted.new waiters.new }
-    ensures touches { waiters.new.touches ≤ waiters.old.touches + 2 }
-{
-    if let Some(first) = waiters.front() {
-        waiters.unlink(first);
-        *granted += 1;
     }
 }
 

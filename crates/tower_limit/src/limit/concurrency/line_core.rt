@@ -1,12 +1,10 @@
 //! Who holds a permit, and who waits for one.
-ghost use Rattle.std.specs.Prelude.{◌≡◌, ◌<◌, ◌≤◌, ◌+◌, length};
-ghost use Rattle.slab.specs.Slab.{slab_len};
-ghost use Rattle.tower_base.specs.Order.{Apart};
-ghost use Rattle.tower_limit.specs.Waiters.{Apart-prop, IsPresent, outside};
+ghost use Rattle.std.specs.Prelude.{◌≡◌, ◌<◌, ◌≤◌, ◌+◌, ◌^◌};
+ghost use Rattle.tower_limit.specs.WaitQueue.{granted, waiting};
 
-use std::alloc::Global;
+use crate::wait_queue::{Turn, WaitQueue};
+use std::alloc::{AllocError, Global};
 use tower_base::latch::Core;
-use tower_base::links::Links;
 
 /// What may be asked of the line of permits.
 #[derive(Clone, Copy, Debug, PartialEq, Eq)]
@@ -40,23 +38,16 @@ pub enum LineReply {
     Memory,
 }
 
-/// The line of permits: the number of holders, and those who wait.
-///
-/// Who has no permit is linked in the order of asking. Who was granted one, and hasn't seen it, stands
-/// outside the order. No step searches.
+/// The line of permits: the number of holders, and the queue of those who wait.
 #[derive(Drop)]
 pub struct LineCore {
     max: usize,
     held: usize,
-    granted: usize,
-    waiters: Links<()>,
-    ghost fits: { held + granted ≤ max },
-    // Nobody waits in the order while a permit is free.
-    ghost full: { 0 < length waiters.order → held + granted ≡ max },
-    ghost apart: { Apart waiters.order } by { Apart-prop waiters.order },
-    ghost present: { IsPresent waiters },
-    ghost count: { length (outside waiters) ≡ granted },
-    ghost places: { slab_len waiters.entries ≡ granted + length waiters.order },
+    queue: WaitQueue,
+    ghost limit: { max < 2 ^ 64 },
+    ghost fits: { held + granted queue ≤ max },
+    // Nobody waits without a grant while a permit is free.
+    ghost full: { 0 < waiting queue → held + granted queue ≡ max },
 }
 
 impl LineCore {
@@ -70,8 +61,7 @@ impl LineCore {
         LineCore {
             max,
             held: 0,
-            granted: 0,
-            waiters: Links::new(alloc),
+            queue: WaitQueue::new(alloc),
         }
     }
 
@@ -79,48 +69,38 @@ impl LineCore {
     fn join(&mut self) -> LineReply
         ensures { Follows self.old LineStep.Join result self.new }
     {
-        if self.held + self.granted < self.max {
+        if self.held + self.queue.granted() < self.max {
             self.held += 1;
             return LineReply::Granted;
         }
-        let Ok(()) = self.waiters.reserve(1) else {
-            return LineReply::Memory;
-        };
-        LineReply::Waiting(self.waiters.push_back(()) as u64)
+        match self.queue.wait() {
+            Ok(key) => LineReply::Waiting(key),
+            Err(AllocError) => LineReply::Memory,
+        }
     }
 
     #[inline(never)]
     fn look(&mut self, key: u64) -> LineReply
         ensures { Follows self.old (LineStep.Look key) result self.new }
     {
-        if self.waiters.is_linked(key as usize) {
-            return LineReply::Waiting(key);
+        match self.queue.look(key) {
+            Turn::Granted => {
+                self.held += 1;
+                LineReply::Granted
+            }
+            Turn::Waiting => LineReply::Waiting(key),
+            Turn::Unknown => LineReply::Unknown,
         }
-        let Some(()) = self.waiters.remove(key as usize) else {
-            return LineReply::Unknown;
-        };
-        self.granted -= 1;
-        self.held += 1;
-        LineReply::Granted
     }
 
     #[inline(never)]
     fn cancel(&mut self, key: u64) -> LineReply
         ensures { Follows self.old (LineStep.Cancel key) result self.new }
     {
-        let waiting = self.waiters.len();
-        let Some(()) = self.waiters.remove(key as usize) else {
-            return LineReply::Unknown;
-        };
-        if self.waiters.len() < waiting {
+        if self.queue.leave(key) {
             return LineReply::Left;
         }
-        self.granted -= 1;
-        if let Some(next) = self.waiters.front() {
-            self.waiters.unlink(next);
-            self.granted += 1;
-        }
-        LineReply::Left
+        LineReply::Unknown
     }
 
     #[inline(always)]
@@ -131,17 +111,14 @@ impl LineCore {
             return LineReply::Unknown;
         }
         self.held -= 1;
-        if let Some(first) = self.waiters.front() {
-            self.waiters.unlink(first);
-            self.granted += 1;
-        }
+        self.queue.admit();
         LineReply::Left
     }
 
     fn free(&self) -> usize
         ensures { Follows self.now LineStep.Free (LineReply.Count result) self.now }
     {
-        self.max - (self.held + self.granted)
+        self.max - (self.held + self.queue.granted())
     }
 }
 

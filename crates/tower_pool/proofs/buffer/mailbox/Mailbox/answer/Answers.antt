@@ -5,7 +5,7 @@ use Rattle.tower_pool.specs.Mailbox.{known}
 use Rattle.tower_pool.specs.declared.buffer.letter.Fate.TheVariants.{Answered, Cancelled}
 use Rattle.tower_pool.specs.declared.buffer.letter.Message.{Message}
 use Rattle.tower_pool.proofs.Fates.{taken_cancelled, taken_open}
-use Rattle.tower_pool.proofs.LineMoves.{stands_as}
+use Rattle.tower_limit.proofs.LineMoves.{stands_as}
 use Rattle.tower_pool.proofs.Messages.{Sorted}
 use Rattle.tower_pool.proofs.Moves.{changed, gone, read, removed, resettled}
 use Rattle.tower_pool.proofs.buffer.mailbox.Mailbox.answer.Goals as goal
@@ -19,10 +19,6 @@ invariant_of-self g c =
       limit = old.limit;
       fits = omega (arith, old.fits, ap length c.taken.ensures.order);
       full = λ waits. omega (arith, old.full waits, ap length c.taken.ensures.order);
-      apart = old.apart;
-      present = old.present;
-      count = old.count;
-      places = old.places;
       room = omega (arith, old.room, ap slab_len c.taken.ensures.entries, ap (λ (e : Slab (Message _ _)). e.capacity) c.taken.ensures.entries);
       differ = now.differ;
       linked = now.linked;
@@ -41,10 +37,6 @@ invariant_of-self-then-open g c =
       limit = old.limit;
       fits = omega (arith, old.fits, d.size);
       full = λ waits. omega (arith, old.full waits, d.size);
-      apart = old.apart;
-      present = old.present;
-      count = old.count;
-      places = old.places;
       room = omega (arith, old.room, d.len, d.capacity);
       differ = d.sorted.differ;
       linked = d.sorted.linked;
@@ -64,7 +56,7 @@ returns-then-open-clause-follows g c = λ messages line h s.
       line,
       (r.place, known c.args.id t.message, (r.at, refl, t.out), t.fate_is, refl),
       r.holds,
-      stands_as old.bound (old.reserved + length old.letters.order) (old.reserved + length c.settle.new.letters.order) old.granted old.waiters line (omega (arith, d.size)) s,
+      stands_as old.bound (old.reserved + length old.letters.order) (old.reserved + length c.settle.new.letters.order) old.queue line (omega (arith, d.size)) s,
     )
 
 pub invariant_of-self-2 : goal.invariant_of-self-2
@@ -78,10 +70,6 @@ invariant_of-self-2 g c =
       limit = old.limit;
       fits = omega (arith, old.fits, d.size);
       full = λ waits. omega (arith, old.full waits, d.size);
-      apart = old.apart;
-      present = old.present;
-      count = old.count;
-      places = old.places;
       room = omega (arith, old.room, d.len, d.capacity);
       differ = d.sorted.differ;
       linked = d.sorted.linked;
@@ -100,5 +88,5 @@ returns-clause-follows g c = λ messages line h s.
       line,
       (r.place, known c.args.id t.message, (r.at, refl, t.out), t.fate_is, refl, refl),
       r.holds Cancelled,
-      stands_as old.bound (old.reserved + length old.letters.order) (old.reserved + length c.remove.new.self.order) old.granted old.waiters line (omega (arith, d.size)) s,
+      stands_as old.bound (old.reserved + length old.letters.order) (old.reserved + length c.remove.new.self.order) old.queue line (omega (arith, d.size)) s,
     )

@@ -1,7 +1,9 @@
 use Rattle.std.proofs.Common.{◌+◌, is_some, length, refl, ap, arith}
 use Rattle.tower_pool.specs.Mail.{holding}
-use Rattle.tower_pool.proofs.LineMoves.{kept_apart, kept_count, kept_present, nobody_waits, stands_alone}
-use Rattle.tower_pool.proofs.Lines.{closes}
+use Rattle.tower_limit.specs.Turns.{empty}
+use Rattle.tower_limit.proofs.LineMoves.{empty_fits}
+use Rattle.tower_limit.proofs.WaitQueues.{empty_sizes}
+use Rattle.tower_pool.proofs.Closing.{closes}
 use Rattle.tower_pool.proofs.Messages.{Sorted}
 use Rattle.tower_pool.proofs.Moves.{finished, read, sorted_finished}
 use Rattle.tower_pool.proofs.buffer.mailbox.Mailbox.fail.Goals as goal
@@ -16,10 +18,6 @@ invariant_of-self g c =
       limit = old.limit;
       fits = omega (arith, old.fits, ap length same.0);
       full = λ waits. omega (arith, old.full waits, ap length same.0);
-      apart = old.apart;
-      present = old.present;
-      count = old.count;
-      places = old.places;
       room = omega (arith, old.room, c.fail_taken.ensures.len, c.fail_taken.ensures.capacity);
       differ = now.differ;
       linked = now.linked;
@@ -32,16 +30,13 @@ invariant_of-self-2 g c =
     let was : Sorted old.stored old.letters = record { differ = old.differ; linked = old.linked; sent = old.sent } in
     let f = c.if-not-fail_taken.ensures.fails refl in
     let now = sorted_finished old.stored c.keep_first.new.stored old.letters c.fail_taken.new.letters c.args.id (ap is_some c.keep_first.ensures) was f in
-    let w = nobody_waits old.bound (old.reserved + length c.fail_taken.new.letters.order) c.new.result (omega (arith, old.fits, now.1)) c.new.ensures.order c.new.ensures.entries in
+    let w = empty_fits old.bound (old.reserved + length c.fail_taken.new.letters.order) c.new.result (omega (arith, old.fits, now.1)) c.new.ensures.stands in
+    let none = empty_sizes c.new.result c.new.ensures.stands in
     record {
       limit = old.limit;
       fits = w.fits;
       full = w.full;
-      apart = kept_apart 0 c.new.result w.kept;
-      present = kept_present 0 c.new.result w.kept;
-      count = kept_count 0 c.new.result w.kept;
-      places = w.places;
-      room = omega (arith, old.room, c.fail_taken.ensures.len, c.fail_taken.ensures.capacity, w.places, ap length c.new.ensures.order);
+      room = omega (arith, old.room, c.fail_taken.ensures.len, c.fail_taken.ensures.capacity, none.0, none.1);
       differ = now.0.differ;
       linked = now.0.linked;
       sent = now.0.sent;
@@ -54,10 +49,10 @@ returns-clause-follows g c = λ messages line h s.
     let f = c.if-not-fail_taken.ensures.fails refl in
     let now = sorted_finished old.stored c.keep_first.new.stored old.letters c.fail_taken.new.letters c.args.id (ap is_some c.keep_first.ensures) was f in
     let r = finished messages old.letters c.fail_taken.new.letters c.args.id h (old.linked c.args.id) f in
-    let shut = closes _ _ _ line s.3 in (
+    let shut = closes _ _ _ line s.2 in (
       r.left,
       holding line,
       (r.settles, rw c.keep_first.ensures refl),
       r.holds,
-      stands_alone old.bound (old.reserved + length c.fail_taken.new.letters.order) c.new.result (holding line) c.new.ensures.order c.new.ensures.entries (omega (arith, shut.0, now.1), shut.1, shut.2),
+      (empty, c.new.ensures.stands, (omega (arith, shut.0, now.1), shut.1, shut.2)),
     )

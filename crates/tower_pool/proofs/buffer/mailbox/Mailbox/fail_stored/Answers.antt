@@ -1,5 +1,5 @@
 use Rattle.std.proofs.Common.{◌≡◌, ◌+◌, ◌∙◌, true, is_some, length, not, refl, ap, arith}
-use Rattle.tower_pool.proofs.LineMoves.{stands_as}
+use Rattle.tower_limit.proofs.LineMoves.{stands_as}
 use Rattle.tower_pool.proofs.Messages.{Sorted}
 use Rattle.tower_pool.proofs.Moves.{finished, sorted_either, sorted_finished}
 use Rattle.tower_pool.proofs.buffer.mailbox.Mailbox.fail_stored.Goals as goal
@@ -14,10 +14,6 @@ invariant_of-self g c =
       limit = old.limit;
       fits = omega (arith, old.fits, now.1);
       full = λ waits. omega (arith, old.full waits, now.1);
-      apart = old.apart;
-      present = old.present;
-      count = old.count;
-      places = old.places;
       room = omega (arith, old.room, c.fail_taken.ensures.len, c.fail_taken.ensures.capacity);
       differ = now.0.differ;
       linked = now.0.linked;
@@ -36,5 +32,5 @@ returns-clause-follows g c = λ messages line h s.
       line,
       (some, r.settles, refl),
       r.holds,
-      stands_as old.bound (old.reserved + length old.letters.order) (old.reserved + length c.fail_taken.new.letters.order) old.granted old.waiters line (omega (arith, now.1)) s,
+      stands_as old.bound (old.reserved + length old.letters.order) (old.reserved + length c.fail_taken.new.letters.order) old.queue line (omega (arith, now.1)) s,
     )

@@ -6,7 +6,7 @@ use Rattle.tower_pool.specs.Mailbox.{known}
 use Rattle.tower_pool.specs.declared.buffer.letter.Fate.TheVariants.{Cancelled, Open}
 use Rattle.tower_pool.specs.declared.buffer.letter.Message.{Message}
 use Rattle.tower_pool.proofs.Fates.{bare_open, fate_some, settled}
-use Rattle.tower_pool.proofs.LineMoves.{stands_as}
+use Rattle.tower_limit.proofs.LineMoves.{stands_as}
 use Rattle.tower_pool.proofs.Messages.{Sorted}
 use Rattle.tower_pool.proofs.Moves.{changed, gone, read, removed, resettled}
 use Rattle.tower_pool.proofs.buffer.mailbox.Mailbox.give_up.Goals as goal
@@ -20,10 +20,6 @@ invariant_of-self g c =
       limit = old.limit;
       fits = omega (arith, old.fits, ap length c.fate_of.ensures.order);
       full = λ waits. omega (arith, old.full waits, ap length c.fate_of.ensures.order);
-      apart = old.apart;
-      present = old.present;
-      count = old.count;
-      places = old.places;
       room = omega (arith, old.room, ap slab_len c.fate_of.ensures.entries, ap (λ (e : Slab (Message _ _)). e.capacity) c.fate_of.ensures.entries);
       differ = now.differ;
       linked = now.linked;
@@ -39,10 +35,6 @@ invariant_of-self-in-Cancelled g c =
       limit = old.limit;
       fits = omega (arith, old.fits, ap length c.fate_of.ensures.order);
       full = λ waits. omega (arith, old.full waits, ap length c.fate_of.ensures.order);
-      apart = old.apart;
-      present = old.present;
-      count = old.count;
-      places = old.places;
       room = omega (arith, old.room, ap slab_len c.fate_of.ensures.entries, ap (λ (e : Slab (Message _ _)). e.capacity) c.fate_of.ensures.entries);
       differ = now.differ;
       linked = now.linked;
@@ -63,10 +55,6 @@ invariant_of-self-in-Open g c =
       limit = old.limit;
       fits = omega (arith, old.fits, d.size);
       full = λ waits. omega (arith, old.full waits, d.size);
-      apart = old.apart;
-      present = old.present;
-      count = old.count;
-      places = old.places;
       room = omega (arith, old.room, d.len, d.capacity);
       differ = d.sorted.differ;
       linked = d.sorted.linked;
@@ -88,10 +76,6 @@ invariant_of-self-in_default-fate g c =
       limit = old.limit;
       fits = omega (arith, old.fits, d.size);
       full = λ waits. omega (arith, old.full waits, d.size);
-      apart = old.apart;
-      present = old.present;
-      count = old.count;
-      places = old.places;
       room = omega (arith, old.room, d.len, d.capacity);
       differ = d.sorted.differ;
       linked = d.sorted.linked;
@@ -113,7 +97,7 @@ returns-in-Open-clause-follows g c = λ messages line h s.
       line,
       (r.place, known c.args.id m, r.at, refl, inl (fate, refl)),
       r.holds,
-      stands_as old.bound (old.reserved + length old.letters.order) (old.reserved + length c.settle.new.letters.order) old.granted old.waiters line (omega (arith, d.size)) s,
+      stands_as old.bound (old.reserved + length old.letters.order) (old.reserved + length c.settle.new.letters.order) old.queue line (omega (arith, d.size)) s,
     )
 
 pub returns-in_default-fate-clause-follows : goal.returns-in_default-fate-clause-follows
@@ -132,5 +116,5 @@ returns-in_default-fate-clause-follows g c = λ messages line h s.
       line,
       (r.place, known c.args.id m, r.at, refl, inr (unopened, awaited, refl)),
       r.holds m.fate,
-      stands_as old.bound (old.reserved + length old.letters.order) (old.reserved + length c.remove.new.self.order) old.granted old.waiters line (omega (arith, d.size)) s,
+      stands_as old.bound (old.reserved + length old.letters.order) (old.reserved + length c.remove.new.self.order) old.queue line (omega (arith, d.size)) s,
     )

@@ -3,7 +3,7 @@ use Rattle.tower_pool.specs.Mail.{Entry}
 use Rattle.tower_pool.specs.Mailbox.{known}
 use Rattle.tower_pool.specs.declared.buffer.letter.Message.{Message}
 use Rattle.tower_pool.proofs.Fates.{ended_lost, ended_settled, some_is}
-use Rattle.tower_pool.proofs.LineMoves.{stands_as}
+use Rattle.tower_limit.proofs.LineMoves.{stands_as}
 use Rattle.tower_pool.proofs.Messages.{Sorted}
 use Rattle.tower_pool.proofs.Moves.{gone, removed}
 use Rattle.tower_pool.proofs.buffer.mailbox.Mailbox.hand_out.Goals as goal
@@ -21,10 +21,6 @@ invariant_of-self g c =
       limit = old.limit;
       fits = omega (arith, old.fits, d.size);
       full = λ waits. omega (arith, old.full waits, d.size);
-      apart = old.apart;
-      present = old.present;
-      count = old.count;
-      places = old.places;
       room = omega (arith, old.room, d.len, d.capacity);
       differ = d.sorted.differ;
       linked = d.sorted.linked;
@@ -47,7 +43,7 @@ returns-in-Answered-clause-follows g c = λ messages line h s.
       line,
       (r.place, known c.args.id m, r.at, refl, sym same ∙ c.in-Answered.is, refl),
       r.holds m.fate,
-      stands_as old.bound (old.reserved + length old.letters.order) (old.reserved + length c.remove.new.self.order) old.granted old.waiters line (omega (arith, d.size)) s,
+      stands_as old.bound (old.reserved + length old.letters.order) (old.reserved + length c.remove.new.self.order) old.queue line (omega (arith, d.size)) s,
     )
 
 pub returns-in_default-fate-clause-follows : goal.returns-in_default-fate-clause-follows
@@ -66,5 +62,5 @@ returns-in_default-fate-clause-follows g c = λ messages line h s.
       line,
       (r.place, known c.args.id m, r.at, refl, ended_lost m.fate c.requires.ended.2 (λ future e. c.in_default-fate.not-Answered future (same ∙ e)), refl),
       r.holds m.fate,
-      stands_as old.bound (old.reserved + length old.letters.order) (old.reserved + length c.remove.new.self.order) old.granted old.waiters line (omega (arith, d.size)) s,
+      stands_as old.bound (old.reserved + length old.letters.order) (old.reserved + length c.remove.new.self.order) old.queue line (omega (arith, d.size)) s,
     )

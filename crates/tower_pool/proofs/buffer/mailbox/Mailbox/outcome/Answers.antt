@@ -4,7 +4,7 @@ use Rattle.tower_pool.specs.Letters.{bare}
 use Rattle.tower_pool.specs.declared.buffer.letter.Fate.TheVariants.{Cancelled, Failed, Open}
 use Rattle.tower_pool.specs.declared.buffer.letter.Message.{Message}
 use Rattle.tower_pool.proofs.Fates.{bare_failed, ended, fate_some}
-use Rattle.tower_pool.proofs.LineMoves.{stands_as}
+use Rattle.tower_limit.proofs.LineMoves.{stands_as}
 use Rattle.tower_pool.proofs.Messages.{Sorted, holds_as}
 use Rattle.tower_pool.proofs.Moves.{read}
 use Rattle.tower_pool.proofs.buffer.mailbox.Mailbox.outcome.Goals as goal
@@ -18,10 +18,6 @@ invariant_of-self g c =
       limit = old.limit;
       fits = omega (arith, old.fits, ap length c.fate_of.ensures.order);
       full = λ waits. omega (arith, old.full waits, ap length c.fate_of.ensures.order);
-      apart = old.apart;
-      present = old.present;
-      count = old.count;
-      places = old.places;
       room = omega (arith, old.room, ap slab_len c.fate_of.ensures.entries, ap (λ (e : Slab (Message _ _)). e.capacity) c.fate_of.ensures.entries);
       differ = now.differ;
       linked = now.linked;
@@ -51,7 +47,7 @@ returns-in-Failed-clause-follows g c = λ messages line h s.
     let mid = c.fate_of.new.letters in
     let size : length mid.order ≡ length old.letters.order = ap length c.fate_of.ensures.order in
     c.tell_failure.ensures.follows messages line (holds_as old.letters mid messages c.fate_of.ensures.order (λ id. ap (λ e. get e id) c.fate_of.ensures.entries) h)
-    (stands_as old.bound (old.reserved + length old.letters.order) (old.reserved + length mid.order) old.granted old.waiters line (omega (arith, size)) s)
+    (stands_as old.bound (old.reserved + length old.letters.order) (old.reserved + length mid.order) old.queue line (omega (arith, size)) s)
 
 pub returns-in_default-fate-clause-follows : goal.returns-in_default-fate-clause-follows
 returns-in_default-fate-clause-follows g c = λ messages line h s.
@@ -59,4 +55,4 @@ returns-in_default-fate-clause-follows g c = λ messages line h s.
     let mid = c.fate_of.new.letters in
     let size : length mid.order ≡ length old.letters.order = ap length c.fate_of.ensures.order in
     c.hand_out.ensures.follows messages line (holds_as old.letters mid messages c.fate_of.ensures.order (λ id. ap (λ e. get e id) c.fate_of.ensures.entries) h)
-    (stands_as old.bound (old.reserved + length old.letters.order) (old.reserved + length mid.order) old.granted old.waiters line (omega (arith, size)) s)
+    (stands_as old.bound (old.reserved + length old.letters.order) (old.reserved + length mid.order) old.queue line (omega (arith, size)) s)

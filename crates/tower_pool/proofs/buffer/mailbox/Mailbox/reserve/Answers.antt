@@ -1,6 +1,6 @@
 use Rattle.std.proofs.Common.{◌≡◌, ◌+◌, length, refl, ap, arith}
 use Rattle.slab.specs.Slab.{get, slab_len}
-use Rattle.tower_pool.proofs.LineMoves.{free_permit, stands_as}
+use Rattle.tower_limit.proofs.LineMoves.{joins, stands_as}
 use Rattle.tower_pool.proofs.Messages.{Sorted, holds_as, sorted_as}
 use Rattle.tower_pool.proofs.buffer.mailbox.Mailbox.reserve.Goals as goal
 
@@ -14,10 +14,6 @@ invariant_of-self g c =
       limit = old.limit;
       fits = omega (arith, old.fits, size);
       full = λ waits. omega (arith, old.full waits, size);
-      apart = old.apart;
-      present = old.present;
-      count = old.count;
-      places = old.places;
       room = omega (arith, old.room, ap slab_len c.reserve.ensures.rest_kept, c.reserve.ensures.capacity);
       differ = now.differ;
       linked = now.linked;
@@ -29,10 +25,10 @@ returns-then-free-gt0-clause-follows g c = λ messages line h s.
     let old = c.args.self.now in
     let now = c.reserve.new.self in
     let size : length now.order ≡ length old.letters.order = ap length c.reserve.ensures.order in
-    let r = free_permit old.bound (old.reserved + length old.letters.order) old.granted old.waiters line s (omega (arith, c.free.ensures, c.if-free-gt0.true, size)) old.full in (
+    let r = joins old.bound (old.reserved + length old.letters.order) old.queue line s (omega (arith, c.free.ensures, c.if-free-gt0.true, size)) old.full in (
       messages,
       r.0,
       (c.if-self.false, r.1, refl),
       holds_as old.letters now messages c.reserve.ensures.order (λ id. ap (λ e. get e id) c.reserve.ensures.rest_kept) h,
-      stands_as old.bound (old.reserved + length old.letters.order + 1) (old.reserved + 1 + length now.order) old.granted old.waiters r.0 (omega (arith, size)) r.2,
+      stands_as old.bound (old.reserved + length old.letters.order + 1) (old.reserved + 1 + length now.order) old.queue r.0 (omega (arith, size)) r.2,
     )

@@ -2,7 +2,7 @@ use Rattle.std.proofs.Common.{◌≡◌, ◌<◌, ◌-◌, ◌+◌, ◌++◌, �
 use Rattle.tower_pool.specs.Mail.{Entry}
 use Rattle.tower_pool.specs.declared.buffer.letter.Fate.TheVariants.{Open}
 use Rattle.tower_pool.proofs.Fates.{not_none}
-use Rattle.tower_pool.proofs.LineMoves.{stands_as}
+use Rattle.tower_limit.proofs.LineMoves.{stands_as}
 use Rattle.tower_pool.proofs.Messages.{Sorted, holds_pushed, none_with, sorted_pushed}
 use Rattle.tower_pool.proofs.buffer.mailbox.Mailbox.send.Goals as goal
 
@@ -16,7 +16,7 @@ returns-clause-follows g c = λ messages line h s.
       line,
       (some, c.if-not-self.false, none_with old.letters messages id (λ letter. Unit {0}) h (λ letter there _. not_none _ (sym there ∙ c.push_back-id.ensures.was_vacant)), refl),
       holds_pushed old.letters c.push_back-id.new.self messages h id c.args.request c.push_back-id.ensures.was_vacant c.push_back-id.ensures.entries c.push_back-id.ensures.order,
-      stands_as old.bound (old.reserved + length old.letters.order) (old.reserved - 1 + length c.push_back-id.new.self.order) old.granted old.waiters line more s,
+      stands_as old.bound (old.reserved + length old.letters.order) (old.reserved - 1 + length c.push_back-id.new.self.order) old.queue line more s,
     )
 
 pub invariant_of-self : goal.invariant_of-self
@@ -31,10 +31,6 @@ invariant_of-self g c =
       limit = old.limit;
       fits = omega (arith, old.fits, some, more);
       full = λ waits. omega (arith, old.full waits, some, more);
-      apart = old.apart;
-      present = old.present;
-      count = old.count;
-      places = old.places;
       room = omega (arith, old.room, some, c.push_back-id.ensures.len, c.push_back-id.ensures.capacity);
       differ = now.differ;
       linked = now.linked;

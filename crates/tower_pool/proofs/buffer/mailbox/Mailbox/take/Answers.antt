@@ -7,7 +7,8 @@ use Rattle.tower_pool.specs.Mailbox.{Follows}
 use Rattle.tower_pool.specs.declared.buffer.mail.MailStep.TheVariants.{Take}
 use Rattle.tower_pool.specs.declared.buffer.mail.MailReply.{MailReply}
 use Rattle.tower_pool.proofs.Fates.{cancelled_is, open_queued, still_unsettled}
-use Rattle.tower_pool.proofs.LineMoves.{none_is, stands_as}
+use Rattle.tower_limit.proofs.LineMoves.{stands_as}
+use Rattle.tower_limit.proofs.WaitQueues.{none_is}
 use Rattle.tower_pool.proofs.Messages.{Sorted, holds_as, none_queued}
 use Rattle.tower_pool.proofs.Moves.{cleared_none, cleared_some, first_has, read}
 use Rattle.tower_pool.proofs.buffer.mailbox.Mailbox.take.Goals as goal
@@ -22,10 +23,6 @@ invariant_of-self g c =
       limit = old.limit;
       fits = omega (arith, old.fits, size);
       full = λ waits. omega (arith, old.full waits, size);
-      apart = old.apart;
-      present = old.present;
-      count = old.count;
-      places = old.places;
       room = omega (arith, old.room, ap slab_len c.is_cancelled_at.ensures.entries, ap (λ (e : Slab _). e.capacity) c.is_cancelled_at.ensures.entries);
       differ = now.differ;
       linked = now.linked;
@@ -55,7 +52,7 @@ clearing-preserved g c =
       λ messages line h s.
           let r = c.clearing.invariant.1 messages line h s in
           let q = c.clear_first.ensures.clears r.0 r.1 (holds_as old.letters mid r.0 c.is_cancelled_at.ensures.order (λ id. ap (λ e. get e id) c.is_cancelled_at.ensures.entries) r.3)
-          (stands_as old.bound (old.reserved + length old.letters.order) (old.reserved + length mid.order) old.granted old.waiters r.1 (omega (arith, size)) r.4) in
+          (stands_as old.bound (old.reserved + length old.letters.order) (old.reserved + length mid.order) old.queue r.1 (omega (arith, size)) r.4) in
           (q.0, q.1, (_, r.2, q.2), q.3, q.4),
       sym (lt-ltb 0 (suc c.clearing.invariant.0) (omega arith)),
       omega (arith, c.clearing.invariant.3, c.clear_first.ensures.few, c.clear_first.ensures.fewer, c.is_cancelled_at.ensures.touches, size),
@@ -71,7 +68,7 @@ returns-then-not-is_cancelled_at-clause-follows g c =
     subst (λ (reply : MailReply _ _ _). Follows fn Take reply c.take_first.new.self) (sym taken.1) (λ messages line h s.
     let r = c.clearing.invariant.1 messages line h s in
     let q = taken.2 r.0 r.1 (holds_as old.letters mid r.0 c.is_cancelled_at.ensures.order (λ id. ap (λ e. get e id) c.is_cancelled_at.ensures.entries) r.3)
-    (stands_as old.bound (old.reserved + length old.letters.order) (old.reserved + length mid.order) old.granted old.waiters r.1 (omega (arith, size)) r.4) in
+    (stands_as old.bound (old.reserved + length old.letters.order) (old.reserved + length mid.order) old.queue r.1 (omega (arith, size)) r.4) in
     (q.0, q.1, (c.clearing.invariant.0, _, r.2, q.2), q.3, q.4))
 
 pub returns-then-cleared-clause-follows : goal.returns-then-cleared-clause-follows

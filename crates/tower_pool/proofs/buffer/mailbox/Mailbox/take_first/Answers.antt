@@ -5,7 +5,8 @@ use Rattle.tower_pool.specs.Mailbox.{kept}
 use Rattle.tower_pool.specs.declared.buffer.letter.Fate.TheVariants.{Open}
 use Rattle.tower_pool.specs.declared.buffer.letter.Message.{Message}
 use Rattle.tower_pool.proofs.Fates.{some_is}
-use Rattle.tower_pool.proofs.LineMoves.{admits_size, admits_stands, admits_well, kept_apart, kept_count, kept_from, kept_present, returned, stands_as}
+use Rattle.tower_limit.proofs.LineMoves.{admits, admits_fits, returned, stands_as}
+use Rattle.tower_limit.proofs.WaitQueues.{admits_size}
 use Rattle.tower_pool.proofs.Messages.{Sorted, sorted_left}
 use Rattle.tower_pool.proofs.Moves.{first, one_fits, one_less}
 use Rattle.tower_pool.proofs.buffer.mailbox.Mailbox.take_first.Goals as goal
@@ -20,9 +21,8 @@ invariant_of-self g c =
     let old = c.args.self.now in
     let was : Sorted old.stored old.letters = record { differ = old.differ; linked = old.linked; sent = old.sent } in
     let less : length c.open_first-request.new.letters.order + 1 ≡ length old.letters.order = omega (arith, one_less old.letters.order c.args.id old.differ c.requires.oldest, ap length c.open_first-request.ensures.order) in
-    let w = admits_well old.bound (old.reserved + length c.open_first-request.new.letters.order) old.granted c.admit.new.granted old.waiters c.admit.new.waiters c.admit.ensures.admits
-    (omega (arith, old.fits, less)) (λ waits. omega (arith, old.full waits, less)) (kept_from old.granted old.waiters old.apart old.present old.count) old.places in
-    let same = admits_size old.bound 0 old.granted c.admit.new.granted old.waiters c.admit.new.waiters c.admit.ensures.admits in
+    let w = admits_fits old.bound (old.reserved + length c.open_first-request.new.letters.order) old.queue c.admit.new.self (record { fits = omega (arith, old.fits, less); full = λ waits. omega (arith, old.full waits, less) }) c.admit.ensures.follows in
+    let same = admits_size old.queue c.admit.new.self c.admit.ensures.follows in
     let left : Message _ _ = record { request = None; fate = Open } in
     let now = sorted_left old.stored old.letters c.open_first-request.new.letters was c.args.id (Some left) c.open_first-request.ensures.entries c.open_first-request.ensures.order refl
     (one_fits old.stored left ((λ failed. absurd (cc)), (λ settled. refl))) in
@@ -30,10 +30,6 @@ invariant_of-self g c =
       limit = old.limit;
       fits = w.fits;
       full = w.full;
-      apart = kept_apart c.admit.new.granted c.admit.new.waiters w.kept;
-      present = kept_present c.admit.new.granted c.admit.new.waiters w.kept;
-      count = kept_count c.admit.new.granted c.admit.new.waiters w.kept;
-      places = w.places;
       room = omega (arith, old.room, same, c.open_first-request.ensures.len, c.open_first-request.ensures.capacity);
       differ = now.differ;
       linked = now.linked;
@@ -51,12 +47,13 @@ returns-clause-takes g c = (
       let f = first messages old.letters c.args.id old.stored h was c.requires.oldest in
       let same : kept f.letter ≡ record { request = Some c.open_first-request.result; fate = Open } = some_is _ _ (sym f.there ∙ c.open_first-request.ensures.request) in
       let waited : f.letter.fate ≡ Open = ap (λ (m : Message _ _). m.fate) same in
-      let r = returned old.bound (old.reserved + length old.letters.order) old.granted old.waiters line s (omega (arith, less)) in (
+      let r = returned old.bound (old.reserved + length old.letters.order) old.queue line s (omega (arith, less)) in (
         slice_set messages f.place (Entry.here (record f.letter { request = None })),
         r.0,
         (f.place, f.letter, (f.oldest.0, ap (λ (m : Message _ _). m.request) same, f.oldest.2), waited, f.is, r.1, refl),
         f.opened c.open_first-request.new.letters (subst (λ fate. Updates old.letters.entries c.open_first-request.new.letters.entries c.args.id (Some (record { request = None; fate = fate }))) (sym waited) c.open_first-request.ensures.entries) c.open_first-request.ensures.order,
-        admits_stands old.bound (old.reserved + length c.open_first-request.new.letters.order) old.granted c.admit.new.granted old.waiters c.admit.new.waiters c.admit.ensures.admits r.0
-            (stands_as old.bound (old.reserved + length old.letters.order - 1) (old.reserved + length c.open_first-request.new.letters.order) old.granted old.waiters r.0 (omega (arith, less)) r.2),
+        admits old.bound (old.reserved + length c.open_first-request.new.letters.order) old.queue r.0
+            (stands_as old.bound (old.reserved + length old.letters.order - 1) (old.reserved + length c.open_first-request.new.letters.order) old.queue r.0 (omega (arith, less)) r.2)
+            c.admit.new.self c.admit.ensures.follows,
       ),
 )

@@ -2,7 +2,7 @@ use Rattle.std.proofs.Common.{◌+◌, length, slice_set, refl, ap, arith}
 use Rattle.tower_pool.specs.Letters.{is_failed, is_unsettled}
 use Rattle.tower_pool.specs.Mail.{Entry}
 use Rattle.tower_pool.specs.Mailbox.{known}
-use Rattle.tower_pool.proofs.LineMoves.{stands_as}
+use Rattle.tower_limit.proofs.LineMoves.{stands_as}
 use Rattle.tower_pool.proofs.Messages.{Sorted}
 use Rattle.tower_pool.proofs.Moves.{gone, removed}
 use Rattle.tower_pool.proofs.Replies.{told_failure}
@@ -21,10 +21,6 @@ invariant_of-self g c =
       limit = old.limit;
       fits = omega (arith, old.fits, d.size);
       full = λ waits. omega (arith, old.full waits, d.size);
-      apart = old.apart;
-      present = old.present;
-      count = old.count;
-      places = old.places;
       room = omega (arith, old.room, d.len, d.capacity);
       differ = d.sorted.differ;
       linked = d.sorted.linked;
@@ -46,5 +42,5 @@ returns-in_default-clause-follows g c = λ messages line h s.
       line,
       told_failure _ c.args.id _ r.place (known c.args.id m) r.at refl c.requires.failed.2 some c.shut.ensures c.in_default.not-Memory,
       r.holds m.fate,
-      stands_as old.bound (old.reserved + length old.letters.order) (old.reserved + length c.remove.new.self.order) old.granted old.waiters line (omega (arith, d.size)) s,
+      stands_as old.bound (old.reserved + length old.letters.order) (old.reserved + length c.remove.new.self.order) old.queue line (omega (arith, d.size)) s,
     )

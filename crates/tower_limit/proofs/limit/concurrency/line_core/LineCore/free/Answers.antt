@@ -5,7 +5,7 @@ use Rattle.tower_limit.proofs.limit.concurrency.line_core.LineCore.free.Goals as
 pub returns : goal.returns
 returns c = record {
   same = refl;
-  goes = λ line s. (line, counts _ _ _ _ line s _ refl c.args.self.now.full, s);
+  goes = λ line s. (line, counts c.args.self.now.max c.args.self.now.held c.args.self.now.queue line s _ (omega (arith, c.granted.ensures)) c.args.self.now.full, s);
   excused = tt;
   room = omega arith;
   few = omega arith;
