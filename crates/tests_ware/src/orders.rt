@@ -2,7 +2,7 @@
 //! readiness never fails.
 ghost use Rattle.std.specs.Prelude.{◌≡◌, IfSome, IsSomeAnd, None, Some, false};
 ghost use Rattle.std.specs.List.Sorted.{IsPermutation};
-ghost use Rattle.tower_ware.specs.Order.{CameOf, IsCalm, NeverFails, answers_of};
+ghost use Rattle.tower_ware.specs.CallOrder.{CameOf, IsCalm, NeverFails, answers_of};
 ghost use Rattle.tower_ware.specs.Queue.{Empty};
 
 use futures::future::{Future, Ready, ready};

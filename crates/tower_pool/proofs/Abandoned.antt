@@ -5,13 +5,13 @@ use Rattle.std.proofs.lemmas.Bool.{cases_order}
 use Rattle.slab.specs.Slab.{Updates, get, slab_len}
 use Rattle.tower_base.specs.Links.{LinksView}
 use Rattle.tower_base.specs.Order.{has, without}
-use Rattle.tower_pool.specs.Letters.{Fits, is_queued, is_unsettled, lost, lost_by}
-use Rattle.tower_pool.specs.Mail.{At, Entry, Letter, abandoned, left_by, queued}
+use Rattle.tower_pool.specs.Messages.{Fits, is_queued, is_unsettled, lost, lost_by}
+use Rattle.tower_pool.specs.Mail.{At, Entry, SentMessage, abandoned, left_by, queued}
 use Rattle.tower_pool.specs.Mailbox.{Holds, kept, known, queue}
 use Rattle.tower_pool.specs.Waiting.{are_apart}
-use Rattle.tower_pool.specs.declared.buffer.letter.Fate.{Fate}
-use Rattle.tower_pool.specs.declared.buffer.letter.Fate.TheVariants.{Open, Answered, Failed, Cancelled, Lost}
-use Rattle.tower_pool.specs.declared.buffer.letter.Message.{Message}
+use Rattle.tower_pool.specs.declared.buffer.message.Fate.{Fate}
+use Rattle.tower_pool.specs.declared.buffer.message.Fate.TheVariants.{Open, Answered, Failed, Cancelled, Lost}
+use Rattle.tower_pool.specs.declared.buffer.message.Message.{Message}
 use Rattle.tower_pool.proofs.Fates.{some_is}
 use Rattle.tower_limit.proofs.KeysLemmas.{has_first, has_without_other, has_without_same, not_both}
 use Rattle.tower_pool.proofs.Messages.{Sorted, empty_queue, here_is, not_here}
@@ -26,41 +26,41 @@ module _ {Q F : Type 0} where
   pub queued_length : (messages : List (Entry Q F)) → queued messages ≡ length (queue messages)
   queued_length [] = refl
   queued_length (Entry.gone fate ∷ messages) = queued_length messages
-  queued_length (Entry.here letter ∷ messages) = by (is_some letter.request) (queued_length messages)
+  queued_length (Entry.here item ∷ messages) = by (is_some item.request) (queued_length messages)
     where
-      by : (b : Bool) → queued messages ≡ length (queue messages) → (if b then 1 else 0) + queued messages ≡ length (if b then letter.id ∷ queue messages else queue messages)
+      by : (b : Bool) → queued messages ≡ length (queue messages) → (if b then 1 else 0) + queued messages ≡ length (if b then item.id ∷ queue messages else queue messages)
       by true e = omega (arith, e)
       by false e = omega (arith, e)
 
   -- one of the messages, before and after
-  left_at : (messages : List (Entry Q F)) (place : ℕ) (was : Letter Q F) → At messages place was → slice_get (abandoned messages) place ≡ Some (left_by was was.fate)
+  left_at : (messages : List (Entry Q F)) (place : ℕ) (was : SentMessage Q F) → At messages place was → slice_get (abandoned messages) place ≡ Some (left_by was was.fate)
   left_at [] place was at = absurd (cc)
   left_at (Entry.gone fate ∷ messages) zero was at = absurd (not_here fate was at)
   left_at (Entry.gone fate ∷ messages) (suc place) was at = left_at messages place was at
-  left_at (Entry.here first ∷ messages) zero was at = ap (λ (l : Letter Q F). Some (left_by l l.fate)) (here_is first was at)
+  left_at (Entry.here first ∷ messages) zero was at = ap (λ (l : SentMessage Q F). Some (left_by l l.fate)) (here_is first was at)
   left_at (Entry.here first ∷ messages) (suc place) was at = left_at messages place was at
 
-  pub record WasAt (messages : List (Entry Q F)) (place : ℕ) (letter : Letter Q F) : Type 0 where
-    pub was : Letter Q F
+  pub record WasAt (messages : List (Entry Q F)) (place : ℕ) (item : SentMessage Q F) : Type 0 where
+    pub was : SentMessage Q F
     pub at : At messages place was
-    pub left : left_by was was.fate ≡ Entry.here letter
+    pub left : left_by was was.fate ≡ Entry.here item
 
-  was_at : (messages : List (Entry Q F)) (place : ℕ) (letter : Letter Q F) → At (abandoned messages) place letter → WasAt messages place letter
-  was_at [] place letter at = absurd (cc)
-  was_at (Entry.gone fate ∷ messages) zero letter at = absurd (not_here fate letter at)
-  was_at (Entry.gone fate ∷ messages) (suc place) letter at = let r = was_at messages place letter at in record { was = r.was; at = r.at; left = r.left }
-  was_at (Entry.here first ∷ messages) zero letter at = record { was = first; at = refl; left = some_is (left_by first first.fate) (Entry.here letter) at }
-  was_at (Entry.here first ∷ messages) (suc place) letter at = let r = was_at messages place letter at in record { was = r.was; at = r.at; left = r.left }
+  was_at : (messages : List (Entry Q F)) (place : ℕ) (item : SentMessage Q F) → At (abandoned messages) place item → WasAt messages place item
+  was_at [] place item at = absurd (cc)
+  was_at (Entry.gone fate ∷ messages) zero item at = absurd (not_here fate item at)
+  was_at (Entry.gone fate ∷ messages) (suc place) item at = let r = was_at messages place item at in record { was = r.was; at = r.at; left = r.left }
+  was_at (Entry.here first ∷ messages) zero item at = record { was = first; at = refl; left = some_is (left_by first first.fate) (Entry.here item) at }
+  was_at (Entry.here first ∷ messages) (suc place) item at = let r = was_at messages place item at in record { was = r.was; at = r.at; left = r.left }
 
-  same_here : (a b : Letter Q F) → Entry.here a ≡ Entry.here b → (a.id ≡ b.id) × (Some (kept a) ≡ Some (kept b))
-  same_here a b e = let s = here_is a b (ap Some e) in (ap (λ (l : Letter Q F). l.id) s, ap (λ (l : Letter Q F). Some (kept l)) s)
+  same_here : (a b : SentMessage Q F) → Entry.here a ≡ Entry.here b → (a.id ≡ b.id) × (Some (kept a) ≡ Some (kept b))
+  same_here a b e = let s = here_is a b (ap Some e) in (ap (λ (l : SentMessage Q F). l.id) s, ap (λ (l : SentMessage Q F). Some (kept l)) s)
 
-  left_tells : (was letter : Letter Q F) (fate : Fate F) → left_by was fate ≡ Entry.here letter → (was.id ≡ letter.id) × (lost_by (kept was) fate ≡ Some (kept letter))
-  left_tells was letter Open e = same_here (record { id = was.id; request = None; fate = Lost }) letter e
-  left_tells was letter Cancelled e = absurd (not_here Cancelled letter (ap Some e))
-  left_tells was letter (Answered f) e = same_here was letter e
-  left_tells was letter Failed e = same_here was letter e
-  left_tells was letter Lost e = same_here was letter e
+  left_tells : (was item : SentMessage Q F) (fate : Fate F) → left_by was fate ≡ Entry.here item → (was.id ≡ item.id) × (lost_by (kept was) fate ≡ Some (kept item))
+  left_tells was item Open e = same_here (record { id = was.id; request = None; fate = Lost }) item e
+  left_tells was item Cancelled e = absurd (not_here Cancelled item (ap Some e))
+  left_tells was item (Answered f) e = same_here was item e
+  left_tells was item Failed e = same_here was item e
+  left_tells was item Lost e = same_here was item e
 
   lost_tells : (id : ℕ) (was message : Message Q F) (fate : Fate F) → lost_by was fate ≡ Some message → left_by (known id was) fate ≡ Entry.here (known id message)
   lost_tells id was message Open e = ap (λ (m : Message Q F). Entry.here (known id m)) (some_is (record { request = None; fate = Lost }) message e)
@@ -144,19 +144,19 @@ module _ {Q F E : Type 0} (stored : Option E) (old new : LinksView (Message Q F)
     (entries : (id : ℕ) → get new.entries id ≡ lost (get old.entries id)) where
   pub holds_left : (messages : List (Entry Q F)) → Holds old messages → Holds new (abandoned messages)
   holds_left messages h = record {
-    stands = λ place letter at.
-        let w = was_at messages place letter at in
-        let t = left_tells w.was letter w.was.fate w.left in
-        entries letter.id ∙ ap (λ k. lost (get old.entries k)) (sym t.0) ∙ ap lost (h.stands place w.was w.at) ∙ t.1;
+    stands = λ place item at.
+        let w = was_at messages place item at in
+        let t = left_tells w.was item w.was.fate w.left in
+        entries item.id ∙ ap (λ k. lost (get old.entries k)) (sym t.0) ∙ ap lost (h.stands place w.was w.at) ∙ t.1;
     sent = λ id message there. by id message (get old.entries id) refl (sym (entries id) ∙ there);
     once = λ place other one two first second same.
         let a = was_at messages place one first in
         let b = was_at messages other two second in
         h.once place other a.was b.was a.at b.at ((left_tells a.was one a.was.fate a.left).0 ∙ same ∙ sym (left_tells b.was two b.was.fate b.left).0);
-    order = order ∙ sym (empty_queue (abandoned messages) (λ place letter at.
-        let w = was_at messages place letter at in
-        let t = left_tells w.was letter w.was.fate w.left in
-        out_of_it (kept w.was) w.was.fate (kept letter) t.1 (s.sent w.was.id (kept w.was) (h.stands place w.was w.at)).1));
+    order = order ∙ sym (empty_queue (abandoned messages) (λ place item at.
+        let w = was_at messages place item at in
+        let t = left_tells w.was item w.was.fate w.left in
+        out_of_it (kept w.was) w.was.fate (kept item) t.1 (s.sent w.was.id (kept w.was) (h.stands place w.was w.at)).1));
   }
     where
       by : (id : ℕ) (message : Message Q F) (slot : Option (Message Q F)) → get old.entries id ≡ slot → lost slot ≡ Some message → (place : ℕ) × At (abandoned messages) place (known id message)

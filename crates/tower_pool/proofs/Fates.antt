@@ -1,9 +1,9 @@
 -- What is read of a message tells what became of it.
 use Rattle.std.proofs.Common.{◌≡◌, ◌≢◌, true, false, ◌⊎◌, inl, inr, Option, Some, None, is_some, refl, sym, ap, ◌∙◌}
-use Rattle.tower_pool.specs.Letters.{Ended, bare, fate_at, is_cancelled, is_queued, is_unsettled, taken_at, taken_by}
-use Rattle.tower_pool.specs.declared.buffer.letter.Fate.{Fate}
-use Rattle.tower_pool.specs.declared.buffer.letter.Fate.TheVariants.{Open, Answered, Failed, Cancelled, Lost}
-use Rattle.tower_pool.specs.declared.buffer.letter.Message.{Message}
+use Rattle.tower_pool.specs.Messages.{Ended, bare, fate_at, is_cancelled, is_queued, is_unsettled, taken_at, taken_by}
+use Rattle.tower_pool.specs.declared.buffer.message.Fate.{Fate}
+use Rattle.tower_pool.specs.declared.buffer.message.Fate.TheVariants.{Open, Answered, Failed, Cancelled, Lost}
+use Rattle.tower_pool.specs.declared.buffer.message.Message.{Message}
 
 pub never : true ≡ false → ⊥
 never e = cc

@@ -11,7 +11,7 @@ use Rattle.tower_pool.specs.ReadyCachePoll.{rotated}
 use Rattle.tower_pool.proofs.AskLemmas.{length-insert_entry}
 use Rattle.tower_pool.proofs.PendingLemmas.{alike, apart_back, apart_cancel, apart_new, apart_push, length-cancel, length-put_back, none_after}
 use Rattle.tower_pool.proofs.PlaceLemmas.{as_long}
-use Rattle.tower_pool.proofs.WaitersLemmas.{like}
+use Rattle.tower_pool.proofs.PendingPlaces.{like}
 
 or_true : (b : Bool) → (b || true) ≡ true
 or_true true = refl

@@ -11,7 +11,7 @@ pub mod Messages
 pub mod Moves
 pub mod Orders
 pub mod PendingLemmas
+pub mod PendingPlaces
 pub mod PlaceLemmas
 pub mod Queues
 pub mod Replies
-pub mod WaitersLemmas

@@ -5,11 +5,11 @@ use Rattle.tower_base.specs.Latch.{FollowsMachine, StepsAs}
 use Rattle.tower_base.specs.Links.{LinksView}
 use Rattle.tower_base.specs.Order.{has, Apart}
 use Rattle.tower_limit.specs.Waiters.{outside}
-use Rattle.tower_pool.specs.Letters.{is_queued}
-use Rattle.tower_pool.specs.Mail.{At, Entry, Letter, Mail, MailSteps}
+use Rattle.tower_pool.specs.Messages.{is_queued}
+use Rattle.tower_pool.specs.Mail.{At, Entry, SentMessage, Mail, MailSteps}
 use Rattle.tower_pool.specs.Mailbox.{Follows, Holds, StandsFor, kept, known, plain_of, queue}
-use Rattle.tower_pool.specs.declared.buffer.letter.Fate.TheVariants.{Open}
-use Rattle.tower_pool.specs.declared.buffer.letter.Message.{Message}
+use Rattle.tower_pool.specs.declared.buffer.message.Fate.TheVariants.{Open}
+use Rattle.tower_pool.specs.declared.buffer.message.Message.{Message}
 use Rattle.tower_pool.specs.declared.buffer.mail.MailStep.{MailStep}
 use Rattle.tower_pool.specs.declared.buffer.mail.MailReply.{MailReply}
 use Rattle.tower_pool.specs.declared.buffer.mailbox.Mailbox.{Mailbox}
@@ -47,9 +47,9 @@ module _ {Q F : Type 0} where
   blank_get (slot ∷ slots) (suc key) = blank_get slots key
 
   abbrev shape : LinksView (Message Q F) → LinksView (Unit {0})
-  shape letters = record {
-    order = letters.order;
-    entries = record { slots = map blank_slot letters.entries.slots; vacant_key = 0; capacity = 0 };
+  shape links = record {
+    order = links.order;
+    entries = record { slots = map blank_slot links.entries.slots; vacant_key = 0; capacity = 0 };
     touches = 0;
   }
 
@@ -62,58 +62,58 @@ module _ {Q F : Type 0} where
   queue_of key None rest = refl
   queue_of key (Some message) rest = refl
 
-  one_is : (key : ℕ) (slot : Option (Message Q F)) (letter : Letter Q F) → Some (entry_of key slot) ≡ Some (Entry.here letter) → (key ≡ letter.id) × (slot ≡ Some (kept letter))
-  one_is key None letter e = absurd (not_here Open letter e)
-  one_is key (Some message) letter e = let s = here_is (known key message) letter e in (ap (λ (l : Letter Q F). l.id) s, ap (λ (l : Letter Q F). Some (kept l)) s)
+  one_is : (key : ℕ) (slot : Option (Message Q F)) (item : SentMessage Q F) → Some (entry_of key slot) ≡ Some (Entry.here item) → (key ≡ item.id) × (slot ≡ Some (kept item))
+  one_is key None item e = absurd (not_here Open item e)
+  one_is key (Some message) item e = let s = here_is (known key message) item e in (ap (λ (l : SentMessage Q F). l.id) s, ap (λ (l : SentMessage Q F). Some (kept l)) s)
 
-  module _ (letters : LinksView (Message Q F)) where
+  module _ (links : LinksView (Message Q F)) where
     abbrev entries_of : List ℕ → List (Entry Q F)
     entries_of [] = []
-    entries_of (key ∷ keys) = entry_of key (get letters.entries key) ∷ entries_of keys
+    entries_of (key ∷ keys) = entry_of key (get links.entries key) ∷ entries_of keys
 
-    at_of : (keys : List ℕ) (place : ℕ) (letter : Letter Q F) → At (entries_of keys) place letter → (slice_get keys place ≡ Some letter.id) × (get letters.entries letter.id ≡ Some (kept letter))
-    at_of [] place letter at = absurd (cc)
-    at_of (key ∷ keys) zero letter at = let o = one_is key (get letters.entries key) letter at in (ap Some o.0, ap (get letters.entries) (sym o.0) ∙ o.1)
-    at_of (key ∷ keys) (suc place) letter at = at_of keys place letter at
+    at_of : (keys : List ℕ) (place : ℕ) (item : SentMessage Q F) → At (entries_of keys) place item → (slice_get keys place ≡ Some item.id) × (get links.entries item.id ≡ Some (kept item))
+    at_of [] place item at = absurd (cc)
+    at_of (key ∷ keys) zero item at = let o = one_is key (get links.entries key) item at in (ap Some o.0, ap (get links.entries) (sym o.0) ∙ o.1)
+    at_of (key ∷ keys) (suc place) item at = at_of keys place item at
 
-    of_at : (keys : List ℕ) (place id : ℕ) (message : Message Q F) → slice_get keys place ≡ Some id → get letters.entries id ≡ Some message → At (entries_of keys) place (known id message)
+    of_at : (keys : List ℕ) (place id : ℕ) (message : Message Q F) → slice_get keys place ≡ Some id → get links.entries id ≡ Some message → At (entries_of keys) place (known id message)
     of_at [] place id message at there = absurd (cc)
     of_at (key ∷ keys) zero id message at there =
-        ap (λ k. Some (entry_of k (get letters.entries k))) (some_is key id at) ∙ ap (λ (slot : Option (Message Q F)). Some (entry_of id slot)) there
+        ap (λ k. Some (entry_of k (get links.entries k))) (some_is key id at) ∙ ap (λ (slot : Option (Message Q F)). Some (entry_of id slot)) there
     of_at (key ∷ keys) (suc place) id message at there = of_at keys place id message at there
 
-    queue_none : (keys rest : List ℕ) → ((key : ℕ) → has keys key ≡ true → is_queued (get letters.entries key) ≡ false) → queue (entries_of (keys ++ rest)) ≡ queue (entries_of rest)
+    queue_none : (keys rest : List ℕ) → ((key : ℕ) → has keys key ≡ true → is_queued (get links.entries key) ≡ false) → queue (entries_of (keys ++ rest)) ≡ queue (entries_of rest)
     queue_none [] rest none = refl
     queue_none (key ∷ keys) rest none =
-        queue_of key (get letters.entries key) (entries_of (keys ++ rest))
+        queue_of key (get links.entries key) (entries_of (keys ++ rest))
         ∙ ap (λ b. if b then key ∷ queue (entries_of (keys ++ rest)) else queue (entries_of (keys ++ rest))) (none key (has_first key keys))
         ∙ queue_none keys rest (λ other h. none other (or_right _ (has keys other) h))
 
-    queue_all : (keys : List ℕ) → ((key : ℕ) → has keys key ≡ true → is_queued (get letters.entries key) ≡ true) → queue (entries_of keys) ≡ keys
+    queue_all : (keys : List ℕ) → ((key : ℕ) → has keys key ≡ true → is_queued (get links.entries key) ≡ true) → queue (entries_of keys) ≡ keys
     queue_all [] all = refl
     queue_all (key ∷ keys) all =
-        queue_of key (get letters.entries key) (entries_of keys)
+        queue_of key (get links.entries key) (entries_of keys)
         ∙ ap (λ b. if b then key ∷ queue (entries_of keys) else queue (entries_of keys)) (all key (has_first key keys))
         ∙ ap (λ l. key ∷ l) (queue_all keys (λ other h. all other (or_right _ (has keys other) h)))
 
   -- some messages are held
-  pub some_messages : {E : Type 0} (stored : Option E) (letters : LinksView (Message Q F)) → Sorted stored letters → (messages : List (Entry Q F)) × Holds letters messages
-  some_messages stored letters s =
-      let out = outside (shape letters) in
-      let keys = out ++ letters.order in
-      let w = outside_waits (shape letters) (apart_is letters.order s.differ) (λ key h.
-      let q = queued_some (get letters.entries key) (sym (s.linked key) ∙ h) in
-      ap is_some (blank_get letters.entries.slots key) ∙ blank_some (get letters.entries key) ∙ ap is_some q.1) in (
-        entries_of letters keys,
+  pub some_messages : {E : Type 0} (stored : Option E) (links : LinksView (Message Q F)) → Sorted stored links → (messages : List (Entry Q F)) × Holds links messages
+  some_messages stored links s =
+      let out = outside (shape links) in
+      let keys = out ++ links.order in
+      let w = outside_waits (shape links) (apart_is links.order s.differ) (λ key h.
+      let q = queued_some (get links.entries key) (sym (s.linked key) ∙ h) in
+      ap is_some (blank_get links.entries.slots key) ∙ blank_some (get links.entries key) ∙ ap is_some q.1) in (
+        entries_of links keys,
         record {
-          stands = λ place letter at. (at_of letters keys place letter at).1;
+          stands = λ place item at. (at_of links keys place item at).1;
           sent = λ id message there.
-              let a = at_has keys id (w.present id ∙ ap is_some (blank_get letters.entries.slots id) ∙ blank_some (get letters.entries id) ∙ ap is_some there) in
-              (a.0, of_at letters keys a.0 id message a.1 there);
-          once = λ place other letter another a b same.
-              same_place keys place other another.id w.apart ((at_of letters keys place letter a).0 ∙ ap Some same) (at_of letters keys other another b).0;
-          order = sym (queue_none letters out letters.order (λ key h. sym (s.linked key) ∙ apart_cross out letters.order key w.apart h)
-              ∙ queue_all letters letters.order (λ key h. sym (s.linked key) ∙ h));
+              let a = at_has keys id (w.present id ∙ ap is_some (blank_get links.entries.slots id) ∙ blank_some (get links.entries id) ∙ ap is_some there) in
+              (a.0, of_at links keys a.0 id message a.1 there);
+          once = λ place other item another a b same.
+              same_place keys place other another.id w.apart ((at_of links keys place item a).0 ∙ ap Some same) (at_of links keys other another b).0;
+          order = sym (queue_none links out links.order (λ key h. sym (s.linked key) ∙ apart_cross out links.order key w.apart h)
+              ∙ queue_all links links.order (λ key h. sym (s.linked key) ∙ h));
         },
       )
 
@@ -122,8 +122,8 @@ module _ {Q F E : Type 0} where
   pub some_mail : (box : Mailbox Q F E) → (mail : Mail Q F E) × StandsFor box mail
   some_mail box =
       let waiters = some_queue box.queue in
-      let line = some_line box.bound (box.reserved + length box.letters.order) waiters.0.keys (omega (arith, box.fits)) in
-      let held = some_messages box.stored box.letters (record { differ = box.differ; linked = box.linked; sent = box.sent }) in
+      let line = some_line box.bound (box.reserved + length box.messages.order) waiters.0.keys (omega (arith, box.fits)) in
+      let held = some_messages box.stored box.messages (record { differ = box.differ; linked = box.linked; sent = box.sent }) in
       (plain_of box held.0 line.0, (held.1, (waiters.0, waiters.1, line.1), refl))
 
   pub follows : (old new : Mailbox Q F E) (step : MailStep Q F E) (reply : MailReply Q F E) → Follows old step reply new

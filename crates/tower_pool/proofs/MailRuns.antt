@@ -1,10 +1,10 @@
 -- The laws of mail.
 use Rattle.std.proofs.Common.{◌≡◌, inl, inr, ℕ, zero, suc, ◌<◌, true, false, unwrap_or, Option, Some, None, List, [], ◌∷◌, ◌++◌, slice_set, refl, sym, ap, subst, ◌∙◌, arith}
 use Rattle.tower_base.specs.Latch.{Serves}
-use Rattle.tower_pool.specs.Mail.{At, Clears, Entry, Letter, Mail, MailSteps, Settles, abandoned, left_by}
+use Rattle.tower_pool.specs.Mail.{At, Clears, Entry, SentMessage, Mail, MailSteps, Settles, abandoned, left_by}
 use Rattle.tower_pool.specs.MailLaws.{Grow, Lasts}
-use Rattle.tower_pool.specs.declared.buffer.letter.Fate.{Fate}
-use Rattle.tower_pool.specs.declared.buffer.letter.Fate.TheVariants.{Open, Answered, Failed as HasFailed, Cancelled, Lost as WasLost}
+use Rattle.tower_pool.specs.declared.buffer.message.Fate.{Fate}
+use Rattle.tower_pool.specs.declared.buffer.message.Fate.TheVariants.{Open, Answered, Failed as HasFailed, Cancelled, Lost as WasLost}
 use Rattle.tower_pool.specs.declared.buffer.mail.MailStep.{MailStep}
 use Rattle.tower_pool.specs.declared.buffer.mail.MailStep.TheVariants.{Join, Part, Reserve, Look, Cancel, Unreserve, Send, Take, Live, Answer, Fail, FailStored, Outcome, Forget, WorkerGone}
 use Rattle.tower_pool.specs.declared.buffer.mail.MailReply.{MailReply}
@@ -36,38 +36,38 @@ module _ {Q F : Type 0} where
   grow_last (first ∷ old) more zero entry at = (entry, at, still entry)
   grow_last (first ∷ old) more (suc place) entry at = grow_last old more place entry at
 
-  grow_set : (old : List (Entry Q F)) (spot : ℕ) (letter : Letter Q F) (now : Entry Q F) → At old spot letter → Lasts (Entry.here letter) now → Grow old (slice_set old spot now)
-  grow_set [] spot letter now there lasts place entry at = absurd (cc)
-  grow_set (first ∷ old) zero letter now there lasts zero entry at =
+  grow_set : (old : List (Entry Q F)) (spot : ℕ) (item : SentMessage Q F) (now : Entry Q F) → At old spot item → Lasts (Entry.here item) now → Grow old (slice_set old spot now)
+  grow_set [] spot item now there lasts place entry at = absurd (cc)
+  grow_set (first ∷ old) zero item now there lasts zero entry at =
       (now, refl, subst (λ (e : Entry Q F). Lasts e now) (ap (λ o. unwrap_or o first) (sym there ∙ at)) lasts)
-  grow_set (first ∷ old) zero letter now there lasts (suc place) entry at = (entry, at, still entry)
-  grow_set (first ∷ old) (suc spot) letter now there lasts zero entry at = (entry, at, still entry)
-  grow_set (first ∷ old) (suc spot) letter now there lasts (suc place) entry at = grow_set old spot letter now there lasts place entry at
+  grow_set (first ∷ old) zero item now there lasts (suc place) entry at = (entry, at, still entry)
+  grow_set (first ∷ old) (suc spot) item now there lasts zero entry at = (entry, at, still entry)
+  grow_set (first ∷ old) (suc spot) item now there lasts (suc place) entry at = grow_set old spot item now there lasts place entry at
 
-  left_lasts : (letter : Letter Q F) (fate : Fate F) → letter.fate ≡ fate → Lasts (Entry.here letter) (left_by letter fate)
-  left_lasts letter Open e = record { outcome = inl e; out = inl refl }
-  left_lasts letter Cancelled e = record { outcome = inr (sym e); out = inl refl }
-  left_lasts letter (Answered f) e = still (Entry.here letter)
-  left_lasts letter HasFailed e = still (Entry.here letter)
-  left_lasts letter WasLost e = still (Entry.here letter)
+  left_lasts : (item : SentMessage Q F) (fate : Fate F) → item.fate ≡ fate → Lasts (Entry.here item) (left_by item fate)
+  left_lasts item Open e = record { outcome = inl e; out = inl refl }
+  left_lasts item Cancelled e = record { outcome = inr (sym e); out = inl refl }
+  left_lasts item (Answered f) e = still (Entry.here item)
+  left_lasts item HasFailed e = still (Entry.here item)
+  left_lasts item WasLost e = still (Entry.here item)
 
   grow_left : (old : List (Entry Q F)) → Grow old (abandoned old)
   grow_left [] place entry at = absurd (cc)
   grow_left (Entry.gone fate ∷ old) zero entry at = (entry, at, still entry)
-  grow_left (Entry.here letter ∷ old) zero entry at =
-      (left_by letter letter.fate, refl, subst (λ (e : Entry Q F). Lasts e (left_by letter letter.fate)) (ap (λ o. unwrap_or o (Entry.here letter)) at) (left_lasts letter letter.fate refl))
+  grow_left (Entry.here item ∷ old) zero entry at =
+      (left_by item item.fate, refl, subst (λ (e : Entry Q F). Lasts e (left_by item item.fate)) (ap (λ o. unwrap_or o (Entry.here item)) at) (left_lasts item item.fate refl))
   grow_left (Entry.gone fate ∷ old) (suc place) entry at = grow_left old place entry at
-  grow_left (Entry.here letter ∷ old) (suc place) entry at = grow_left old place entry at
+  grow_left (Entry.here item ∷ old) (suc place) entry at = grow_left old place entry at
 
   -- a change of one message
-  cancelled_goes : (letter : Letter Q F) → letter.fate ≡ Cancelled → Lasts (Entry.here letter) (Entry.gone Cancelled)
-  cancelled_goes letter e = record { outcome = inr (sym e); out = inl refl }
+  cancelled_goes : (item : SentMessage Q F) → item.fate ≡ Cancelled → Lasts (Entry.here item) (Entry.gone Cancelled)
+  cancelled_goes item e = record { outcome = inr (sym e); out = inl refl }
 
-  settled_lasts : (letter : Letter Q F) (fate : Fate F) → letter.fate ≡ Open → Lasts (Entry.here letter) (Entry.here (record letter { fate = fate }))
-  settled_lasts letter fate e = record { outcome = inl e; out = inr refl }
+  settled_lasts : (item : SentMessage Q F) (fate : Fate F) → item.fate ≡ Open → Lasts (Entry.here item) (Entry.here (record item { fate = fate }))
+  settled_lasts item fate e = record { outcome = inl e; out = inr refl }
 
-  goes : (letter : Letter Q F) → Lasts (Entry.here letter) (Entry.gone letter.fate)
-  goes letter = record { outcome = inr refl; out = inl refl }
+  goes : (item : SentMessage Q F) → Lasts (Entry.here item) (Entry.gone item.fate)
+  goes item = record { outcome = inr refl; out = inl refl }
 
   grow_settles : (fate : Fate F) (old new : List (Entry Q F)) (id : ℕ) → Settles fate old id new → Grow old new
   grow_settles fate old new id s = elim s.3 [
@@ -77,9 +77,9 @@ module _ {Q F : Type 0} where
 
 module _ {Q F E : Type 0} where
   -- a step that changes one message so
-  one : (old new : Mail Q F E) (spot : ℕ) (letter : Letter Q F) (now : Entry Q F) → At old.messages spot letter → Lasts (Entry.here letter) now
+  one : (old new : Mail Q F E) (spot : ℕ) (item : SentMessage Q F) (now : Entry Q F) → At old.messages spot item → Lasts (Entry.here item) now
       → new.messages ≡ slice_set old.messages spot now → Grow old.messages new.messages
-  one old new spot letter now at lasts e = grow_on old.messages _ new.messages (grow_set old.messages spot letter now at lasts) (grow_same _ new.messages e)
+  one old new spot item now at lasts e = grow_on old.messages _ new.messages (grow_set old.messages spot item now at lasts) (grow_same _ new.messages e)
 
   clears_grow : (n : ℕ) (old new : Mail Q F E) → Clears n old new → Grow old.messages new.messages
   clears_grow zero old new c = grow_same old.messages new.messages (ap (λ (m : Mail Q F E). m.messages) c)
@@ -228,35 +228,35 @@ module _ {Q F E : Type 0} where
   fails_at_once old new id e t = (ap (λ (m : Mail Q F E). m.stored) t.1, ap (λ (m : Mail Q F E). m.is_closed) t.1, t.0)
 
 module _ {Q F : Type 0} where
-  set_here : (messages : List (Entry Q F)) (place : ℕ) (letter now : Letter Q F) → At messages place letter → At (slice_set messages place (Entry.here now)) place now
-  set_here [] place letter now at = absurd (cc)
-  set_here (first ∷ messages) zero letter now at = refl
-  set_here (first ∷ messages) (suc place) letter now at = set_here messages place letter now at
+  set_here : (messages : List (Entry Q F)) (place : ℕ) (item now : SentMessage Q F) → At messages place item → At (slice_set messages place (Entry.here now)) place now
+  set_here [] place item now at = absurd (cc)
+  set_here (first ∷ messages) zero item now at = refl
+  set_here (first ∷ messages) (suc place) item now at = set_here messages place item now at
 
-  letter_request : Option (Entry Q F) → Option Q
-  letter_request None = None
-  letter_request (Some (Entry.gone fate)) = None
-  letter_request (Some (Entry.here letter)) = letter.request
+  item_request : Option (Entry Q F) → Option Q
+  item_request None = None
+  item_request (Some (Entry.gone fate)) = None
+  item_request (Some (Entry.here item)) = item.request
 
   -- once the oldest queued one is taken, it and those before it aren't queued
-  none_older : (messages : List (Entry Q F)) (place : ℕ) (letter now : Letter Q F) → At messages place letter → now.request ≡ None
-      → ((k : ℕ) (other : Letter Q F) → k < place → At messages k other → other.request ≡ None)
-      → (k : ℕ) (other : Letter Q F) → k < suc place → At (slice_set messages place (Entry.here now)) k other → other.request ≡ None
-  unfolding letter_request
-  none_older [] place letter now at out before k other low there = absurd (cc)
-  none_older (first ∷ messages) zero letter now at out before zero other low there = sym (ap letter_request there) ∙ out
-  none_older (first ∷ messages) zero letter now at out before (suc k) other low there = absurd (omega (arith, low))
-  none_older (first ∷ messages) (suc place) letter now at out before zero other low there = before 0 other (omega arith) there
-  none_older (first ∷ messages) (suc place) letter now at out before (suc k) other low there =
-      none_older messages place letter now at out (λ j l under here. before (suc j) l (omega (arith, under)) here) k other (omega (arith, low)) there
+  none_older : (messages : List (Entry Q F)) (place : ℕ) (item now : SentMessage Q F) → At messages place item → now.request ≡ None
+      → ((k : ℕ) (other : SentMessage Q F) → k < place → At messages k other → other.request ≡ None)
+      → (k : ℕ) (other : SentMessage Q F) → k < suc place → At (slice_set messages place (Entry.here now)) k other → other.request ≡ None
+  unfolding item_request
+  none_older [] place item now at out before k other low there = absurd (cc)
+  none_older (first ∷ messages) zero item now at out before zero other low there = sym (ap item_request there) ∙ out
+  none_older (first ∷ messages) zero item now at out before (suc k) other low there = absurd (omega (arith, low))
+  none_older (first ∷ messages) (suc place) item now at out before zero other low there = before 0 other (omega arith) there
+  none_older (first ∷ messages) (suc place) item now at out before (suc k) other low there =
+      none_older messages place item now at out (λ j l under here. before (suc j) l (omega (arith, under)) here) k other (omega (arith, low)) there
 
 module _ {Q F E : Type 0} where
   pub in_order : (old new : Mail Q F E) (id : ℕ) (request : Q) → MailSteps old Take (Message id request) new
-      → (place : ℕ) × (letter : Letter Q F) × At new.messages place letter × (letter.id ≡ id)
-      × ((before : ℕ) (other : Letter Q F) → before < suc place → At new.messages before other → other.request ≡ None)
+      → (place : ℕ) × (item : SentMessage Q F) × At new.messages place item × (item.id ≡ id)
+      × ((before : ℕ) (other : SentMessage Q F) → before < suc place → At new.messages before other → other.request ≡ None)
   in_order old new id request t =
       let last = t.3 in
-      let now : Letter Q F = record last.1 { request = None } in
+      let now : SentMessage Q F = record last.1 { request = None } in
       let e = ap (λ (m : Mail Q F E). m.messages) last.6 in (
         last.0,
         now,

@@ -4,13 +4,13 @@ use Rattle.std.proofs.lemmas.Bool.Decides.{eqb_tells}
 use Rattle.slab.specs.Slab.{get, Updates}
 use Rattle.tower_base.specs.Links.{LinksView}
 use Rattle.tower_base.specs.Order.{has, without}
-use Rattle.tower_pool.specs.Letters.{Fits, is_queued}
-use Rattle.tower_pool.specs.Mail.{At, Entry, Letter, NoneQueued, NoneWith, OldestAt}
+use Rattle.tower_pool.specs.Messages.{Fits, is_queued}
+use Rattle.tower_pool.specs.Mail.{At, Entry, SentMessage, NoneQueued, NoneWith, OldestAt}
 use Rattle.tower_pool.specs.Mailbox.{Holds, known, kept, queue}
 use Rattle.tower_pool.specs.Waiting.{are_apart}
-use Rattle.tower_pool.specs.declared.buffer.letter.Fate.{Fate}
-use Rattle.tower_pool.specs.declared.buffer.letter.Fate.TheVariants.{Open}
-use Rattle.tower_pool.specs.declared.buffer.letter.Message.{Message}
+use Rattle.tower_pool.specs.declared.buffer.message.Fate.{Fate}
+use Rattle.tower_pool.specs.declared.buffer.message.Fate.TheVariants.{Open}
+use Rattle.tower_pool.specs.declared.buffer.message.Message.{Message}
 use Rattle.tower_pool.proofs.Fates.{not_none, not_some, some_is}
 use Rattle.tower_limit.proofs.KeysLemmas.{apart_push, apart_without, has_append, has_without_other, has_without_same}
 use Rattle.tower_pool.proofs.KeysLemmas.{apart_is, is_apart}
@@ -58,13 +58,13 @@ ahead_last true id more rest end e = ap (λ l. id ∷ l) e
 ahead_last false id more rest end e = e
 
 module _ {Q F : Type 0} where
-  pub here_is : (a b : Letter Q F) → Some (Entry.here a) ≡ Some (Entry.here b) → a ≡ b
+  pub here_is : (a b : SentMessage Q F) → Some (Entry.here a) ≡ Some (Entry.here b) → a ≡ b
   here_is a b e = ap (λ (o : Option (Entry Q F)). elim o [ None ↦ a | Some x ↦ elim x [ Entry.here l ↦ l | Entry.gone fate ↦ a ] ]) e
 
-  pub not_here : (fate : Fate F) (b : Letter Q F) → Some (Entry.gone fate) ≡ Some (Entry.here b) → ⊥
+  pub not_here : (fate : Fate F) (b : SentMessage Q F) → Some (Entry.gone fate) ≡ Some (Entry.here b) → ⊥
   not_here fate b e = cc
 
-  pub known_is : (now : Letter Q F) (id : ℕ) (message : Message Q F) → now.id ≡ id → kept now ≡ message → now ≡ known id message
+  pub known_is : (now : SentMessage Q F) (id : ℕ) (message : Message Q F) → now.id ≡ id → kept now ≡ message → now ≡ known id message
   known_is now id message is same = ap (λ (i : ℕ). known i (kept now)) is ∙ ap (λ (m : Message Q F). known id m) same
 
   -- ---- the order of the queued
@@ -73,75 +73,75 @@ module _ {Q F : Type 0} where
       → queue (messages ++ Entry.here (record { id = id; request = Some request; fate = fate }) ∷ []) ≡ queue messages ++ id ∷ []
   queue_last [] id request fate = refl
   queue_last (Entry.gone other ∷ rest) id request fate = queue_last rest id request fate
-  queue_last (Entry.here letter ∷ rest) id request fate = ahead_last (is_some letter.request) letter.id _ (queue rest) (id ∷ []) (queue_last rest id request fate)
+  queue_last (Entry.here item ∷ rest) id request fate = ahead_last (is_some item.request) item.id _ (queue rest) (id ∷ []) (queue_last rest id request fate)
 
-  pub queue_same : (messages : List (Entry Q F)) (place : ℕ) (letter now : Letter Q F) → At messages place letter → now.id ≡ letter.id → is_some now.request ≡ is_some letter.request
+  pub queue_same : (messages : List (Entry Q F)) (place : ℕ) (item now : SentMessage Q F) → At messages place item → now.id ≡ item.id → is_some now.request ≡ is_some item.request
       → queue (slice_set messages place (Entry.here now)) ≡ queue messages
-  queue_same [] place letter now at is some = absurd (cc)
-  queue_same (first ∷ rest) zero letter now at is some =
-      let e : first ≡ Entry.here letter = some_is first (Entry.here letter) at in
-      ap (λ b. ahead b now.id (queue rest)) some ∙ ap (λ i. ahead (is_some letter.request) i (queue rest)) is ∙ sym (ap (λ (x : Entry Q F). queue (x ∷ rest)) e)
-  queue_same (Entry.gone fate ∷ rest) (suc place) letter now at is some = queue_same rest place letter now at is some
-  queue_same (Entry.here first ∷ rest) (suc place) letter now at is some = ap (ahead (is_some first.request) first.id) (queue_same rest place letter now at is some)
+  queue_same [] place item now at is some = absurd (cc)
+  queue_same (first ∷ rest) zero item now at is some =
+      let e : first ≡ Entry.here item = some_is first (Entry.here item) at in
+      ap (λ b. ahead b now.id (queue rest)) some ∙ ap (λ i. ahead (is_some item.request) i (queue rest)) is ∙ sym (ap (λ (x : Entry Q F). queue (x ∷ rest)) e)
+  queue_same (Entry.gone fate ∷ rest) (suc place) item now at is some = queue_same rest place item now at is some
+  queue_same (Entry.here first ∷ rest) (suc place) item now at is some = ap (ahead (is_some first.request) first.id) (queue_same rest place item now at is some)
 
-  pub queue_gone : (messages : List (Entry Q F)) (place : ℕ) (letter : Letter Q F) (fate : Fate F) → At messages place letter → letter.request ≡ None
+  pub queue_gone : (messages : List (Entry Q F)) (place : ℕ) (item : SentMessage Q F) (fate : Fate F) → At messages place item → item.request ≡ None
       → queue (slice_set messages place (Entry.gone fate)) ≡ queue messages
-  queue_gone [] place letter fate at out = absurd (cc)
-  queue_gone (first ∷ rest) zero letter fate at out =
-      let e : first ≡ Entry.here letter = some_is first (Entry.here letter) at in
-      sym (ap (λ (x : Entry Q F). queue (x ∷ rest)) e ∙ ap (λ (r : Option Q). ahead (is_some r) letter.id (queue rest)) out)
-  queue_gone (Entry.gone other ∷ rest) (suc place) letter fate at out = queue_gone rest place letter fate at out
-  queue_gone (Entry.here first ∷ rest) (suc place) letter fate at out = ap (ahead (is_some first.request) first.id) (queue_gone rest place letter fate at out)
+  queue_gone [] place item fate at out = absurd (cc)
+  queue_gone (first ∷ rest) zero item fate at out =
+      let e : first ≡ Entry.here item = some_is first (Entry.here item) at in
+      sym (ap (λ (x : Entry Q F). queue (x ∷ rest)) e ∙ ap (λ (r : Option Q). ahead (is_some r) item.id (queue rest)) out)
+  queue_gone (Entry.gone other ∷ rest) (suc place) item fate at out = queue_gone rest place item fate at out
+  queue_gone (Entry.here first ∷ rest) (suc place) item fate at out = ap (ahead (is_some first.request) first.id) (queue_gone rest place item fate at out)
 
   -- the oldest leaves the queue
-  pub queue_first : (messages : List (Entry Q F)) (place : ℕ) (letter : Letter Q F) (request : Q) (now : Entry Q F) → OldestAt messages place letter request
-      → ((rest : List (Entry Q F)) → queue (now ∷ rest) ≡ queue rest) → queue messages ≡ letter.id ∷ queue (slice_set messages place now)
-  queue_first [] place letter request now o skip = absurd (let at = o.0 in cc)
-  queue_first (first ∷ rest) zero letter request now o skip =
-      let e : first ≡ Entry.here letter = some_is first (Entry.here letter) o.0 in
-      ap (λ (x : Entry Q F). queue (x ∷ rest)) e ∙ ap (λ (r : Option Q). ahead (is_some r) letter.id (queue rest)) o.1 ∙ ap (λ l. letter.id ∷ l) (sym (skip rest))
-  queue_first (Entry.gone fate ∷ rest) (suc place) letter request now o skip =
-      queue_first rest place letter request now (o.0, o.1, (λ k other below at. o.2 (suc k) other (omega (arith, below)) at)) skip
-  queue_first (Entry.here first ∷ rest) (suc place) letter request now o skip =
+  pub queue_first : (messages : List (Entry Q F)) (place : ℕ) (item : SentMessage Q F) (request : Q) (now : Entry Q F) → OldestAt messages place item request
+      → ((rest : List (Entry Q F)) → queue (now ∷ rest) ≡ queue rest) → queue messages ≡ item.id ∷ queue (slice_set messages place now)
+  queue_first [] place item request now o skip = absurd (let at = o.0 in cc)
+  queue_first (first ∷ rest) zero item request now o skip =
+      let e : first ≡ Entry.here item = some_is first (Entry.here item) o.0 in
+      ap (λ (x : Entry Q F). queue (x ∷ rest)) e ∙ ap (λ (r : Option Q). ahead (is_some r) item.id (queue rest)) o.1 ∙ ap (λ l. item.id ∷ l) (sym (skip rest))
+  queue_first (Entry.gone fate ∷ rest) (suc place) item request now o skip =
+      queue_first rest place item request now (o.0, o.1, (λ k other below at. o.2 (suc k) other (omega (arith, below)) at)) skip
+  queue_first (Entry.here first ∷ rest) (suc place) item request now o skip =
       let none : first.request ≡ None = o.2 0 first (omega arith) refl in
-      let more = queue_first rest place letter request now (o.0, o.1, (λ k other below at. o.2 (suc k) other (omega (arith, below)) at)) skip in
+      let more = queue_first rest place item request now (o.0, o.1, (λ k other below at. o.2 (suc k) other (omega (arith, below)) at)) skip in
       let pass : (l : List ℕ) → ahead (is_some first.request) first.id l ≡ l = λ l. ap (λ (r : Option Q). ahead (is_some r) first.id l) none in
-      pass (queue rest) ∙ more ∙ ap (λ l. letter.id ∷ l) (sym (pass (queue (slice_set rest place now))))
+      pass (queue rest) ∙ more ∙ ap (λ l. item.id ∷ l) (sym (pass (queue (slice_set rest place now))))
 
   -- the first in the order is the oldest
   pub record IsOldest (messages : List (Entry Q F)) (id : ℕ) : Type 0 where
     pub place : ℕ
-    pub letter : Letter Q F
+    pub item : SentMessage Q F
     pub request : Q
-    pub oldest : OldestAt messages place letter request
-    pub is : letter.id ≡ id
+    pub oldest : OldestAt messages place item request
+    pub is : item.id ≡ id
 
-  later : (first : Entry Q F) (messages : List (Entry Q F)) (id : ℕ) → ((other : Letter Q F) → first ≡ Entry.here other → other.request ≡ None)
+  later : (first : Entry Q F) (messages : List (Entry Q F)) (id : ℕ) → ((other : SentMessage Q F) → first ≡ Entry.here other → other.request ≡ None)
       → IsOldest messages id → IsOldest (first ∷ messages) id
   later first messages id none r = record {
     place = suc r.place;
-    letter = r.letter;
+    item = r.item;
     request = r.request;
     oldest = (r.oldest.0, r.oldest.1, λ k other below at. before k other below at);
     is = r.is;
   }
     where
-      before : (k : ℕ) (other : Letter Q F) → k < suc r.place → At (first ∷ messages) k other → other.request ≡ None
+      before : (k : ℕ) (other : SentMessage Q F) → k < suc r.place → At (first ∷ messages) k other → other.request ≡ None
       before zero other below at = none other (some_is first (Entry.here other) at)
       before (suc k) other below at = r.oldest.2 k other (omega (arith, below)) at
 
   pub first_queued : (messages : List (Entry Q F)) (id : ℕ) (rest : List ℕ) → queue messages ≡ id ∷ rest → IsOldest messages id
   first_queued [] id rest e = absurd (cc)
   first_queued (Entry.gone fate ∷ messages) id rest e = later (Entry.gone fate) messages id (λ other h. absurd (not_here fate other (ap Some h))) (first_queued messages id rest e)
-  first_queued (Entry.here letter ∷ messages) id rest e = by (first_queued messages id rest) letter.request refl
+  first_queued (Entry.here item ∷ messages) id rest e = by (first_queued messages id rest) item.request refl
     where
-      by : (queue messages ≡ id ∷ rest → IsOldest messages id) → (request : Option Q) → letter.request ≡ request → IsOldest (Entry.here letter ∷ messages) id
-      by next None out = later (Entry.here letter) messages id (λ other h. sym (ap (λ (l : Letter Q F). l.request) (here_is letter other (ap Some h))) ∙ out)
-          (next (sym (ap (λ (r : Option Q). ahead (is_some r) letter.id (queue messages)) out) ∙ e))
+      by : (queue messages ≡ id ∷ rest → IsOldest messages id) → (request : Option Q) → item.request ≡ request → IsOldest (Entry.here item ∷ messages) id
+      by next None out = later (Entry.here item) messages id (λ other h. sym (ap (λ (l : SentMessage Q F). l.request) (here_is item other (ap Some h))) ∙ out)
+          (next (sym (ap (λ (r : Option Q). ahead (is_some r) item.id (queue messages)) out) ∙ e))
       by next (Some request) in_it =
-          let same : letter.id ∷ queue messages ≡ id ∷ rest = sym (ap (λ (r : Option Q). ahead (is_some r) letter.id (queue messages)) in_it) ∙ e in record {
+          let same : item.id ∷ queue messages ≡ id ∷ rest = sym (ap (λ (r : Option Q). ahead (is_some r) item.id (queue messages)) in_it) ∙ e in record {
             place = 0;
-            letter = letter;
+            item = item;
             request = request;
             oldest = (refl, in_it, λ k other below at. absurd (omega (arith, below)));
             is = ap (λ (l : List ℕ). elim l [ [] ↦ id | x ∷ xs ↦ x ]) same;
@@ -149,61 +149,61 @@ module _ {Q F : Type 0} where
 
   -- nothing is in the order
   pub none_queued : (messages : List (Entry Q F)) → queue messages ≡ [] → NoneQueued messages
-  none_queued [] e place letter at = absurd (cc)
-  none_queued (Entry.gone fate ∷ messages) e zero letter at = absurd (not_here fate letter at)
-  none_queued (Entry.gone fate ∷ messages) e (suc place) letter at = none_queued messages e place letter at
-  none_queued (Entry.here first ∷ messages) e place letter at = by (none_queued messages) (is_some first.request) refl place at
+  none_queued [] e place item at = absurd (cc)
+  none_queued (Entry.gone fate ∷ messages) e zero item at = absurd (not_here fate item at)
+  none_queued (Entry.gone fate ∷ messages) e (suc place) item at = none_queued messages e place item at
+  none_queued (Entry.here first ∷ messages) e place item at = by (none_queued messages) (is_some first.request) refl place at
     where
-      by : (queue messages ≡ [] → NoneQueued messages) → (b : Bool) → is_some first.request ≡ b → (place : ℕ) → At (Entry.here first ∷ messages) place letter → letter.request ≡ None
+      by : (queue messages ≡ [] → NoneQueued messages) → (b : Bool) → is_some first.request ≡ b → (place : ℕ) → At (Entry.here first ∷ messages) place item → item.request ≡ None
       by next true is spot there = absurd (cc (sym (ap (λ b. ahead b first.id (queue messages)) is) ∙ e))
-      by next false is zero there = sym (ap (λ (l : Letter Q F). l.request) (here_is first letter there)) ∙ not_some first.request is
-      by next false is (suc spot) there = next (sym (ap (λ b. ahead b first.id (queue messages)) is) ∙ e) spot letter there
+      by next false is zero there = sym (ap (λ (l : SentMessage Q F). l.request) (here_is first item there)) ∙ not_some first.request is
+      by next false is (suc spot) there = next (sym (ap (λ b. ahead b first.id (queue messages)) is) ∙ e) spot item there
 
   pub empty_queue : (messages : List (Entry Q F)) → NoneQueued messages → queue messages ≡ []
   empty_queue [] none = refl
-  empty_queue (Entry.gone fate ∷ messages) none = empty_queue messages (λ place letter at. none (suc place) letter at)
+  empty_queue (Entry.gone fate ∷ messages) none = empty_queue messages (λ place item at. none (suc place) item at)
   empty_queue (Entry.here first ∷ messages) none =
-      ap (λ (r : Option Q). ahead (is_some r) first.id (queue messages)) (none 0 first refl) ∙ empty_queue messages (λ place letter at. none (suc place) letter at)
+      ap (λ (r : Option Q). ahead (is_some r) first.id (queue messages)) (none 0 first refl) ∙ empty_queue messages (λ place item at. none (suc place) item at)
 
   -- ---- what is kept, before and after a change
 
   pub holds_as : (old new : LinksView (Message Q F)) (messages : List (Entry Q F)) → new.order ≡ old.order → ((id : ℕ) → get new.entries id ≡ get old.entries id)
       → Holds old messages → Holds new messages
   holds_as old new messages order same h = record {
-    stands = λ place letter at. same letter.id ∙ h.stands place letter at;
+    stands = λ place item at. same item.id ∙ h.stands place item at;
     sent = λ id message there. h.sent id message (sym (same id) ∙ there);
     once = h.once;
     order = order ∙ h.order;
   }
 
-  pub none_with : (old : LinksView (Message Q F)) (messages : List (Entry Q F)) (id : ℕ) (P : Letter Q F → Type 0) → Holds old messages
-      → ((letter : Letter Q F) → get old.entries id ≡ Some (kept letter) → ¬ (P letter)) → NoneWith P messages id
-  none_with old messages id P h not place letter at is = not letter (ap (get old.entries) (sym is) ∙ h.stands place letter at)
+  pub none_with : (old : LinksView (Message Q F)) (messages : List (Entry Q F)) (id : ℕ) (P : SentMessage Q F → Type 0) → Holds old messages
+      → ((item : SentMessage Q F) → get old.entries id ≡ Some (kept item) → ¬ (P item)) → NoneWith P messages id
+  none_with old messages id P h not place item at is = not item (ap (get old.entries) (sym is) ∙ h.stands place item at)
 
   module _ (old new : LinksView (Message Q F)) (messages : List (Entry Q F)) (h : Holds old messages) where
-    module _ (place : ℕ) (letter : Letter Q F) (at : At messages place letter) where
-      elsewhere : (spot : ℕ) (other : Letter Q F) (slot : Option (Message Q F)) → spot ≢ place → At messages spot other → Updates old.entries new.entries letter.id slot
+    module _ (place : ℕ) (item : SentMessage Q F) (at : At messages place item) where
+      elsewhere : (spot : ℕ) (other : SentMessage Q F) (slot : Option (Message Q F)) → spot ≢ place → At messages spot other → Updates old.entries new.entries item.id slot
           → get new.entries other.id ≡ Some (kept other)
-      elsewhere spot other slot ne was updates = updates.others other.id (λ e. ne (h.once spot place other letter was at e)) ∙ h.stands spot other was
+      elsewhere spot other slot ne was updates = updates.others other.id (λ e. ne (h.once spot place other item was at e)) ∙ h.stands spot other was
 
-      still : (now : Entry Q F) (id : ℕ) (message : Message Q F) (slot : Option (Message Q F)) → id ≢ letter.id → Updates old.entries new.entries letter.id slot
+      still : (now : Entry Q F) (id : ℕ) (message : Message Q F) (slot : Option (Message Q F)) → id ≢ item.id → Updates old.entries new.entries item.id slot
           → get new.entries id ≡ Some message → (spot : ℕ) × At (slice_set messages place now) spot (known id message)
       still now id message slot ne updates there =
           let r = h.sent id message (sym (updates.others id ne) ∙ there) in
-          (r.0, set_other messages place r.0 now (λ e. ne (ap (λ (l : Letter Q F). l.id) (here_is (known id message) letter (sym (subst (λ (k : ℕ). At messages k (known id message)) e r.1) ∙ at)))) ∙ r.1)
+          (r.0, set_other messages place r.0 now (λ e. ne (ap (λ (l : SentMessage Q F). l.id) (here_is (known id message) item (sym (subst (λ (k : ℕ). At messages k (known id message)) e r.1) ∙ at)))) ∙ r.1)
 
-      pub holds_changed : (now : Letter Q F) → now.id ≡ letter.id → Updates old.entries new.entries letter.id (Some (kept now)) → new.order ≡ queue (slice_set messages place (Entry.here now))
+      pub holds_changed : (now : SentMessage Q F) → now.id ≡ item.id → Updates old.entries new.entries item.id (Some (kept now)) → new.order ≡ queue (slice_set messages place (Entry.here now))
           → Holds new (slice_set messages place (Entry.here now))
       holds_changed now is updates order = record {
         stands = λ spot other there. elim (eqb_tells spot place) [
-          | inl same ↦ subst (λ (l : Letter Q F). get new.entries l.id ≡ Some (kept l)) (is_now spot other same.1 there) (ap (get new.entries) is ∙ updates.changed)
+          | inl same ↦ subst (λ (l : SentMessage Q F). get new.entries l.id ≡ Some (kept l)) (is_now spot other same.1 there) (ap (get new.entries) is ∙ updates.changed)
           | inr differs ↦ elsewhere spot other (Some (kept now)) differs.1 (sym (set_other messages place spot (Entry.here now) differs.1) ∙ there) updates
         ];
-        sent = λ id message there. elim (eqb_tells id letter.id) [
+        sent = λ id message there. elim (eqb_tells id item.id) [
           | inl same ↦ (
             place,
-            set_same messages place (Entry.here now) (Entry.here letter) at
-                ∙ ap (λ (l : Letter Q F). Some (Entry.here l)) (known_is now id message (is ∙ sym same.1) (some_is (kept now) message (sym updates.changed ∙ sym (ap (get new.entries) same.1) ∙ there))),
+            set_same messages place (Entry.here now) (Entry.here item) at
+                ∙ ap (λ (l : SentMessage Q F). Some (Entry.here l)) (known_is now id message (is ∙ sym same.1) (some_is (kept now) message (sym updates.changed ∙ sym (ap (get new.entries) same.1) ∙ there))),
           )
           | inr differs ↦ still (Entry.here now) id message (Some (kept now)) differs.1 updates there
         ];
@@ -214,21 +214,21 @@ module _ {Q F : Type 0} where
         order = order;
       }
         where
-          is_now : (spot : ℕ) (other : Letter Q F) → spot ≡ place → At (slice_set messages place (Entry.here now)) spot other → now ≡ other
+          is_now : (spot : ℕ) (other : SentMessage Q F) → spot ≡ place → At (slice_set messages place (Entry.here now)) spot other → now ≡ other
           is_now spot other same there =
-              here_is now other (sym (set_same messages place (Entry.here now) (Entry.here letter) at) ∙ subst (λ (k : ℕ). At (slice_set messages place (Entry.here now)) k other) same there)
+              here_is now other (sym (set_same messages place (Entry.here now) (Entry.here item) at) ∙ subst (λ (k : ℕ). At (slice_set messages place (Entry.here now)) k other) same there)
 
-          was : (spot : ℕ) (other : Letter Q F) → At (slice_set messages place (Entry.here now)) spot other → (one : Letter Q F) × At messages spot one × (one.id ≡ other.id)
+          was : (spot : ℕ) (other : SentMessage Q F) → At (slice_set messages place (Entry.here now)) spot other → (one : SentMessage Q F) × At messages spot one × (one.id ≡ other.id)
           was spot other there = elim (eqb_tells spot place) [
-            | inl same ↦ (letter, subst (λ (k : ℕ). At messages k letter) (sym same.1) at, sym is ∙ ap (λ (l : Letter Q F). l.id) (is_now spot other same.1 there))
+            | inl same ↦ (item, subst (λ (k : ℕ). At messages k item) (sym same.1) at, sym is ∙ ap (λ (l : SentMessage Q F). l.id) (is_now spot other same.1 there))
             | inr differs ↦ (other, sym (set_other messages place spot (Entry.here now) differs.1) ∙ there, refl)
           ]
 
-      pub holds_gone : (fate : Fate F) → Updates old.entries new.entries letter.id None → new.order ≡ queue (slice_set messages place (Entry.gone fate))
+      pub holds_gone : (fate : Fate F) → Updates old.entries new.entries item.id None → new.order ≡ queue (slice_set messages place (Entry.gone fate))
           → Holds new (slice_set messages place (Entry.gone fate))
       holds_gone fate updates order = record {
         stands = λ spot other there. let w = was spot other there in elsewhere spot other None w.0 w.1 updates;
-        sent = λ id message there. elim (eqb_tells id letter.id) [
+        sent = λ id message there. elim (eqb_tells id item.id) [
           | inl same ↦ absurd (not_none message (sym there ∙ ap (get new.entries) same.1 ∙ updates.changed))
           | inr differs ↦ still (Entry.gone fate) id message None differs.1 updates there
         ];
@@ -236,10 +236,10 @@ module _ {Q F : Type 0} where
         order = order;
       }
         where
-          was : (spot : ℕ) (other : Letter Q F) → At (slice_set messages place (Entry.gone fate)) spot other → (spot ≢ place) × At messages spot other
+          was : (spot : ℕ) (other : SentMessage Q F) → At (slice_set messages place (Entry.gone fate)) spot other → (spot ≢ place) × At messages spot other
           was spot other there = elim (eqb_tells spot place) [
             | inl same ↦ absurd (not_here fate other
-                (sym (set_same messages place (Entry.gone fate) (Entry.here letter) at) ∙ subst (λ (k : ℕ). At (slice_set messages place (Entry.gone fate)) k other) same.1 there))
+                (sym (set_same messages place (Entry.gone fate) (Entry.here item) at) ∙ subst (λ (k : ℕ). At (slice_set messages place (Entry.gone fate)) k other) same.1 there))
             | inr differs ↦ (differs.1, sym (set_other messages place spot (Entry.gone fate) differs.1) ∙ there)
           ]
 
@@ -247,43 +247,43 @@ module _ {Q F : Type 0} where
     pub holds_pushed : (id : ℕ) (request : Q) → get old.entries id ≡ None → Updates old.entries new.entries id (Some (record { request = Some request; fate = Open }))
         → new.order ≡ old.order ++ id ∷ [] → Holds new (messages ++ Entry.here (record { id = id; request = Some request; fate = Open }) ∷ [])
     holds_pushed id request vacant updates order = record {
-      stands = λ place letter at. elim (at_last messages (Entry.here now) (Entry.here letter) place at) [
-        | inl was ↦ updates.others letter.id (fresh place letter was) ∙ h.stands place letter was
-        | inr last ↦ subst (λ (l : Letter Q F). get new.entries l.id ≡ Some (kept l)) (here_is now letter (ap Some last.1)) updates.changed
+      stands = λ place item at. elim (at_last messages (Entry.here now) (Entry.here item) place at) [
+        | inl was ↦ updates.others item.id (fresh place item was) ∙ h.stands place item was
+        | inr last ↦ subst (λ (l : SentMessage Q F). get new.entries l.id ≡ Some (kept l)) (here_is now item (ap Some last.1)) updates.changed
       ];
       sent = λ other message there. elim (eqb_tells other id) [
         | inl same ↦ (
           length messages,
           last_at messages (Entry.here now)
-              ∙ ap (λ (l : Letter Q F). Some (Entry.here l)) (known_is now other message (sym same.1) (some_is (kept now) message (sym updates.changed ∙ sym (ap (get new.entries) same.1) ∙ there))),
+              ∙ ap (λ (l : SentMessage Q F). Some (Entry.here l)) (known_is now other message (sym same.1) (some_is (kept now) message (sym updates.changed ∙ sym (ap (get new.entries) same.1) ∙ there))),
         )
         | inr differs ↦ let r = h.sent other message (sym (updates.others other differs.1) ∙ there) in (r.0, front_at messages (Entry.here now) (Entry.here (known other message)) r.0 r.1)
       ];
       once = λ place other one two first second same. elim (at_last messages (Entry.here now) (Entry.here one) place first) [
         | inl a ↦ elim (at_last messages (Entry.here now) (Entry.here two) other second) [
           | inl b ↦ h.once place other one two a b same
-          | inr b ↦ absurd (fresh place one a (same ∙ sym (ap (λ (l : Letter Q F). l.id) (here_is now two (ap Some b.1)))))
+          | inr b ↦ absurd (fresh place one a (same ∙ sym (ap (λ (l : SentMessage Q F). l.id) (here_is now two (ap Some b.1)))))
         ]
         | inr a ↦ elim (at_last messages (Entry.here now) (Entry.here two) other second) [
-          | inl b ↦ absurd (fresh other two b (sym same ∙ sym (ap (λ (l : Letter Q F). l.id) (here_is now one (ap Some a.1)))))
+          | inl b ↦ absurd (fresh other two b (sym same ∙ sym (ap (λ (l : SentMessage Q F). l.id) (here_is now one (ap Some a.1)))))
           | inr b ↦ a.0 ∙ sym b.0
         ]
       ];
       order = order ∙ ap (λ l. l ++ id ∷ []) h.order ∙ sym (queue_last messages id request Open);
     }
       where
-        now : Letter Q F
+        now : SentMessage Q F
         now = record { id = id; request = Some request; fate = Open }
 
-        fresh : (place : ℕ) (letter : Letter Q F) → At messages place letter → letter.id ≢ id
-        fresh place letter at is = not_none (kept letter) (sym (h.stands place letter at) ∙ ap (get old.entries) is ∙ vacant)
+        fresh : (place : ℕ) (item : SentMessage Q F) → At messages place item → item.id ≢ id
+        fresh place item at is = not_none (kept item) (sym (h.stands place item at) ∙ ap (get old.entries) is ∙ vacant)
 
 -- ---- the fields that say what is kept
 
-pub record Sorted {Q F E : Type 0} (stored : Option E) (letters : LinksView (Message Q F)) : Type 0 where
-  pub differ : are_apart letters.order ≡ true
-  pub linked : (id : ℕ) → has letters.order id ≡ is_queued (get letters.entries id)
-  pub sent : (id : ℕ) (message : Message Q F) → get letters.entries id ≡ Some message → Fits stored message
+pub record Sorted {Q F E : Type 0} (stored : Option E) (links : LinksView (Message Q F)) : Type 0 where
+  pub differ : are_apart links.order ≡ true
+  pub linked : (id : ℕ) → has links.order id ≡ is_queued (get links.entries id)
+  pub sent : (id : ℕ) (message : Message Q F) → get links.entries id ≡ Some message → Fits stored message
 
 -- where there is one, it fits
 abbrev pub FitsIf : {Q F E : Type 0} → Option E → Option (Message Q F) → Type 0

@@ -3,13 +3,13 @@ use Rattle.std.proofs.Common.{◌≡◌, ◌≢◌, ℕ, ◌+◌, ◌<◌, ◌�
 use Rattle.slab.specs.Slab.{Slab, get, slab_len, Updates}
 use Rattle.tower_base.specs.Links.{LinksView}
 use Rattle.tower_base.specs.Order.{has, without, first_or, Apart}
-use Rattle.tower_pool.specs.Letters.{FailsTaken, Fits, is_queued, taken_at}
-use Rattle.tower_pool.specs.Mail.{At, Clears, Entry, IsTaken, Letter, Mail, NoneQueued, NoneWith, OldestAt, Settles, is_over}
+use Rattle.tower_pool.specs.Messages.{FailsTaken, Fits, is_queued, taken_at}
+use Rattle.tower_pool.specs.Mail.{At, Clears, Entry, IsTaken, SentMessage, Mail, NoneQueued, NoneWith, OldestAt, Settles, is_over}
 use Rattle.tower_pool.specs.Mailbox.{Holds, kept, known, queue}
 use Rattle.tower_pool.specs.Waiting.{are_apart}
-use Rattle.tower_pool.specs.declared.buffer.letter.Fate.{Fate}
-use Rattle.tower_pool.specs.declared.buffer.letter.Fate.TheVariants.{Failed, Cancelled}
-use Rattle.tower_pool.specs.declared.buffer.letter.Message.{Message}
+use Rattle.tower_pool.specs.declared.buffer.message.Fate.{Fate}
+use Rattle.tower_pool.specs.declared.buffer.message.Fate.TheVariants.{Failed, Cancelled}
+use Rattle.tower_pool.specs.declared.buffer.message.Message.{Message}
 use Rattle.tower_pool.proofs.Fates.{by_none, some_is}
 use Rattle.tower_limit.proofs.KeysLemmas.{has_first, length_without, without_first, without_lacks}
 use Rattle.tower_pool.proofs.KeysLemmas.{apart_is}
@@ -18,16 +18,16 @@ use Rattle.tower_pool.proofs.Messages.{FitsIf, Sorted, first_queued, holds_chang
 
 module _ {Q F : Type 0} where
   -- none with this id is at the worker
-  pub not_taken : (letters : LinksView (Message Q F)) (messages : List (Entry Q F)) (id : ℕ) → Holds letters messages → taken_at (get letters.entries id) ≡ None
+  pub not_taken : (links : LinksView (Message Q F)) (messages : List (Entry Q F)) (id : ℕ) → Holds links messages → taken_at (get links.entries id) ≡ None
       → NoneWith IsTaken messages id
-  not_taken letters messages id h none = none_with letters messages id IsTaken h
-      (λ letter there is. by_none letter.request letter.fate (sym (ap taken_at there) ∙ none) is.0 is.1)
+  not_taken links messages id h none = none_with links messages id IsTaken h
+      (λ item there is. by_none item.request item.fate (sym (ap taken_at there) ∙ none) is.0 is.1)
 
   -- nobody waits for one with this id
-  pub not_known : (letters : LinksView (Message Q F)) (messages : List (Entry Q F)) (id : ℕ) → Holds letters messages
-      → ((message : Message Q F) → get letters.entries id ≡ Some message → message.fate ≡ Cancelled) → NoneWith (λ letter. letter.fate ≢ Cancelled) messages id
-  not_known letters messages id h cancelled = none_with letters messages id (λ letter. letter.fate ≢ Cancelled) h
-      (λ letter there ne. ne (cancelled (kept letter) there))
+  pub not_known : (links : LinksView (Message Q F)) (messages : List (Entry Q F)) (id : ℕ) → Holds links messages
+      → ((message : Message Q F) → get links.entries id ≡ Some message → message.fate ≡ Cancelled) → NoneWith (λ item. item.fate ≢ Cancelled) messages id
+  not_known links messages id h cancelled = none_with links messages id (λ item. item.fate ≢ Cancelled) h
+      (λ item there ne. ne (cancelled (kept item) there))
 
   -- a message that isn't queued is changed, or gone: its place among all, and what is held then
   pub record IsChanged (messages : List (Entry Q F)) (old new : LinksView (Message Q F)) (id : ℕ) (message now : Message Q F) : Type 0 where
@@ -65,15 +65,15 @@ module _ {Q F : Type 0} where
   -- the oldest queued message, and what is held once it has left the queue
   pub record IsFirst (messages : List (Entry Q F)) (old : LinksView (Message Q F)) (id : ℕ) : Type 0 where
     pub place : ℕ
-    pub letter : Letter Q F
+    pub item : SentMessage Q F
     pub request : Q
-    pub oldest : OldestAt messages place letter request
-    pub is : letter.id ≡ id
-    pub there : get old.entries id ≡ Some (kept letter)
+    pub oldest : OldestAt messages place item request
+    pub is : item.id ≡ id
+    pub there : get old.entries id ≡ Some (kept item)
     pub cleared : (new : LinksView (Message Q F)) (fate : Fate F) → Updates old.entries new.entries id None → new.order ≡ without old.order id
         → Holds new (slice_set messages place (Entry.gone fate))
-    pub opened : (new : LinksView (Message Q F)) → Updates old.entries new.entries id (Some (record { request = None; fate = letter.fate })) → new.order ≡ without old.order id
-        → Holds new (slice_set messages place (Entry.here (record letter { request = None })))
+    pub opened : (new : LinksView (Message Q F)) → Updates old.entries new.entries id (Some (record { request = None; fate = item.fate })) → new.order ≡ without old.order id
+        → Holds new (slice_set messages place (Entry.here (record item { request = None })))
 
   pub first : {E : Type 0} (messages : List (Entry Q F)) (old : LinksView (Message Q F)) (id : ℕ) (stored : Option E) → Holds old messages → Sorted stored old → first_or old.order None ≡ Some id
       → IsFirst messages old id
@@ -83,19 +83,19 @@ module _ {Q F : Type 0} where
       let lacks : has o.0 id ≡ false = (subst Apart o.1 (apart_is old.order s.differ)).0 in
       let left : without old.order id ≡ o.0 = ap (λ l. without l id) o.1 ∙ without_first id o.0 lacks in
       let rest : (now : Entry Q F) → ((more : List (Entry Q F)) → queue (now ∷ more) ≡ queue more) → without old.order id ≡ queue (slice_set messages r.place now) = λ now skip.
-      left ∙ tail_is id r.letter.id o.0 (queue (slice_set messages r.place now)) (sym o.1 ∙ h.order ∙ queue_first messages r.place r.letter r.request now r.oldest skip) in
+      left ∙ tail_is id r.item.id o.0 (queue (slice_set messages r.place now)) (sym o.1 ∙ h.order ∙ queue_first messages r.place r.item r.request now r.oldest skip) in
       record {
         place = r.place;
-        letter = r.letter;
+        item = r.item;
         request = r.request;
         oldest = r.oldest;
         is = r.is;
-        there = ap (get old.entries) (sym r.is) ∙ h.stands r.place r.letter r.oldest.0;
-        cleared = λ new fate updates order. holds_gone old new messages h r.place r.letter r.oldest.0 fate
+        there = ap (get old.entries) (sym r.is) ∙ h.stands r.place r.item r.oldest.0;
+        cleared = λ new fate updates order. holds_gone old new messages h r.place r.item r.oldest.0 fate
             (subst (λ (i : ℕ). Updates old.entries new.entries i None) (sym r.is) updates) (order ∙ rest (Entry.gone fate) (λ more. refl));
-        opened = λ new updates order. holds_changed old new messages h r.place r.letter r.oldest.0 (record r.letter { request = None }) refl
-            (subst (λ (i : ℕ). Updates old.entries new.entries i (Some (record { request = None; fate = r.letter.fate }))) (sym r.is) updates)
-            (order ∙ rest (Entry.here (record r.letter { request = None })) (λ more. refl));
+        opened = λ new updates order. holds_changed old new messages h r.place r.item r.oldest.0 (record r.item { request = None }) refl
+            (subst (λ (i : ℕ). Updates old.entries new.entries i (Some (record { request = None; fate = r.item.fate }))) (sym r.is) updates)
+            (order ∙ rest (Entry.here (record r.item { request = None })) (λ more. refl));
       }
     where
       tail_is : (a b : ℕ) (xs ys : List ℕ) → a ∷ xs ≡ b ∷ ys → xs ≡ ys
@@ -140,8 +140,8 @@ module _ {Q F : Type 0} where
 
 module _ {Q F E : Type 0} where
   -- where an error is stored now
-  pub wider : (was now : Option E) (letters : LinksView (Message Q F)) → is_some now ≡ true → Sorted was letters → Sorted now letters
-  wider was now letters some s = record { differ = s.differ; linked = s.linked; sent = λ id message there. ((λ failed. some), (s.sent id message there).1) }
+  pub wider : (was now : Option E) (links : LinksView (Message Q F)) → is_some now ≡ true → Sorted was links → Sorted now links
+  wider was now links some s = record { differ = s.differ; linked = s.linked; sent = λ id message there. ((λ failed. some), (s.sent id message there).1) }
 
   -- nothing else is known of one that isn't there
   pub none_fits : (stored : Option E) → FitsIf {Q = Q} {F = F} stored None
@@ -174,7 +174,7 @@ module _ {Q F E : Type 0} where
   sorted_either stored old new id false some s kept fails =
       let k = kept refl in (sorted_as stored old new s k.0 (λ id. ap (λ e. get e id) k.1), ap length k.0)
 
-  -- what holds of the letters once one that isn't queued was changed, or is gone
+  -- what holds of the links once one that isn't queued was changed, or is gone
   pub record IsSound (stored : Option E) (old new : LinksView (Message Q F)) (id : ℕ) (slot : Option (Message Q F)) (order : List ℕ) : Type 0 where
     pub sorted : Sorted stored new
     pub size : length new.order ≡ length old.order

@@ -3,11 +3,11 @@ use Rattle.std.proofs.Common.{◌≡◌, inl, inr, ℕ, zero, suc, true, false, 
 use Rattle.std.proofs.lemmas.List.{append_assoc, append-nil}
 use Rattle.tower_base.specs.Latch.{Serves}
 use Rattle.tower_base.specs.HistoryLemmas.{plain_run, serves_first}
-use Rattle.tower_pool.specs.Mail.{At, Clears, Entry, Letter, Mail, MailSteps, OldestAt, Settles, abandoned, blank, left_by}
+use Rattle.tower_pool.specs.Mail.{At, Clears, Entry, SentMessage, Mail, MailSteps, OldestAt, Settles, abandoned, blank, left_by}
 use Rattle.tower_pool.specs.MailHistory.{TakenAsSent, Within, sent, sent_by, taken, taken_by}
 use Rattle.tower_pool.specs.Mailbox.{Opens, StandsFor}
-use Rattle.tower_pool.specs.declared.buffer.letter.Fate.{Fate}
-use Rattle.tower_pool.specs.declared.buffer.letter.Fate.TheVariants.{Open, Answered, Failed as HasFailed, Cancelled, Lost as WasLost}
+use Rattle.tower_pool.specs.declared.buffer.message.Fate.{Fate}
+use Rattle.tower_pool.specs.declared.buffer.message.Fate.TheVariants.{Open, Answered, Failed as HasFailed, Cancelled, Lost as WasLost}
 use Rattle.tower_pool.specs.declared.buffer.mail.MailStep.{MailStep}
 use Rattle.tower_pool.specs.declared.buffer.mail.MailStep.TheVariants.{Join, Part, Reserve, Look, Cancel, Unreserve, Send, Take, Live, Answer, Fail, FailStored, Outcome, Forget, WorkerGone}
 use Rattle.tower_pool.specs.declared.buffer.mail.MailReply.{MailReply}
@@ -49,7 +49,7 @@ asked id (Some request) = (id, request) ∷ []
 
 module _ {Q F : Type 0} where
   abbrev one_waits : Entry Q F → List (ℕ × Q)
-  one_waits (Entry.here letter) = asked letter.id letter.request
+  one_waits (Entry.here item) = asked item.id item.request
   one_waits (Entry.gone fate) = []
 
   -- the messages that are queued
@@ -64,26 +64,26 @@ module _ {Q F : Type 0} where
   fewer_same : (old new : List (Entry Q F)) → new ≡ old → Fewer old new
   fewer_same old new e = same_within (waiting new) (waiting old) (ap waiting e)
 
-  fewer_set : (old : List (Entry Q F)) (spot : ℕ) (letter : Letter Q F) (now : Entry Q F) → At old spot letter → Within (one_waits now) (one_waits (Entry.here letter))
+  fewer_set : (old : List (Entry Q F)) (spot : ℕ) (item : SentMessage Q F) (now : Entry Q F) → At old spot item → Within (one_waits now) (one_waits (Entry.here item))
       → Fewer old (slice_set old spot now)
-  fewer_set [] spot letter now there w = absurd (cc)
-  fewer_set (first ∷ old) zero letter now there w =
+  fewer_set [] spot item now there w = absurd (cc)
+  fewer_set (first ∷ old) zero item now there w =
       within_both (one_waits now) (one_waits first) (waiting old) (waiting old)
       (subst (λ (e : Entry Q F). Within (one_waits now) (one_waits e)) (sym (ap (λ o. unwrap_or o first) there)) w) (all_within (waiting old))
-  fewer_set (first ∷ old) (suc spot) letter now there w =
-      within_both (one_waits first) (one_waits first) _ _ (all_within (one_waits first)) (fewer_set old spot letter now there w)
+  fewer_set (first ∷ old) (suc spot) item now there w =
+      within_both (one_waits first) (one_waits first) _ _ (all_within (one_waits first)) (fewer_set old spot item now there w)
 
-  left_waits : (letter : Letter Q F) (fate : Fate F) → Within (one_waits (left_by letter fate)) (one_waits (Entry.here letter))
-  left_waits letter Open = tt
-  left_waits letter Cancelled = tt
-  left_waits letter (Answered f) = all_within (one_waits (Entry.here letter))
-  left_waits letter HasFailed = all_within (one_waits (Entry.here letter))
-  left_waits letter WasLost = all_within (one_waits (Entry.here letter))
+  left_waits : (item : SentMessage Q F) (fate : Fate F) → Within (one_waits (left_by item fate)) (one_waits (Entry.here item))
+  left_waits item Open = tt
+  left_waits item Cancelled = tt
+  left_waits item (Answered f) = all_within (one_waits (Entry.here item))
+  left_waits item HasFailed = all_within (one_waits (Entry.here item))
+  left_waits item WasLost = all_within (one_waits (Entry.here item))
 
   fewer_left : (old : List (Entry Q F)) → Fewer old (abandoned old)
   fewer_left [] = tt
   fewer_left (Entry.gone fate ∷ old) = within_both (one_waits (Entry.gone fate)) (one_waits (Entry.gone fate)) _ _ (all_within (one_waits (Entry.gone fate))) (fewer_left old)
-  fewer_left (Entry.here letter ∷ old) = within_both (one_waits (left_by letter letter.fate)) (one_waits (Entry.here letter)) _ _ (left_waits letter letter.fate) (fewer_left old)
+  fewer_left (Entry.here item ∷ old) = within_both (one_waits (left_by item item.fate)) (one_waits (Entry.here item)) _ _ (left_waits item item.fate) (fewer_left old)
 
   -- the new one is queued behind the others
   queued_last : (old : List (Entry Q F)) (id : ℕ) (request : Q)
@@ -93,25 +93,25 @@ module _ {Q F : Type 0} where
       ap (λ (rest : List (ℕ × Q)). one_waits first ++ rest) (queued_last old id request) ∙ sym (append_assoc (one_waits first) (waiting old) ((id, request) ∷ []))
 
   -- the oldest is the first that is queued
-  oldest_first : (old : List (Entry Q F)) (spot : ℕ) (letter : Letter Q F) (request : Q) → OldestAt old spot letter request
-      → (letter.id, request) ∷ waiting (slice_set old spot (Entry.here (record letter { request = None }))) ≡ waiting old
-  oldest_first [] spot letter request o = absurd (let at = o.0 in cc)
-  oldest_first (first ∷ old) zero letter request o =
-      let same : first ≡ Entry.here letter = ap (λ o. unwrap_or o first) o.0 in
-      ap (λ (part : List (ℕ × Q)). part ++ waiting old) (sym (ap one_waits same ∙ ap (asked letter.id) o.1))
-  oldest_first (Entry.gone fate ∷ old) (suc spot) letter request o =
-      oldest_first old spot letter request (o.0, o.1, (λ k other low at. o.2 (suc k) other (omega (arith, low)) at))
-  oldest_first (Entry.here first ∷ old) (suc spot) letter request o =
+  oldest_first : (old : List (Entry Q F)) (spot : ℕ) (item : SentMessage Q F) (request : Q) → OldestAt old spot item request
+      → (item.id, request) ∷ waiting (slice_set old spot (Entry.here (record item { request = None }))) ≡ waiting old
+  oldest_first [] spot item request o = absurd (let at = o.0 in cc)
+  oldest_first (first ∷ old) zero item request o =
+      let same : first ≡ Entry.here item = ap (λ o. unwrap_or o first) o.0 in
+      ap (λ (part : List (ℕ × Q)). part ++ waiting old) (sym (ap one_waits same ∙ ap (asked item.id) o.1))
+  oldest_first (Entry.gone fate ∷ old) (suc spot) item request o =
+      oldest_first old spot item request (o.0, o.1, (λ k other low at. o.2 (suc k) other (omega (arith, low)) at))
+  oldest_first (Entry.here first ∷ old) (suc spot) item request o =
       let none : first.request ≡ None = o.2 0 first (omega arith) refl in
-      let more = oldest_first old spot letter request (o.0, o.1, (λ k other low at. o.2 (suc k) other (omega (arith, low)) at)) in
+      let more = oldest_first old spot item request (o.0, o.1, (λ k other low at. o.2 (suc k) other (omega (arith, low)) at)) in
       rw none more
 
 module _ {Q F E : Type 0} where
   -- a step that changes one message so
-  one : (old new : Mail Q F E) (spot : ℕ) (letter : Letter Q F) (now : Entry Q F) → At old.messages spot letter → Within (one_waits now) (one_waits (Entry.here letter))
+  one : (old new : Mail Q F E) (spot : ℕ) (item : SentMessage Q F) (now : Entry Q F) → At old.messages spot item → Within (one_waits now) (one_waits (Entry.here item))
       → new.messages ≡ slice_set old.messages spot now → Fewer old.messages new.messages
-  one old new spot letter now at w e = within_on (waiting new.messages) (waiting (slice_set old.messages spot now)) (waiting old.messages)
-      (fewer_same (slice_set old.messages spot now) new.messages e) (fewer_set old.messages spot letter now at w)
+  one old new spot item now at w e = within_on (waiting new.messages) (waiting (slice_set old.messages spot now)) (waiting old.messages)
+      (fewer_same (slice_set old.messages spot now) new.messages e) (fewer_set old.messages spot item now at w)
 
   behind : (xs : List (ℕ × Q)) (old : Mail Q F E) → Within xs (waiting old.messages) → Within xs (waiting old.messages ++ [])
   behind xs old w = subst (λ (all : List (ℕ × Q)). Within xs all) (sym (append-nil (waiting old.messages))) w
@@ -119,9 +119,9 @@ module _ {Q F E : Type 0} where
   as_was : (old new : Mail Q F E) → new.messages ≡ old.messages → Within (waiting new.messages) (waiting old.messages ++ [])
   as_was old new e = behind (waiting new.messages) old (fewer_same old.messages new.messages e)
 
-  changed : (old new : Mail Q F E) (spot : ℕ) (letter : Letter Q F) (now : Entry Q F) → At old.messages spot letter → Within (one_waits now) (one_waits (Entry.here letter))
+  changed : (old new : Mail Q F E) (spot : ℕ) (item : SentMessage Q F) (now : Entry Q F) → At old.messages spot item → Within (one_waits now) (one_waits (Entry.here item))
       → new.messages ≡ slice_set old.messages spot now → Within (waiting new.messages) (waiting old.messages ++ [])
-  changed old new spot letter now at w e = behind (waiting new.messages) old (one old new spot letter now at w e)
+  changed old new spot item now at w e = behind (waiting new.messages) old (one old new spot item now at w e)
 
   clears_fewer : (n : ℕ) (old new : Mail Q F E) → Clears n old new → Fewer old.messages new.messages
   clears_fewer zero old new c = fewer_same old.messages new.messages (ap (λ (m : Mail Q F E). m.messages) c)

@@ -3,9 +3,9 @@ use Rattle.std.proofs.Common.{◌≡◌, ◌≢◌, ◌<◌, ◌-◌, ℕ, true,
 use Rattle.tower_limit.specs.Line.{Ticket, Steps}
 use Rattle.tower_limit.specs.declared.limit.concurrency.line_core.LineStep.TheVariants.{Release}
 use Rattle.tower_limit.specs.declared.limit.concurrency.line_core.LineReply.TheVariants.{Left}
-use Rattle.tower_pool.specs.Mail.{At, Entry, Letter, Mail, MailSteps, Tells}
+use Rattle.tower_pool.specs.Mail.{At, Entry, SentMessage, Mail, MailSteps, Tells}
 use Rattle.tower_pool.specs.declared.buffer.mail.MailStep.TheVariants.{Outcome, Send}
-use Rattle.tower_pool.specs.declared.buffer.letter.Fate.TheVariants.{Failed as HasFailed}
+use Rattle.tower_pool.specs.declared.buffer.message.Fate.TheVariants.{Failed as HasFailed}
 use Rattle.tower_pool.specs.declared.buffer.mail.MailReply.{MailReply}
 use Rattle.tower_pool.specs.declared.buffer.mail.MailReply.TheVariants.{Memory, Failed, Closed}
 
@@ -41,10 +41,10 @@ module _ {Q F E : Type 0} where
   told_some mail (Some f) some t = t
 
   -- where the service failed, the message that asked is gone as the mail tells
-  pub told_failure : (mail : Mail Q F E) (id : ℕ) (reply : MailReply Q F E) (spot : ℕ) (letter : Letter Q F) → At mail.messages spot letter → letter.id ≡ id
-      → letter.fate ≡ HasFailed → is_some mail.stored ≡ true → Tells mail.stored reply → reply ≢ Memory
-      → MailSteps mail (Outcome id) reply (record mail { messages = slice_set mail.messages spot (Entry.gone letter.fate) })
-  told_failure mail id (Failed e) spot letter at is failed some t not = (spot, letter, at, is, failed, told_is mail mail.stored e t, refl)
-  told_failure mail id Closed spot letter at is failed some t not = absurd (told_some mail mail.stored some t)
-  told_failure mail id Memory spot letter at is failed some t not = absurd (not refl)
-  told_failure mail id reply spot letter at is failed some t not = absurd (told mail.stored reply t)
+  pub told_failure : (mail : Mail Q F E) (id : ℕ) (reply : MailReply Q F E) (spot : ℕ) (item : SentMessage Q F) → At mail.messages spot item → item.id ≡ id
+      → item.fate ≡ HasFailed → is_some mail.stored ≡ true → Tells mail.stored reply → reply ≢ Memory
+      → MailSteps mail (Outcome id) reply (record mail { messages = slice_set mail.messages spot (Entry.gone item.fate) })
+  told_failure mail id (Failed e) spot item at is failed some t not = (spot, item, at, is, failed, told_is mail mail.stored e t, refl)
+  told_failure mail id Closed spot item at is failed some t not = absurd (told_some mail mail.stored some t)
+  told_failure mail id Memory spot item at is failed some t not = absurd (not refl)
+  told_failure mail id reply spot item at is failed some t not = absurd (told mail.stored reply t)

@@ -7,8 +7,8 @@ use Rattle.tower_pool.specs.declared.buffer.error.Error.{Error}
 use Rattle.tower_pool.specs.declared.buffer.error.Error.TheVariants.{Inner, Service as HasFailed, Closed as IsClosed, Memory as NoMemory}
 use Rattle.tower_pool.specs.declared.buffer.seat.Seat.{Seat}
 use Rattle.tower_pool.specs.declared.buffer.seat.Seat.TheVariants.{Away, Asking, Reserved}
-use Rattle.tower_pool.specs.declared.buffer.seat.Stage.{Stage}
-use Rattle.tower_pool.specs.declared.buffer.seat.Stage.TheVariants.{Told, Sent as IsSent, Polls}
+use Rattle.tower_pool.specs.declared.buffer.seat.ResponseState.{ResponseState}
+use Rattle.tower_pool.specs.declared.buffer.seat.ResponseState.TheVariants.{Told, Sent as IsSent, Polls}
 use Rattle.tower_pool.specs.declared.buffer.mail.MailStep.{MailStep}
 use Rattle.tower_pool.specs.declared.buffer.mail.MailStep.TheVariants.{Join, Reserve, Look, Cancel, Unreserve, Send, Outcome, Forget}
 use Rattle.tower_pool.specs.declared.buffer.mail.MailReply.{MailReply}
@@ -63,7 +63,7 @@ module _ {L Q F E : Type 0} (gave : L → MailStep Q F E → MailReply Q F E →
   Polled old answer new = PolledAt old.seat old answer new
 
   -- what a call gives after the reply: a message that was sent takes the share along
-  abbrev pub Sends : BufferView L → L → MailReply Q F E → Stage L F (Error E) → BufferView L → Type 0
+  abbrev pub Sends : BufferView L → L → MailReply Q F E → ResponseState L F (Error E) → BufferView L → Type 0
   Sends old share (Sent id) future new = (future ≡ IsSent share id) × (new ≡ record { latch = old.latch; seat = Away; share = None })
   Sends old share (Failed e) future new = (future ≡ Told (Some (failed e))) × (new ≡ record old { seat = Away })
   Sends old share Closed future new = (future ≡ Told (Some IsClosed)) × (new ≡ record old { seat = Away })
@@ -72,7 +72,7 @@ module _ {L Q F E : Type 0} (gave : L → MailStep Q F E → MailReply Q F E →
   Sends old share _ future new = ⊥
 
   -- a call: one step, which sends into the reserved place
-  pub record Called (old : BufferView L) (request : Q) (future : Stage L F (Error E)) (new : BufferView L) : Type 0 where
+  pub record Called (old : BufferView L) (request : Q) (future : ResponseState L F (Error E)) (new : BufferView L) : Type 0 where
     pub reserved : old.seat ≡ Reserved
     pub share : L
     pub has : old.share ≡ Some share
@@ -92,7 +92,7 @@ Carries {E = E} {A = A} stepped old answer new = (inner : Poll (Result A E)) × 
 
 module _ {L Q F E A : Type 0} (gave : L → MailStep Q F E → MailReply Q F E → Type 0) (stepped : F → Poll (Result A E) → F → Type 0) where
   -- what a response answers after the reply to its question, and its stage then; a future that came is polled at once
-  abbrev pub Tells : L → ℕ → MailReply Q F E → Poll (Result A (Error E)) → Stage L F (Error E) → Type 0
+  abbrev pub Tells : L → ℕ → MailReply Q F E → Poll (Result A (Error E)) → ResponseState L F (Error E) → Type 0
   Tells latch id (Waiting again) answer new = (answer ≡ Pending) × (new ≡ IsSent latch id)
   Tells latch id Unknown answer new = (answer ≡ Pending) × (new ≡ IsSent latch id)
   Tells latch id (Future future) answer new = (left : F) × Carries stepped future answer left × (new ≡ Polls left)
@@ -102,21 +102,21 @@ module _ {L Q F E A : Type 0} (gave : L → MailStep Q F E → MailReply Q F E �
   Tells latch id _ answer new = ⊥
 
   -- a poll of the response: what was told at the call; one step that asks for the outcome; or one poll of the inner future
-  abbrev pub Stepped : Stage L F (Error E) → Poll (Result A (Error E)) → Stage L F (Error E) → Type 0
+  abbrev pub Stepped : ResponseState L F (Error E) → Poll (Result A (Error E)) → ResponseState L F (Error E) → Type 0
   Stepped (Told (Some error)) answer new = (answer ≡ Ready (Err error)) × (new ≡ Told None)
   Stepped (Told None) answer new = ⊥
   Stepped (IsSent latch id) answer new = (reply : MailReply Q F E) × gave latch (Outcome id) reply × Tells latch id reply answer new
   Stepped (Polls future) answer new = (left : F) × Carries stepped future answer left × (new ≡ Polls left)
 
 -- a response may be polled: it has something to tell, or asks, or its inner future may be polled
-abbrev pub CanPoll : {L F E : Type 0} → (F → Type 0) → Stage L F (Error E) → Type 0
+abbrev pub CanPoll : {L F E : Type 0} → (F → Type 0) → ResponseState L F (Error E) → Type 0
 CanPoll can_poll (Told (Some error)) = Unit {0}
 CanPoll can_poll (Told None) = ⊥
 CanPoll can_poll (IsSent latch id) = Unit {0}
 CanPoll can_poll (Polls future) = can_poll future
 
 -- the sources that a response waits for: those of its inner future
-abbrev pub Needs : {L F E : Type 0} → (F → ℕ → Type 0) → Stage L F E → ℕ → Type 0
+abbrev pub Needs : {L F E : Type 0} → (F → ℕ → Type 0) → ResponseState L F E → ℕ → Type 0
 Needs needs (Polls future) = needs future
 Needs needs _ = λ source. ⊥
 
@@ -127,7 +127,7 @@ GivesUp {Q = Q} {F = F} {E = E} gave latch (Asking key) = (reply : MailReply Q F
 GivesUp {Q = Q} {F = F} {E = E} gave latch Reserved = (reply : MailReply Q F E) × gave latch Unreserve reply
 
 -- a response that goes away before its outcome came makes the mail forget its message, by one step
-abbrev pub Forgets : {L Q F E X : Type 0} → (L → MailStep Q F E → MailReply Q F E → Type 0) → Stage L X (Error E) → Type 0
+abbrev pub Forgets : {L Q F E X : Type 0} → (L → MailStep Q F E → MailReply Q F E → Type 0) → ResponseState L X (Error E) → Type 0
 Forgets {Q = Q} {F = F} {E = E} gave (IsSent latch id) = (reply : MailReply Q F E) × gave latch (Forget id) reply
 Forgets gave _ = Unit {0}
 

@@ -1,15 +1,15 @@
 pub mod Buffer
 pub mod BufferReady
-pub mod Letters
 pub mod Mail
 pub mod MailHistory
 pub mod MailLaws
 pub mod Mailbox
 pub mod Making
+pub mod Messages
+pub mod Pending
 pub mod ReadyCache
 pub mod ReadyCacheLends
 pub mod ReadyCachePoll
 pub mod Waiting
-pub mod Waiters
 pub mod Worker
 pub mod WorkerOrder

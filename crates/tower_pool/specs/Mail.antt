@@ -3,22 +3,22 @@ use Rattle.std.specs.Prelude.{◌≡◌, ◌≢◌, ◌⊎◌, ◌<◌, ◌≤�
 use Rattle.tower_limit.specs.Line.{Ticket, Steps}
 use Rattle.tower_limit.specs.declared.limit.concurrency.line_core.LineStep.TheVariants.{Join as AskPlace, Look as SeePlace, Cancel as LeaveLine, Release}
 use Rattle.tower_limit.specs.declared.limit.concurrency.line_core.LineReply.TheVariants.{Granted, Waiting as Waits, Left, Unknown as NoTicket}
-use Rattle.tower_pool.specs.declared.buffer.letter.Fate.{Fate}
-use Rattle.tower_pool.specs.declared.buffer.letter.Fate.TheVariants.{Open, Answered, Failed as HasFailed, Cancelled, Lost as WasLost}
+use Rattle.tower_pool.specs.declared.buffer.message.Fate.{Fate}
+use Rattle.tower_pool.specs.declared.buffer.message.Fate.TheVariants.{Open, Answered, Failed as HasFailed, Cancelled, Lost as WasLost}
 use Rattle.tower_pool.specs.declared.buffer.mail.MailStep.{MailStep}
 use Rattle.tower_pool.specs.declared.buffer.mail.MailStep.TheVariants.{Join, Part, Reserve, Look, Cancel, Unreserve, Send, Take, Live, Answer, Fail, FailStored, Outcome, Forget, WorkerGone}
 use Rattle.tower_pool.specs.declared.buffer.mail.MailReply.{MailReply}
 use Rattle.tower_pool.specs.declared.buffer.mail.MailReply.TheVariants.{Done, Place, Waiting, Memory, Failed, Closed, Sent, Message, Cleared, Empty, End, Truth, Back, Future, Lost, Unknown}
 
 -- A message that has its id. It has its request while it is queued.
-pub record Letter (Q F : Type 0) : Type 0 where
+pub record SentMessage (Q F : Type 0) : Type 0 where
   pub id : ℕ
   pub request : Option Q
   pub fate : Fate F
 
 -- A message that was sent. It has its id, and its request while it is queued; or it is gone, with what became of it.
 pub data Entry (Q F : Type 0) : Type 0 where
-  here : Letter Q F → Entry Q F
+  here : SentMessage Q F → Entry Q F
   gone : Fate F → Entry Q F
 
 -- The line is that of permits: its tickets are the waiters, and those that hold one of the places, which are the reserved
@@ -50,52 +50,52 @@ Leave max (suc n) old new = (mid : List Ticket) × Steps max old Release Left mi
 
 module _ {Q F : Type 0} where
   -- this message, which has its id, stands at that place
-  abbrev pub At : List (Entry Q F) → ℕ → Letter Q F → Type 0
-  At messages place letter = slice_get messages place ≡ Some (Entry.here letter)
+  abbrev pub At : List (Entry Q F) → ℕ → SentMessage Q F → Type 0
+  At messages place item = slice_get messages place ≡ Some (Entry.here item)
 
   -- no message of which P holds has this id
-  abbrev pub NoneWith : (Letter Q F → Type 0) → List (Entry Q F) → ℕ → Type 0
-  NoneWith P messages id = (place : ℕ) (letter : Letter Q F) → At messages place letter → letter.id ≡ id → ¬ (P letter)
+  abbrev pub NoneWith : (SentMessage Q F → Type 0) → List (Entry Q F) → ℕ → Type 0
+  NoneWith P messages id = (place : ℕ) (item : SentMessage Q F) → At messages place item → item.id ≡ id → ¬ (P item)
 
   -- the worker has it, and it has no outcome, or nobody waits for it
-  abbrev pub IsTaken : Letter Q F → Type 0
-  IsTaken letter = (letter.request ≡ None) × ((letter.fate ≡ Open) ⊎ (letter.fate ≡ Cancelled))
+  abbrev pub IsTaken : SentMessage Q F → Type 0
+  IsTaken item = (item.request ≡ None) × ((item.fate ≡ Open) ⊎ (item.fate ≡ Cancelled))
 
   -- this one of the taken messages with the id stands at that place
-  abbrev pub TakenAt : List (Entry Q F) → ℕ → ℕ → Letter Q F → Type 0
-  TakenAt messages id place letter = At messages place letter × (letter.id ≡ id) × (letter.request ≡ None)
+  abbrev pub TakenAt : List (Entry Q F) → ℕ → ℕ → SentMessage Q F → Type 0
+  TakenAt messages id place item = At messages place item × (item.id ≡ id) × (item.request ≡ None)
 
   -- a taken message with the id has an outcome now, which it keeps; one that nobody waits for is gone
   abbrev pub Settles : Fate F → List (Entry Q F) → ℕ → List (Entry Q F) → Type 0
-  Settles fate old id new = (place : ℕ) × (letter : Letter Q F) × TakenAt old id place letter
-      × (((letter.fate ≡ Open) × (new ≡ slice_set old place (Entry.here (record letter { fate = fate }))))
-      ⊎ ((letter.fate ≡ Cancelled) × (new ≡ slice_set old place (Entry.gone Cancelled))))
+  Settles fate old id new = (place : ℕ) × (item : SentMessage Q F) × TakenAt old id place item
+      × (((item.fate ≡ Open) × (new ≡ slice_set old place (Entry.here (record item { fate = fate }))))
+      ⊎ ((item.fate ≡ Cancelled) × (new ≡ slice_set old place (Entry.gone Cancelled))))
 
   -- the oldest queued message stands at that place
-  abbrev pub OldestAt : List (Entry Q F) → ℕ → Letter Q F → Q → Type 0
-  OldestAt messages place letter request = At messages place letter × (letter.request ≡ Some request)
-      × ((before : ℕ) (other : Letter Q F) → before < place → At messages before other → other.request ≡ None)
+  abbrev pub OldestAt : List (Entry Q F) → ℕ → SentMessage Q F → Q → Type 0
+  OldestAt messages place item request = At messages place item × (item.request ≡ Some request)
+      × ((before : ℕ) (other : SentMessage Q F) → before < place → At messages before other → other.request ≡ None)
 
   -- no message is queued
   abbrev pub NoneQueued : List (Entry Q F) → Type 0
-  NoneQueued messages = (place : ℕ) (letter : Letter Q F) → At messages place letter → letter.request ≡ None
+  NoneQueued messages = (place : ℕ) (item : SentMessage Q F) → At messages place item → item.request ≡ None
 
   -- where the worker is gone, a message without an outcome is lost, and one that nobody waits for is gone
-  abbrev pub left_by : Letter Q F → Fate F → Entry Q F
-  left_by letter Open = Entry.here (record { id = letter.id; request = None; fate = WasLost })
-  left_by letter Cancelled = Entry.gone Cancelled
-  left_by letter _ = Entry.here letter
+  abbrev pub left_by : SentMessage Q F → Fate F → Entry Q F
+  left_by item Open = Entry.here (record { id = item.id; request = None; fate = WasLost })
+  left_by item Cancelled = Entry.gone Cancelled
+  left_by item _ = Entry.here item
 
   abbrev pub abandoned : List (Entry Q F) → List (Entry Q F)
   abandoned [] = []
   abandoned (Entry.gone fate ∷ rest) = Entry.gone fate ∷ abandoned rest
-  abandoned (Entry.here letter ∷ rest) = left_by letter letter.fate ∷ abandoned rest
+  abandoned (Entry.here item ∷ rest) = left_by item item.fate ∷ abandoned rest
 
   -- how many messages are queued
   abbrev pub queued : List (Entry Q F) → ℕ
   queued [] = 0
   queued (Entry.gone fate ∷ rest) = queued rest
-  queued (Entry.here letter ∷ rest) = (if is_some letter.request then 1 else 0) + queued rest
+  queued (Entry.here item ∷ rest) = (if is_some item.request then 1 else 0) + queued rest
 
 module _ {Q F E : Type 0} where
   -- what a closed mail tells: the stored error, or that it is closed; for want of memory for the error's clone, that
@@ -111,7 +111,7 @@ module _ {Q F E : Type 0} where
 
   -- the oldest queued message, which nobody waits for, leaves its place and is gone
   abbrev pub ClearsOldest : Mail Q F E → Mail Q F E → Type 0
-  ClearsOldest old new = (place : ℕ) × (letter : Letter Q F) × (request : Q) × OldestAt old.messages place letter request × (letter.fate ≡ Cancelled)
+  ClearsOldest old new = (place : ℕ) × (item : SentMessage Q F) × (request : Q) × OldestAt old.messages place item request × (item.fate ≡ Cancelled)
       × Steps old.bound old.line Release Left new.line
       × (new ≡ record old { line = new.line; messages = slice_set old.messages place (Entry.gone Cancelled) })
 
@@ -122,9 +122,9 @@ module _ {Q F E : Type 0} where
 
   -- the oldest queued message, which somebody waits for, leaves its place with its request
   abbrev pub TakesOldest : Mail Q F E → ℕ → Q → Mail Q F E → Type 0
-  TakesOldest old id request new = (place : ℕ) × (letter : Letter Q F) × OldestAt old.messages place letter request × (letter.fate ≡ Open) × (letter.id ≡ id)
+  TakesOldest old id request new = (place : ℕ) × (item : SentMessage Q F) × OldestAt old.messages place item request × (item.fate ≡ Open) × (item.id ≡ id)
       × Steps old.bound old.line Release Left new.line
-      × (new ≡ record old { line = new.line; messages = slice_set old.messages place (Entry.here (record letter { request = None })) })
+      × (new ≡ record old { line = new.line; messages = slice_set old.messages place (Entry.here (record item { request = None })) })
 
   -- The mail's machine: the step may give this reply and leave the new mail.
   abbrev pub MailSteps : Mail Q F E → MailStep Q F E → MailReply Q F E → Mail Q F E → Type 0
@@ -154,7 +154,7 @@ module _ {Q F E : Type 0} where
       × (new ≡ record old { line = new.line; reserved = old.reserved - 1 })
   MailSteps old Unreserve Unknown new = (old.reserved ≡ 0) × (new ≡ old)
   -- the reserved place becomes the message's; where the worker is gone it is used up, unless there is no memory
-  MailSteps old (Send request) (Sent id) new = (0 < old.reserved) × (old.has_worker ≡ true) × NoneWith (λ letter. Unit {0}) old.messages id
+  MailSteps old (Send request) (Sent id) new = (0 < old.reserved) × (old.has_worker ≡ true) × NoneWith (λ item. Unit {0}) old.messages id
       × (new ≡ record old { reserved = old.reserved - 1; messages = old.messages ++ Entry.here (record { id = id; request = Some request; fate = Open }) ∷ [] })
   MailSteps old (Send request) (Failed e) new = (0 < old.reserved) × (old.has_worker ≡ false) × Tells old.stored (Failed e)
       × Steps old.bound old.line Release Left new.line × (new ≡ record old { line = new.line; reserved = old.reserved - 1 })
@@ -168,13 +168,13 @@ module _ {Q F E : Type 0} where
   MailSteps old Take Empty new = NoneQueued old.messages × (is_over old ≡ false) × (new ≡ old)
   MailSteps old Take End new = NoneQueued old.messages × (is_over old ≡ true) × (new ≡ old)
   -- of a taken message: one that nobody waits for is gone
-  MailSteps old (Live id) (Truth true) new = (place : ℕ) × (letter : Letter Q F) × TakenAt old.messages id place letter × (letter.fate ≡ Open) × (new ≡ old)
-  MailSteps old (Live id) (Truth false) new = (place : ℕ) × (letter : Letter Q F) × TakenAt old.messages id place letter × (letter.fate ≡ Cancelled)
+  MailSteps old (Live id) (Truth true) new = (place : ℕ) × (item : SentMessage Q F) × TakenAt old.messages id place item × (item.fate ≡ Open) × (new ≡ old)
+  MailSteps old (Live id) (Truth false) new = (place : ℕ) × (item : SentMessage Q F) × TakenAt old.messages id place item × (item.fate ≡ Cancelled)
       × (new ≡ record old { messages = slice_set old.messages place (Entry.gone Cancelled) })
   MailSteps old (Live id) Unknown new = NoneWith IsTaken old.messages id × (new ≡ old)
-  MailSteps old (Answer id future) Done new = (place : ℕ) × (letter : Letter Q F) × TakenAt old.messages id place letter × (letter.fate ≡ Open)
-      × (new ≡ record old { messages = slice_set old.messages place (Entry.here (record letter { fate = Answered future })) })
-  MailSteps old (Answer id future) (Back back) new = (place : ℕ) × (letter : Letter Q F) × TakenAt old.messages id place letter × (letter.fate ≡ Cancelled)
+  MailSteps old (Answer id future) Done new = (place : ℕ) × (item : SentMessage Q F) × TakenAt old.messages id place item × (item.fate ≡ Open)
+      × (new ≡ record old { messages = slice_set old.messages place (Entry.here (record item { fate = Answered future })) })
+  MailSteps old (Answer id future) (Back back) new = (place : ℕ) × (item : SentMessage Q F) × TakenAt old.messages id place item × (item.fate ≡ Cancelled)
       × (back ≡ future) × (new ≡ record old { messages = slice_set old.messages place (Entry.gone Cancelled) })
   MailSteps old (Answer id future) Unknown new = NoneWith IsTaken old.messages id × (new ≡ old)
   -- the first error is stored, whether anybody waits for this message or not, and the mail is closed
@@ -184,21 +184,21 @@ module _ {Q F E : Type 0} where
   MailSteps old (FailStored id) Done new = (is_some old.stored ≡ true) × Settles HasFailed old.messages id new.messages × (new ≡ record old { messages = new.messages })
   MailSteps old (FailStored id) Unknown new = ((old.stored ≡ None) ⊎ NoneWith IsTaken old.messages id) × (new ≡ old)
   -- an outcome is handed out, and the message is gone
-  MailSteps old (Outcome id) (Waiting again) new = (place : ℕ) × (letter : Letter Q F) × At old.messages place letter × (letter.id ≡ id) × (letter.fate ≡ Open)
+  MailSteps old (Outcome id) (Waiting again) new = (place : ℕ) × (item : SentMessage Q F) × At old.messages place item × (item.id ≡ id) × (item.fate ≡ Open)
       × (again ≡ id) × (new ≡ old)
-  MailSteps old (Outcome id) (Future future) new = (place : ℕ) × (letter : Letter Q F) × At old.messages place letter × (letter.id ≡ id) × (letter.fate ≡ Answered future)
-      × (new ≡ record old { messages = slice_set old.messages place (Entry.gone letter.fate) })
-  MailSteps old (Outcome id) (Failed e) new = (place : ℕ) × (letter : Letter Q F) × At old.messages place letter × (letter.id ≡ id) × (letter.fate ≡ HasFailed)
-      × (old.stored ≡ Some e) × (new ≡ record old { messages = slice_set old.messages place (Entry.gone letter.fate) })
-  MailSteps old (Outcome id) Memory new = (place : ℕ) × (letter : Letter Q F) × At old.messages place letter × (letter.id ≡ id) × (letter.fate ≡ HasFailed) × (new ≡ old)
-  MailSteps old (Outcome id) Lost new = (place : ℕ) × (letter : Letter Q F) × At old.messages place letter × (letter.id ≡ id) × (letter.fate ≡ WasLost)
-      × (new ≡ record old { messages = slice_set old.messages place (Entry.gone letter.fate) })
-  MailSteps old (Outcome id) Unknown new = NoneWith (λ letter. letter.fate ≢ Cancelled) old.messages id × (new ≡ old)
+  MailSteps old (Outcome id) (Future future) new = (place : ℕ) × (item : SentMessage Q F) × At old.messages place item × (item.id ≡ id) × (item.fate ≡ Answered future)
+      × (new ≡ record old { messages = slice_set old.messages place (Entry.gone item.fate) })
+  MailSteps old (Outcome id) (Failed e) new = (place : ℕ) × (item : SentMessage Q F) × At old.messages place item × (item.id ≡ id) × (item.fate ≡ HasFailed)
+      × (old.stored ≡ Some e) × (new ≡ record old { messages = slice_set old.messages place (Entry.gone item.fate) })
+  MailSteps old (Outcome id) Memory new = (place : ℕ) × (item : SentMessage Q F) × At old.messages place item × (item.id ≡ id) × (item.fate ≡ HasFailed) × (new ≡ old)
+  MailSteps old (Outcome id) Lost new = (place : ℕ) × (item : SentMessage Q F) × At old.messages place item × (item.id ≡ id) × (item.fate ≡ WasLost)
+      × (new ≡ record old { messages = slice_set old.messages place (Entry.gone item.fate) })
+  MailSteps old (Outcome id) Unknown new = NoneWith (λ item. item.fate ≢ Cancelled) old.messages id × (new ≡ old)
   -- a message without an outcome is cancelled; any other is gone, and keeps its outcome
-  MailSteps old (Forget id) Done new = (place : ℕ) × (letter : Letter Q F) × At old.messages place letter × (letter.id ≡ id)
-      × (((letter.fate ≡ Open) × (new ≡ record old { messages = slice_set old.messages place (Entry.here (record letter { fate = Cancelled })) }))
-      ⊎ ((letter.fate ≢ Open) × (letter.fate ≢ Cancelled) × (new ≡ record old { messages = slice_set old.messages place (Entry.gone letter.fate) })))
-  MailSteps old (Forget id) Unknown new = NoneWith (λ letter. letter.fate ≢ Cancelled) old.messages id × (new ≡ old)
+  MailSteps old (Forget id) Done new = (place : ℕ) × (item : SentMessage Q F) × At old.messages place item × (item.id ≡ id)
+      × (((item.fate ≡ Open) × (new ≡ record old { messages = slice_set old.messages place (Entry.here (record item { fate = Cancelled })) }))
+      ⊎ ((item.fate ≢ Open) × (item.fate ≢ Cancelled) × (new ≡ record old { messages = slice_set old.messages place (Entry.gone item.fate) })))
+  MailSteps old (Forget id) Unknown new = NoneWith (λ item. item.fate ≢ Cancelled) old.messages id × (new ≡ old)
   -- the mail is closed, and each queued message leaves its place
   MailSteps old WorkerGone Done new = Leave old.bound (queued old.messages) (holding old.line) new.line
       × (new ≡ record old { line = new.line; messages = abandoned old.messages; is_closed = true; has_worker = false })

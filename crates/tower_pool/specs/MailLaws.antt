@@ -1,9 +1,9 @@
 -- What holds of every list of steps that mail makes.
 use Rattle.std.specs.Prelude.{◌≡◌, ◌⊎◌, ◌<◌, ℕ, suc, true, unwrap_or, Option, Some, None, List, slice_get}
 use Rattle.tower_base.specs.Latch.{Serves}
-use Rattle.tower_pool.specs.Mail.{At, Entry, Letter, Mail, MailSteps, Settles}
-use Rattle.tower_pool.specs.declared.buffer.letter.Fate.{Fate}
-use Rattle.tower_pool.specs.declared.buffer.letter.Fate.TheVariants.{Open, Failed}
+use Rattle.tower_pool.specs.Mail.{At, Entry, SentMessage, Mail, MailSteps, Settles}
+use Rattle.tower_pool.specs.declared.buffer.message.Fate.{Fate}
+use Rattle.tower_pool.specs.declared.buffer.message.Fate.TheVariants.{Open, Failed}
 use Rattle.tower_pool.specs.declared.buffer.mail.MailStep.{MailStep}
 use Rattle.tower_pool.specs.declared.buffer.mail.MailStep.TheVariants.{Fail, Take}
 use Rattle.tower_pool.specs.declared.buffer.mail.MailReply.{MailReply}
@@ -12,12 +12,12 @@ use Rattle.tower_pool.specs.declared.buffer.mail.MailReply.TheVariants.{Done, Me
 module _ {Q F : Type 0} where
   -- what became of a message so far
   abbrev pub fate_of : Entry Q F → Fate F
-  fate_of (Entry.here letter) = letter.fate
+  fate_of (Entry.here item) = item.fate
   fate_of (Entry.gone fate) = fate
 
   -- its request, while it is queued
   abbrev pub request_of : Entry Q F → Option Q
-  request_of (Entry.here letter) = letter.request
+  request_of (Entry.here item) = item.request
   request_of (Entry.gone fate) = None
 
   -- an outcome is kept, and who has left the queue stays out of it
@@ -36,8 +36,8 @@ EachOnce Q F E = (old new : Mail Q F E) (steps : List (MailStep Q F E × MailRep
 -- what is taken leaves the queue, where no older message is queued
 abbrev pub InOrder : (Q F E : Type 0) → Type 0
 InOrder Q F E = (old new : Mail Q F E) (id : ℕ) (request : Q) → MailSteps old Take (Message id request) new
-    → (place : ℕ) × (letter : Letter Q F) × At new.messages place letter × (letter.id ≡ id)
-    × ((before : ℕ) (other : Letter Q F) → before < suc place → At new.messages before other → other.request ≡ None)
+    → (place : ℕ) × (item : SentMessage Q F) × At new.messages place item × (item.id ≡ id)
+    × ((before : ℕ) (other : SentMessage Q F) → before < suc place → At new.messages before other → other.request ≡ None)
 
 -- a failure stores the first error, closes, and fails its message unless nobody waits for that, in one step
 abbrev pub FailsAtOnce : (Q F E : Type 0) → Type 0

@@ -3,7 +3,7 @@
 pub mod cache;
 pub mod error;
 mod iter;
-mod waiters;
+mod pending;
 
 pub use cache::ReadyCache;
 pub use iter::IterReady;

@@ -10,12 +10,12 @@ use Rattle.tower_base.specs.declared.service.Flow.{Ghosts as FlowOf}
 use Rattle.tower_base.specs.declared.service.Service.{Ghosts as ServiceOf}
 use Rattle.tower_base.specs.declared.service.Steps.{Ghosts as StepsOf}
 use Rattle.tower_ware.specs.CallAll.{AfterAsk, AfterFlow, AfterReady, Called, CallerView, Flowed, GoesOn, Pass, yielded}
-use Rattle.tower_ware.specs.Order.{IsCalm, Serves, after_kept, answers_of, unfailing}
-use Rattle.tower_ware.specs.declared.util.call_all.drive.Drive.{Ghosts as DriveOf}
+use Rattle.tower_ware.specs.CallOrder.{IsCalm, Serves, after_kept, answers_of, unfailing}
+use Rattle.tower_ware.specs.declared.util.call_all.call_queue.CallQueue.{Ghosts as CallQueueOf}
 use Rattle.tower_ware.specs.declared.util.call_all.error.Error.{Error}
 
 -- A queue, by the answers that it may yet give, in call order. Same ties the call order of answers to the order in which they are yielded.
-pub record Behaves {D N T : Type 0} (d : DriveOf D T N) (gives : N → T → Type 0) (Holds : D → List T → Type 0) (Same : List T → List T → Type 0) : Type 0 where
+pub record Behaves {D N T : Type 0} (d : CallQueueOf D T N) (gives : N → T → Type 0) (Holds : D → List T → Type 0) (Same : List T → List T → Type 0) : Type 0 where
   pub answers : (old new : D) (x : T) (xs more ys : List T) → d.asked old (Ready (Some x)) new → Holds new xs → Same (xs ++ more) ys
       → (bs : List T) × Holds old bs × Same (bs ++ more) (x ∷ ys)
   pub waits : (old new : D) (xs : List T) → d.asked old Pending new → Holds new xs → Holds old xs
@@ -52,7 +52,7 @@ answers_yielded : {A E : Type 0} (x : Result A E) (items : List (Result A (Error
 answers_yielded (Ok x) items = refl
 answers_yielded (Err e) items = refl
 
-module _ {V Q D N A E R : Type 0} (sv : ServiceOf V R A E N) (fl : FlowOf Q R) (st : StepsOf N (Result A E)) (dr : DriveOf D (Result A E) N)
+module _ {V Q D N A E R : Type 0} (sv : ServiceOf V R A E N) (fl : FlowOf Q R) (st : StepsOf N (Result A E)) (dr : CallQueueOf D (Result A E) N)
     (Holds : D → List (Result A E) → Type 0) (Same : List (Result A E) → List (Result A E) → Type 0)
     (queue : Behaves dr (MayGive st.stepped) Holds Same) where
   abbrev St : Type 0

@@ -7,8 +7,8 @@ use Rattle.tower_base.specs.Passes.{Goes}
 use Rattle.tower_base.specs.declared.service.Flow.{Ghosts as FlowOf}
 use Rattle.tower_base.specs.declared.service.Service.{Ghosts as ServiceOf}
 use Rattle.tower_ware.specs.CallAll.{AfterAsk, AfterFlow, AfterReady, Called, CallerView, Flowed, GoesOn, Pass}
-use Rattle.tower_ware.specs.Order.{IsCalm, unfailing}
-use Rattle.tower_ware.specs.declared.util.call_all.drive.Drive.{Ghosts as DriveOf}
+use Rattle.tower_ware.specs.CallOrder.{IsCalm, unfailing}
+use Rattle.tower_ware.specs.declared.util.call_all.call_queue.CallQueue.{Ghosts as CallQueueOf}
 use Rattle.tower_ware.specs.declared.util.call_all.error.Error.{Error}
 
 goes_map : {V A : Type 0} (p q : V → Option A → V → Type 0) → ((v w : V) → p v None w → q v None w) → (n : ℕ) (v w : V) → Goes p n v w → Goes q n v w
@@ -29,7 +29,7 @@ module _ {F A : Type 0} (p q : F → Poll (Option A) → F → Type 0) (h : (f g
   unfolding MayYield
   may_yield_map f xs last x = yields_map xs last f x
 
-module _ {V Q D N A E R : Type 0} (sv : ServiceOf V R A E N) (fl : FlowOf Q R) (dr : DriveOf D (Result A E) N)
+module _ {V Q D N A E R : Type 0} (sv : ServiceOf V R A E N) (fl : FlowOf Q R) (dr : CallQueueOf D (Result A E) N)
     (never : (v w : V) (e : E) → ¬ sv.polled v (Ready (Err e)) w) where
   abbrev Outcome : Type 0
   Outcome = Option (Poll (Option (Result A (Error E))))

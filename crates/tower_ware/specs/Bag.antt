@@ -4,7 +4,7 @@ use Rattle.futures.specs.declared.task.Poll.{Poll}
 use Rattle.futures.specs.declared.task.Poll.TheVariants.{Ready, Pending}
 use Rattle.tower_base.specs.declared.service.Steps.{Ghosts as StepsOf}
 use Rattle.tower_ware.specs.Queue.{Queue, Empty, Grown, HasRoom, Pushed}
-use Rattle.tower_ware.specs.declared.util.call_all.drive.Drive.{Ghosts as DriveOf}
+use Rattle.tower_ware.specs.declared.util.call_all.call_queue.CallQueue.{Ghosts as CallQueueOf}
 
 -- the answer of a queue of these futures, from that of the first that has one
 abbrev pub answer_of : {F T : Type 0} → List F → Option T → Poll (Option T)
@@ -30,7 +30,7 @@ module _ {F T : Type 0} (f : StepsOf F T) where
       (first : Option T) × EachAsked old.calls first new.calls × (answer ≡ answer_of old.calls first) × (new.room ≡ old.room)
 
 -- what a `Bag` of such futures does
-abbrev pub bag : {F T : Type 0} → StepsOf F T → (F → Type 0) → DriveOf (Queue F) T F
+abbrev pub bag : {F T : Type 0} → StepsOf F T → (F → Type 0) → CallQueueOf (Queue F) T F
 bag f can_poll = record {
   sound = λ q. All can_poll q.calls;
   has_room = HasRoom;

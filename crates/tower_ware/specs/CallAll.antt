@@ -7,10 +7,10 @@ use Rattle.tower_base.specs.declared.service.Flow.{Ghosts as FlowOf}
 use Rattle.tower_base.specs.declared.service.Service.{Ghosts as ServiceOf}
 use Rattle.tower_base.specs.declared.service.Steps.{Ghosts as StepsOf}
 use Rattle.tower_ware.specs.Bag.{bag}
-use Rattle.tower_ware.specs.Line.{line}
+use Rattle.tower_ware.specs.OrderedCalls.{line}
 use Rattle.tower_ware.specs.Queue.{Queue, Empty}
 use Rattle.tower_ware.specs.declared.util.call_all.caller.Caller.{Caller}
-use Rattle.tower_ware.specs.declared.util.call_all.drive.Drive.{Ghosts as DriveOf}
+use Rattle.tower_ware.specs.declared.util.call_all.call_queue.CallQueue.{Ghosts as CallQueueOf}
 use Rattle.tower_ware.specs.declared.util.call_all.error.Error.{Error}
 use Rattle.tower_ware.specs.declared.util.call_all.error.Error.TheVariants.{Inner, Memory}
 use Rattle.tower_ware.specs.declared.util.call_all.slot.Slot.{Slot}
@@ -46,7 +46,7 @@ abbrev pub yielded : {A E : Type 0} → Result A E → Result A (Error E)
 yielded (Ok x) = Ok x
 yielded (Err e) = Err (Inner e)
 
-module _ {S Q D R A E F : Type 0} (s : ServiceOf S R A E F) (q : FlowOf Q R) (d : DriveOf D (Result A E) F) where
+module _ {S Q D R A E F : Type 0} (s : ServiceOf S R A E F) (q : FlowOf Q R) (d : CallQueueOf D (Result A E) F) where
   -- what comes of one pass: no answer yet, or the poll's
   abbrev pub Answer : Type 0
   Answer = Option (Poll (Option (Result A (Error E))))

@@ -4,14 +4,14 @@ ghost use Rattle.futures.specs.Poll.{OnPending};
 ghost use Rattle.futures.specs.Task.{Covers, Keeps};
 ghost use Rattle.tower_base.specs.Gives.{IsStep, MayGive};
 ghost use Rattle.tower_pool.specs.Buffer.{CanPoll, Carries, Forgets, Needs, Stepped};
-ghost use Rattle.tower_pool.specs.declared.buffer.seat.Stage.{Stage};
-ghost use Rattle.tower_pool.specs.declared.buffer.seat.Stage.TheVariants.{Told, Sent as IsSent};
+ghost use Rattle.tower_pool.specs.declared.buffer.seat.ResponseState.{ResponseState};
+ghost use Rattle.tower_pool.specs.declared.buffer.seat.ResponseState.TheVariants.{Told, Sent as IsSent};
 ghost use Rattle.tower_pool.specs.declared.buffer.error.Error.{Error as BufferError};
 
 use crate::buffer::error::{Error, ServiceError};
 use crate::buffer::mail::{MailReply, MailStep};
 use crate::buffer::mail_core::MailCore;
-use crate::buffer::seat::Stage;
+use crate::buffer::seat::ResponseState;
 use futures::future::Future;
 use futures::task::{Context, Poll};
 use std::marker::{Model, PhantomData};
@@ -30,15 +30,15 @@ pub struct ResponseFuture<
     E: Clone,
     L: Latch<MailCore<Request, Pollable<F>, E>>,
 > {
-    stage: Stage<L, F, Error<E>>,
+    state: ResponseState<L, F, Error<E>>,
     of: PhantomData<(Request, E)>,
 }
 
 impl<Request: Drop, F: Steps + Drop, E: Clone, L: Latch<MailCore<Request, Pollable<F>, E>>> Model
     for ResponseFuture<Request, F, E, L> {
-    ghost Value = { Stage L F (BufferError E) };
+    ghost Value = { ResponseState L F (BufferError E) };
 
-    ghost view = { λ f. f.stage };
+    ghost view = { λ f. f.state };
 }
 
 impl<Request: Drop, F: Steps + Drop, E: Clone, L: Latch<MailCore<Request, Pollable<F>, E>>> Drop
@@ -46,10 +46,10 @@ impl<Request: Drop, F: Steps + Drop, E: Clone, L: Latch<MailCore<Request, Pollab
     fn drop(self)
         ensures { Forgets L.gave self }
     {
-        if let Stage::Sent(latch, id) = &self.stage {
+        if let ResponseState::Sent(latch, id) = &self.state {
             latch.step(MailStep::Forget(*id));
         }
-        let ResponseFuture { stage: _, of: _ } = self;
+        let ResponseFuture { state: _, of: _ } = self;
     }
 }
 
@@ -63,7 +63,7 @@ impl<
         ensures { result ≡ IsSent latch id }
     {
         ResponseFuture {
-            stage: Stage::Sent(latch, id),
+            state: ResponseState::Sent(latch, id),
             of: PhantomData,
         }
     }
@@ -72,7 +72,7 @@ impl<
         ensures { result ≡ Told (Some error) }
     {
         ResponseFuture {
-            stage: Stage::Told(Some(error)),
+            state: ResponseState::Told(Some(error)),
             of: PhantomData,
         }
     }
@@ -118,26 +118,26 @@ where
     ghost stepped = { Stepped L.gave F.stepped };
 
     fn step(&mut self, cx: &mut Context<'_>) -> Poll<Self::Output> {
-        let (latch, id) = match &mut self.stage {
-            Stage::Told(error) => return Poll::Ready(Err(error.take().unwrap())),
-            Stage::Polls(future) => return carry(future, cx),
-            Stage::Sent(latch, id) => (latch, *id),
+        let (latch, id) = match &mut self.state {
+            ResponseState::Told(error) => return Poll::Ready(Err(error.take().unwrap())),
+            ResponseState::Polls(future) => return carry(future, cx),
+            ResponseState::Sent(latch, id) => (latch, *id),
         };
         match latch.wait(MailStep::Outcome(id), cx) {
             MailReply::Waiting(_) => Poll::Pending,
             MailReply::Unknown => cx.yield_now(),
             MailReply::Memory => Poll::Ready(Err(Error::Memory)),
             MailReply::Failed(error) => {
-                self.stage = Stage::Told(None);
+                self.state = ResponseState::Told(None);
                 Poll::Ready(Err(Error::Service(ServiceError { error })))
             }
             MailReply::Lost => {
-                self.stage = Stage::Told(None);
+                self.state = ResponseState::Told(None);
                 Poll::Ready(Err(Error::Closed))
             }
             MailReply::Future(future) => {
-                self.stage = Stage::Polls(future.into_inner());
-                let Stage::Polls(future) = &mut self.stage else {
+                self.state = ResponseState::Polls(future.into_inner());
+                let ResponseState::Polls(future) = &mut self.state else {
                     unreachable!();
                 };
                 carry(future, cx)

@@ -90,7 +90,7 @@ impl<Request: Drop, F: Drop, E: Clone> Core for MailCore<Request, F, E> {
             MailStep::Fail(id, error) => self.mail.fail(id, error),
             MailStep::FailStored(id) => self.mail.fail_stored(id),
             MailStep::Outcome(id) => self.mail.outcome(id),
-            MailStep::Forget(id) => self.mail.give_up(id),
+            MailStep::Forget(id) => self.mail.forget_message(id),
             MailStep::WorkerGone => self.mail.worker_gone(),
         }
     }

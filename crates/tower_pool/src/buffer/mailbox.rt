@@ -3,18 +3,18 @@ ghost use Rattle.std.specs.Prelude.{◌≡◌, ◌<◌, ◌≤◌, ◌+◌, ◌^
 ghost use Rattle.slab.specs.Slab.{get, slab_len, ContainsKey, Updates};
 ghost use Rattle.tower_base.specs.Order.{has, without, first_or};
 ghost use Rattle.tower_limit.specs.WaitQueue.{granted, room, size, waiting};
-ghost use Rattle.tower_pool.specs.Letters.{Ended, FailsTaken, Fits, fate_at, is_cancelled, is_queued, lost, taken_at};
+ghost use Rattle.tower_pool.specs.Messages.{Ended, FailsTaken, Fits, fate_at, is_cancelled, is_queued, lost, taken_at};
 ghost use Rattle.tower_pool.specs.Mail.{Tells};
 ghost use Rattle.tower_pool.specs.Waiting.{are_apart};
-ghost use Rattle.tower_pool.specs.declared.buffer.letter.Message.{Message};
+ghost use Rattle.tower_pool.specs.declared.buffer.message.Message.{Message};
 
-use crate::buffer::letter::{Fate, Message};
 use crate::buffer::mail::{MailReply, MailStep};
+use crate::buffer::message::{Fate, Message};
 use std::alloc::{AllocError, Global};
 use tower_base::links::Links;
 use tower_limit::wait_queue::{Turn, WaitQueue};
 
-type Letters<Request, F> = Links<Message<Request, F>>;
+type Messages<Request, F> = Links<Message<Request, F>>;
 
 /// The reserved places, the queue of those who wait for places, and the messages that have their ids, which
 /// are their keys.
@@ -27,19 +27,19 @@ pub(crate) struct Mailbox<Request, F, E> {
     bound: usize,
     reserved: usize,
     queue: WaitQueue,
-    letters: Letters<Request, F>,
+    messages: Messages<Request, F>,
     buffers: u64,
     stored: Option<E>,
     closed: bool,
     has_worker: bool,
     ghost limit: { bound < 2 ^ 64 },
-    ghost fits: { reserved + length letters.order + granted queue ≤ bound },
+    ghost fits: { reserved + length messages.order + granted queue ≤ bound },
     // Nobody waits without a place while one is free.
-    ghost full: { 0 < waiting queue → reserved + length letters.order + granted queue ≡ bound },
-    ghost room: { slab_len letters.entries + reserved + size queue ≤ letters.entries.capacity },
-    ghost differ: { are_apart letters.order ≡ true },
-    ghost linked: { (id : ℕ) → has letters.order id ≡ is_queued (get letters.entries id) },
-    ghost sent: { (id : ℕ) (message : Message Request F) → get letters.entries id ≡ Some message → Fits stored message },
+    ghost full: { 0 < waiting queue → reserved + length messages.order + granted queue ≡ bound },
+    ghost room: { slab_len messages.entries + reserved + size queue ≤ messages.entries.capacity },
+    ghost differ: { are_apart messages.order ≡ true },
+    ghost linked: { (id : ℕ) → has messages.order id ≡ is_queued (get messages.entries id) },
+    ghost sent: { (id : ℕ) (message : Message Request F) → get messages.entries id ≡ Some message → Fits stored message },
 }
 
 impl<Request, F, E> Mailbox<Request, F, E> {
@@ -55,7 +55,7 @@ impl<Request, F, E> Mailbox<Request, F, E> {
             bound,
             reserved: 0,
             queue: WaitQueue::new(alloc),
-            letters: Links::new(alloc),
+            messages: Links::new(alloc),
             buffers: 1,
             stored: None,
             closed: false,
@@ -87,9 +87,9 @@ impl<Request, F, E> Mailbox<Request, F, E> {
 
     // How many places are free.
     fn free(&self) -> usize
-        ensures { result + (self.now.reserved + length self.now.letters.order + granted self.now.queue) ≡ self.now.bound }
+        ensures { result + (self.now.reserved + length self.now.messages.order + granted self.now.queue) ≡ self.now.bound }
     {
-        self.bound - (self.reserved + self.letters.len() + self.queue.granted())
+        self.bound - (self.reserved + self.messages.len() + self.queue.granted())
     }
 
     pub(crate) fn cancel(&mut self, key: u64) -> MailReply<Request, F, E>
@@ -120,8 +120,8 @@ impl<Request, F, E> Mailbox<Request, F, E> {
     // Waits, where no place is free. There is room for its message.
     fn queue_up(&mut self) -> MailReply<Request, F, E>
         requires closed { self.old.closed ≡ false }
-        requires full { self.old.bound ≤ self.old.reserved + length self.old.letters.order + granted self.old.queue }
-        requires room { slab_len self.old.letters.entries + self.old.reserved + size self.old.queue < self.old.letters.entries.capacity }
+        requires full { self.old.bound ≤ self.old.reserved + length self.old.messages.order + granted self.old.queue }
+        requires room { slab_len self.old.messages.entries + self.old.reserved + size self.old.queue < self.old.messages.entries.capacity }
         ensures follows { Follows self.old MailStep.Reserve result self.new }
         ensures excused { result ≡ MailReply.Memory → room self.old.queue ≤ size self.old.queue }
         ensures touches { touches self.new ≤ touches self.old + 6 }
@@ -147,12 +147,12 @@ impl<Request: Drop, F, E: Clone> Mailbox<Request, F, E> {
             return shut(&self.stored);
         }
         // No more messages are promised room than there is, so that their number fits in a `usize`.
-        let _capacity = self.letters.capacity();
+        let _capacity = self.messages.capacity();
         let promised = self.reserved + self.queue.granted() + self.queue.waiting();
         if promised == usize::MAX {
             return MailReply::Memory;
         }
-        let Ok(()) = self.letters.reserve(promised + 1) else {
+        let Ok(()) = self.messages.reserve(promised + 1) else {
             return MailReply::Memory;
         };
         if 0 < self.free() {
@@ -191,7 +191,7 @@ impl<Request: Drop, F, E: Clone> Mailbox<Request, F, E> {
         if !self.has_worker {
             return self.refuse(request);
         }
-        let id = self.letters.push_back(Message {
+        let id = self.messages.push_back(Message {
             request: Some(request),
             fate: Fate::Open,
         });
@@ -228,8 +228,8 @@ impl<Request: Drop, F: Drop, E: Drop> Mailbox<Request, F, E> {
         ensures few { FewEach self.old self.new }
     {
         let mut cleared = false;
-        'clearing: while let Some(first) = self.letters.front() {
-            if !is_cancelled_at(&mut self.letters, first) {
+        'clearing: while let Some(first) = self.messages.front() {
+            if !is_cancelled_at(&mut self.messages, first) {
                 return self.take_first(first);
             }
             self.clear_first(first);
@@ -253,25 +253,25 @@ impl<Request: Drop, F: Drop, E: Drop> Mailbox<Request, F, E> {
 
     // The oldest queued message, which nobody waits for.
     fn clear_first(&mut self, id: usize)
-        requires oldest { first_or self.old.letters.order None ≡ Some id }
-        requires cancelled { (message : Message Request F) → get self.old.letters.entries id ≡ Some message → message.fate ≡ Fate.Cancelled }
+        requires oldest { first_or self.old.messages.order None ≡ Some id }
+        requires cancelled { (message : Message Request F) → get self.old.messages.entries id ≡ Some message → message.fate ≡ Fate.Cancelled }
         ensures clears { Changes ClearsOldest self.old self.new }
-        ensures fewer { length self.new.letters.order + 1 ≡ length self.old.letters.order }
+        ensures fewer { length self.new.messages.order + 1 ≡ length self.old.messages.order }
         ensures few { touches self.new ≤ touches self.old + 4 }
     {
-        self.letters.remove(id);
+        self.messages.remove(id);
         self.queue.admit();
     }
 
     // The oldest queued message, which somebody waits for.
     fn take_first(&mut self, id: usize) -> MailReply<Request, F, E>
-        requires oldest { first_or self.old.letters.order None ≡ Some id }
-        requires open { (message : Message Request F) → get self.old.letters.entries id ≡ Some message → message.fate ≡ Fate.Open }
+        requires oldest { first_or self.old.messages.order None ≡ Some id }
+        requires open { (message : Message Request F) → get self.old.messages.entries id ≡ Some message → message.fate ≡ Fate.Open }
         ensures takes { (request : Request) × (result ≡ MailReply.Message id request) × Changes (λ old new. TakesOldest old id request new) self.old self.new }
-        ensures fewer { length self.new.letters.order + 1 ≡ length self.old.letters.order }
+        ensures fewer { length self.new.messages.order + 1 ≡ length self.old.messages.order }
         ensures few { touches self.new ≤ touches self.old + 5 }
     {
-        let request = open_first(&mut self.letters, id);
+        let request = open_first(&mut self.messages, id);
         self.queue.admit();
         MailReply::Message(id as u64, request)
     }
@@ -280,13 +280,13 @@ impl<Request: Drop, F: Drop, E: Drop> Mailbox<Request, F, E> {
         ensures follows { Follows self.old (MailStep.Live id) result self.new }
         ensures touches { touches self.new ≤ touches self.old + 6 }
     {
-        let Some(open) = taken(&mut self.letters, id as usize) else {
+        let Some(open) = taken(&mut self.messages, id as usize) else {
             return MailReply::Unknown;
         };
         if open {
             return MailReply::Truth(true);
         }
-        self.letters.remove(id as usize);
+        self.messages.remove(id as usize);
         MailReply::Truth(false)
     }
 
@@ -294,32 +294,32 @@ impl<Request: Drop, F: Drop, E: Drop> Mailbox<Request, F, E> {
         ensures follows { Follows self.old (MailStep.Answer id future) result self.new }
         ensures touches { touches self.new ≤ touches self.old + 6 }
     {
-        let Some(open) = taken(&mut self.letters, id as usize) else {
+        let Some(open) = taken(&mut self.messages, id as usize) else {
             return MailReply::Unknown;
         };
         if open {
-            settle(&mut self.letters, id as usize, Fate::Answered(future));
+            settle(&mut self.messages, id as usize, Fate::Answered(future));
             return MailReply::Done;
         }
-        self.letters.remove(id as usize);
+        self.messages.remove(id as usize);
         MailReply::Back(future)
     }
 
-    pub(crate) fn give_up(&mut self, id: u64) -> MailReply<Request, F, E>
+    pub(crate) fn forget_message(&mut self, id: u64) -> MailReply<Request, F, E>
         ensures follows { Follows self.old (MailStep.Forget id) result self.new }
         ensures touches { touches self.new ≤ touches self.old + 4 }
     {
-        let Some(fate) = fate_of(&mut self.letters, id as usize) else {
+        let Some(fate) = fate_of(&mut self.messages, id as usize) else {
             return MailReply::Unknown;
         };
         match fate {
             Fate::Cancelled => MailReply::Unknown,
             Fate::Open => {
-                settle(&mut self.letters, id as usize, Fate::Cancelled);
+                settle(&mut self.messages, id as usize, Fate::Cancelled);
                 MailReply::Done
             }
             _ => {
-                self.letters.remove(id as usize);
+                self.messages.remove(id as usize);
                 MailReply::Done
             }
         }
@@ -329,7 +329,7 @@ impl<Request: Drop, F: Drop, E: Drop> Mailbox<Request, F, E> {
         ensures follows { Follows self.old (MailStep.Fail id error) result self.new }
         ensures touches { touches self.new ≤ touches self.old + 6 }
     {
-        if !fail_taken(&mut self.letters, id as usize) {
+        if !fail_taken(&mut self.messages, id as usize) {
             return MailReply::Unknown;
         }
         self.queue = WaitQueue::new(self.alloc);
@@ -345,7 +345,7 @@ impl<Request: Drop, F: Drop, E: Drop> Mailbox<Request, F, E> {
         if self.stored.is_none() {
             return MailReply::Unknown;
         }
-        if !fail_taken(&mut self.letters, id as usize) {
+        if !fail_taken(&mut self.messages, id as usize) {
             return MailReply::Unknown;
         }
         MailReply::Done
@@ -354,7 +354,7 @@ impl<Request: Drop, F: Drop, E: Drop> Mailbox<Request, F, E> {
     pub(crate) fn worker_gone(&mut self) -> MailReply<Request, F, E>
         ensures { Follows self.old MailStep.WorkerGone result self.new }
     {
-        abandon(&mut self.letters);
+        abandon(&mut self.messages);
         self.queue = WaitQueue::new(self.alloc);
         self.closed = true;
         self.has_worker = false;
@@ -370,7 +370,7 @@ impl<Request: Drop, F: Drop, E: Clone> Mailbox<Request, F, E> {
         ensures follows { Follows self.old (MailStep.Outcome id) result self.new }
         ensures touches { touches self.new ≤ touches self.old + 6 }
     {
-        let Some(fate) = fate_of(&mut self.letters, id as usize) else {
+        let Some(fate) = fate_of(&mut self.messages, id as usize) else {
             return MailReply::Unknown;
         };
         match fate {
@@ -384,14 +384,14 @@ impl<Request: Drop, F: Drop, E: Clone> Mailbox<Request, F, E> {
     // The stored error. Without memory for its clone the message stays.
     fn tell_failure(&mut self, id: u64) -> MailReply<Request, F, E>
         requires same { (x y : E) → E.is_clone x y → y ≡ x }
-        requires failed { (message : Message Request F) × (get self.old.letters.entries id ≡ Some message) × (message.fate ≡ Fate.Failed) }
+        requires failed { (message : Message Request F) × (get self.old.messages.entries id ≡ Some message) × (message.fate ≡ Fate.Failed) }
         ensures follows { Follows self.old (MailStep.Outcome id) result self.new }
         ensures touches { touches self.new ≤ touches self.old + 5 }
     {
         match shut(&self.stored) {
             MailReply::Memory => MailReply::Memory,
             reply => {
-                self.letters.remove(id as usize);
+                self.messages.remove(id as usize);
                 reply
             }
         }
@@ -399,11 +399,11 @@ impl<Request: Drop, F: Drop, E: Clone> Mailbox<Request, F, E> {
 
     // The future of a message that was answered, or that the message was lost.
     fn hand_out(&mut self, id: u64) -> MailReply<Request, F, E>
-        requires ended { (message : Message Request F) × (get self.old.letters.entries id ≡ Some message) × Ended message.fate }
+        requires ended { (message : Message Request F) × (get self.old.messages.entries id ≡ Some message) × Ended message.fate }
         ensures follows { Follows self.old (MailStep.Outcome id) result self.new }
         ensures touches { touches self.new ≤ touches self.old + 5 }
     {
-        let Some(Message { request: _, fate }) = self.letters.remove(id as usize) else {
+        let Some(Message { request: _, fate }) = self.messages.remove(id as usize) else {
             unreachable!();
         };
         match fate {
@@ -428,32 +428,32 @@ fn shut<Request, F, E: Clone>(stored: &Option<E>) -> MailReply<Request, F, E>
 }
 
 // Of the message under the key, if the worker has it, and it has no outcome or isn't waited for: whether it is.
-fn taken<Request, F>(letters: &mut Letters<Request, F>, id: usize) -> Option<bool>
-    ensures taken { result ≡ taken_at (get letters.old.entries id) }
-    ensures order { letters.new.order ≡ letters.old.order }
-    ensures entries { letters.new.entries ≡ letters.old.entries }
-    ensures touches { letters.new.touches ≤ letters.old.touches + 1 }
+fn taken<Request, F>(messages: &mut Messages<Request, F>, id: usize) -> Option<bool>
+    ensures taken { result ≡ taken_at (get messages.old.entries id) }
+    ensures order { messages.new.order ≡ messages.old.order }
+    ensures entries { messages.new.entries ≡ messages.old.entries }
+    ensures touches { messages.new.touches ≤ messages.old.touches + 1 }
 {
-    letters.get(id)?.taken()
+    messages.get(id)?.taken()
 }
 
 // What became of the message under the key.
-fn fate_of<Request, F>(letters: &mut Letters<Request, F>, id: usize) -> Option<Fate<()>>
-    ensures fate { result ≡ fate_at (get letters.old.entries id) }
-    ensures order { letters.new.order ≡ letters.old.order }
-    ensures entries { letters.new.entries ≡ letters.old.entries }
-    ensures touches { letters.new.touches ≤ letters.old.touches + 1 }
+fn fate_of<Request, F>(messages: &mut Messages<Request, F>, id: usize) -> Option<Fate<()>>
+    ensures fate { result ≡ fate_at (get messages.old.entries id) }
+    ensures order { messages.new.order ≡ messages.old.order }
+    ensures entries { messages.new.entries ≡ messages.old.entries }
+    ensures touches { messages.new.touches ≤ messages.old.touches + 1 }
 {
-    Some(letters.get(id)?.fate.bare())
+    Some(messages.get(id)?.fate.bare())
 }
 
-fn is_cancelled_at<Request, F>(letters: &mut Letters<Request, F>, id: usize) -> bool
-    ensures cancelled { (message : Message Request F) → get letters.old.entries id ≡ Some message → result ≡ is_cancelled message.fate }
-    ensures order { letters.new.order ≡ letters.old.order }
-    ensures entries { letters.new.entries ≡ letters.old.entries }
-    ensures touches { letters.new.touches ≤ letters.old.touches + 1 }
+fn is_cancelled_at<Request, F>(messages: &mut Messages<Request, F>, id: usize) -> bool
+    ensures cancelled { (message : Message Request F) → get messages.old.entries id ≡ Some message → result ≡ is_cancelled message.fate }
+    ensures order { messages.new.order ≡ messages.old.order }
+    ensures entries { messages.new.entries ≡ messages.old.entries }
+    ensures touches { messages.new.touches ≤ messages.old.touches + 1 }
 {
-    match letters.get(id) {
+    match messages.get(id) {
         Some(message) => message.fate.is_cancelled(),
         None => false,
     }
@@ -470,33 +470,33 @@ fn out<Request, F>(fate: Fate<F>) -> Message<Request, F>
 }
 
 // This becomes of the message under the key.
-fn settle<Request: Drop, F: Drop>(letters: &mut Letters<Request, F>, id: usize, fate: Fate<F>)
-    requires { ContainsKey letters.old.entries id }
-    ensures entries { (message : Message Request F) → get letters.old.entries id ≡ Some message
-        → Updates letters.old.entries letters.new.entries id (Some (record message { fate = fate })) }
-    ensures order { letters.new.order ≡ letters.old.order }
-    ensures len { slab_len letters.new.entries ≡ slab_len letters.old.entries }
-    ensures capacity { letters.new.entries.capacity ≡ letters.old.entries.capacity }
-    ensures touches { letters.new.touches ≤ letters.old.touches + 2 }
+fn settle<Request: Drop, F: Drop>(messages: &mut Messages<Request, F>, id: usize, fate: Fate<F>)
+    requires { ContainsKey messages.old.entries id }
+    ensures entries { (message : Message Request F) → get messages.old.entries id ≡ Some message
+        → Updates messages.old.entries messages.new.entries id (Some (record message { fate = fate })) }
+    ensures order { messages.new.order ≡ messages.old.order }
+    ensures len { slab_len messages.new.entries ≡ slab_len messages.old.entries }
+    ensures capacity { messages.new.entries.capacity ≡ messages.old.entries.capacity }
+    ensures touches { messages.new.touches ≤ messages.old.touches + 2 }
 {
-    let Message { request, fate: _ } = letters.replace(id, out(Fate::Open));
-    letters.replace(id, Message { request, fate });
+    let Message { request, fate: _ } = messages.replace(id, out(Fate::Open));
+    messages.replace(id, Message { request, fate });
 }
 
 // The request of the oldest queued message, which the worker has now.
-fn open_first<Request: Drop, F: Drop>(letters: &mut Letters<Request, F>, id: usize) -> Request
-    requires oldest { first_or letters.old.order None ≡ Some id }
-    requires queued { is_queued (get letters.old.entries id) ≡ true }
-    requires open { (message : Message Request F) → get letters.old.entries id ≡ Some message → message.fate ≡ Fate.Open }
-    ensures request { get letters.old.entries id ≡ Some (record { request = Some result; fate = Fate.Open }) }
-    ensures entries { Updates letters.old.entries letters.new.entries id (Some (record { request = None; fate = Fate.Open })) }
-    ensures order { letters.new.order ≡ without letters.old.order id }
-    ensures len { slab_len letters.new.entries ≡ slab_len letters.old.entries }
-    ensures capacity { letters.new.entries.capacity ≡ letters.old.entries.capacity }
-    ensures touches { letters.new.touches ≤ letters.old.touches + 3 }
+fn open_first<Request: Drop, F: Drop>(messages: &mut Messages<Request, F>, id: usize) -> Request
+    requires oldest { first_or messages.old.order None ≡ Some id }
+    requires queued { is_queued (get messages.old.entries id) ≡ true }
+    requires open { (message : Message Request F) → get messages.old.entries id ≡ Some message → message.fate ≡ Fate.Open }
+    ensures request { get messages.old.entries id ≡ Some (record { request = Some result; fate = Fate.Open }) }
+    ensures entries { Updates messages.old.entries messages.new.entries id (Some (record { request = None; fate = Fate.Open })) }
+    ensures order { messages.new.order ≡ without messages.old.order id }
+    ensures len { slab_len messages.new.entries ≡ slab_len messages.old.entries }
+    ensures capacity { messages.new.entries.capacity ≡ messages.old.entries.capacity }
+    ensures touches { messages.new.touches ≤ messages.old.touches + 3 }
 {
-    letters.unlink(id);
-    let Message { request, fate: _ } = letters.replace(id, out(Fate::Open));
+    messages.unlink(id);
+    let Message { request, fate: _ } = messages.replace(id, out(Fate::Open));
     match request {
         Some(request) => request,
         None => unreachable!(),
@@ -504,51 +504,51 @@ fn open_first<Request: Drop, F: Drop>(letters: &mut Letters<Request, F>, id: usi
 }
 
 // Whether the worker has the message under the key. It has failed, or is known no more if nobody waits for it.
-fn fail_taken<Request: Drop, F: Drop>(letters: &mut Letters<Request, F>, id: usize) -> bool
-    ensures unknown { result ≡ false → taken_at (get letters.old.entries id) ≡ None }
-    ensures kept { result ≡ false → (letters.new.order ≡ letters.old.order) × (letters.new.entries ≡ letters.old.entries) }
-    ensures fails { result ≡ true → FailsTaken letters.old id letters.new }
-    ensures len { slab_len letters.new.entries ≤ slab_len letters.old.entries }
-    ensures capacity { letters.new.entries.capacity ≡ letters.old.entries.capacity }
-    ensures touches { letters.new.touches ≤ letters.old.touches + 4 }
+fn fail_taken<Request: Drop, F: Drop>(messages: &mut Messages<Request, F>, id: usize) -> bool
+    ensures unknown { result ≡ false → taken_at (get messages.old.entries id) ≡ None }
+    ensures kept { result ≡ false → (messages.new.order ≡ messages.old.order) × (messages.new.entries ≡ messages.old.entries) }
+    ensures fails { result ≡ true → FailsTaken messages.old id messages.new }
+    ensures len { slab_len messages.new.entries ≤ slab_len messages.old.entries }
+    ensures capacity { messages.new.entries.capacity ≡ messages.old.entries.capacity }
+    ensures touches { messages.new.touches ≤ messages.old.touches + 4 }
 {
-    let Some(open) = taken(letters, id) else {
+    let Some(open) = taken(messages, id) else {
         return false;
     };
     if open {
-        settle(letters, id, Fate::Failed);
+        settle(messages, id, Fate::Failed);
     } else {
-        letters.remove(id);
+        messages.remove(id);
     }
     true
 }
 
 // The worker is gone: those without an outcome are lost, and those that nobody waits for are gone.
-fn abandon<Request: Drop, F: Drop>(letters: &mut Letters<Request, F>)
-    requires linked { (id : ℕ) → has letters.old.order id ≡ is_queued (get letters.old.entries id) }
-    ensures order { letters.new.order ≡ [] }
-    ensures entries { (id : ℕ) → get letters.new.entries id ≡ lost (get letters.old.entries id) }
-    ensures len { slab_len letters.new.entries ≤ slab_len letters.old.entries }
-    ensures capacity { letters.new.entries.capacity ≡ letters.old.entries.capacity }
+fn abandon<Request: Drop, F: Drop>(messages: &mut Messages<Request, F>)
+    requires linked { (id : ℕ) → has messages.old.order id ≡ is_queued (get messages.old.entries id) }
+    ensures order { messages.new.order ≡ [] }
+    ensures entries { (id : ℕ) → get messages.new.entries id ≡ lost (get messages.old.entries id) }
+    ensures len { slab_len messages.new.entries ≤ slab_len messages.old.entries }
+    ensures capacity { messages.new.entries.capacity ≡ messages.old.entries.capacity }
 {
-    for id in 0..letters.capacity() {
-        lose_at(letters, id);
+    for id in 0..messages.capacity() {
+        lose_at(messages, id);
     }
 }
 
-fn lose_at<Request: Drop, F: Drop>(letters: &mut Letters<Request, F>, id: usize)
-    ensures order { letters.new.order ≡ without letters.old.order id }
-    ensures entries { Updates letters.old.entries letters.new.entries id (lost (get letters.old.entries id)) }
-    ensures len { slab_len letters.new.entries ≤ slab_len letters.old.entries }
-    ensures capacity { letters.new.entries.capacity ≡ letters.old.entries.capacity }
+fn lose_at<Request: Drop, F: Drop>(messages: &mut Messages<Request, F>, id: usize)
+    ensures order { messages.new.order ≡ without messages.old.order id }
+    ensures entries { Updates messages.old.entries messages.new.entries id (lost (get messages.old.entries id)) }
+    ensures len { slab_len messages.new.entries ≤ slab_len messages.old.entries }
+    ensures capacity { messages.new.entries.capacity ≡ messages.old.entries.capacity }
 {
-    letters.unlink(id);
-    match fate_of(letters, id) {
+    messages.unlink(id);
+    match fate_of(messages, id) {
         Some(Fate::Open) => {
-            letters.replace(id, out(Fate::Lost));
+            messages.replace(id, out(Fate::Lost));
         }
         Some(Fate::Cancelled) => {
-            letters.remove(id);
+            messages.remove(id);
         }
         _ => {}
     }

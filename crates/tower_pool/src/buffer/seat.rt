@@ -13,7 +13,7 @@ pub enum Seat {
 
 /// What a response has.
 #[derive(Drop)]
-pub enum Stage<L, F, E> {
+pub enum ResponseState<L, F, E> {
     /// What the call was told, until it is answered.
     Told(Option<E>),
     /// The message of this id was sent at this share.

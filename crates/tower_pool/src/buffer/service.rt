@@ -8,7 +8,7 @@ use crate::buffer::error::{Error, ServiceError};
 use crate::buffer::future::ResponseFuture;
 use crate::buffer::mail::{MailReply, MailStep};
 use crate::buffer::mail_core::MailCore;
-use crate::buffer::seat::{Seat, Stage};
+use crate::buffer::seat::{ResponseState, Seat};
 use futures::task::{Context, Poll};
 use std::alloc::AllocError;
 use std::marker::{Model, PhantomData};

@@ -10,11 +10,11 @@ ghost use Rattle.futures.specs.declared.task.Poll.TheVariants.{Ready};
 ghost use Rattle.indexmap.specs.IndexMap.{swap_remove_entry};
 ghost use Rattle.tower_pool.specs.ReadyCache.{awaited, cancel, place, waiting, Apart, At, AtKey, Called, Checked, CheckedKey, Sound};
 ghost use Rattle.tower_pool.specs.ReadyCachePoll.{AskedFirst, PendingPolled};
-ghost use Rattle.tower_pool.specs.Waiters.{Holds, cache_of};
+ghost use Rattle.tower_pool.specs.Pending.{Holds, cache_of};
 
 use crate::ready_cache::error::{Error, Failed};
 use crate::ready_cache::iter::IterReady;
-use crate::ready_cache::waiters::Waiters;
+use crate::ready_cache::pending::Pending;
 use futures::task::{Context, Poll};
 use indexmap::IndexMap;
 use std::alloc::Global;
@@ -32,13 +32,13 @@ use tower_base::service::Service;
 #[derive(Drop)]
 pub struct ReadyCache<K: Eq + Hash + Clone, S, Req> {
     ready: IndexMap<K, S>,
-    pending: Waiters<K, S>,
+    pending: Pending<K, S>,
     of: PhantomData<Req>,
 }
 
 impl<K: Eq + Hash + Clone, S, Req> Model for ReadyCache<K, S, Req> {
     ghost use Rattle.tower_pool.specs.ReadyCache.{CacheInvariant, CountedView};
-    ghost use Rattle.tower_pool.specs.Waiters.{knows};
+    ghost use Rattle.tower_pool.specs.Pending.{knows};
 
     ghost Value = { CountedView K S };
 
@@ -56,7 +56,7 @@ impl<K: Eq + Hash + Clone + Drop, S: Service<Req>, Req> ReadyCache<K, S, Req> {
     {
         ReadyCache {
             ready: IndexMap::new(alloc),
-            pending: Waiters::new(alloc),
+            pending: Pending::new(alloc),
             of: PhantomData,
         }
     }
@@ -152,7 +152,7 @@ impl<K: Eq + Hash + Clone + Drop, S: Service<Req>, Req> ReadyCache<K, S, Req> {
     // whether it does.
     fn ask(
         ready: &mut IndexMap<K, S>,
-        pending: &mut Waiters<K, S>,
+        pending: &mut Pending<K, S>,
         cx: &mut Context<'_>,
     ) -> Result<bool, Error<K, S::Error>>
         requires held { Holds K.eq K.is_clone ready.old.entries pending.old }
@@ -192,7 +192,7 @@ impl<K: Eq + Hash + Clone + Drop, S: Service<Req>, Req> ReadyCache<K, S, Req> {
     // Asks each one so, by at most five touches for each one that was pending.
     fn ask_each(
         ready: &mut IndexMap<K, S>,
-        pending: &mut Waiters<K, S>,
+        pending: &mut Pending<K, S>,
         cx: &mut Context<'_>,
     ) -> Poll<Result<(), Error<K, S::Error>>>
         requires held { Holds K.eq K.is_clone ready.old.entries pending.old }

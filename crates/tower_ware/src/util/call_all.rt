@@ -1,10 +1,10 @@
 //! Streams that call a service with each request of a stream: the Rust's `tower::util::call_all`.
 ghost use Rattle.tower_ware.specs.CallAll.{CallAllFlowed, CallAllUnorderedFlowed};
-ghost use Rattle.tower_ware.specs.Order.{Calms, InAnyOrder, InOrder};
+ghost use Rattle.tower_ware.specs.CallOrder.{Calms, InAnyOrder, InOrder};
 
 mod bag;
+mod call_queue;
 mod caller;
-mod drive;
 mod error;
 mod line;
 mod ordered;

@@ -5,7 +5,7 @@ ghost use Rattle.futures.specs.Task.{IsArmed, Keeps};
 ghost use Rattle.tower_ware.specs.Bag.{BagAsked, EachAsked};
 ghost use Rattle.tower_ware.specs.Queue.{Empty, Grown, HasRoom, Pushed, Queue};
 
-use crate::util::call_all::drive::Drive;
+use crate::util::call_all::call_queue::CallQueue;
 use futures::task::{Context, Poll};
 use std::alloc::{AllocError, Global};
 use std::marker::Model;
@@ -51,7 +51,7 @@ fn ask_each<T: Drop, F: Steps<Output = T>>(futures: &mut Vec<F>, cx: &mut Contex
     None
 }
 
-impl<T: Drop, F: Steps<Output = T>> Drive<T, F> for Bag<F> {
+impl<T: Drop, F: Steps<Output = T>> CallQueue<T, F> for Bag<F> {
     ghost sound = { λ b. All F.can_poll b.calls };
 
     ghost has_room = { HasRoom };

@@ -4,7 +4,7 @@ ghost use Rattle.futures.specs.Task.{IsArmed, Keeps};
 ghost use Rattle.futures.specs.Poll.{IfReady, OnPending};
 ghost use Rattle.tower_ware.specs.CallAll.{Called, Flowed, GoesOn, Pass, view_of};
 
-use crate::util::call_all::drive::Drive;
+use crate::util::call_all::call_queue::CallQueue;
 use crate::util::call_all::error::Error;
 use futures::task::{Context, Poll};
 use tower_base::passes::TURNS;
@@ -41,7 +41,7 @@ where
     Svc: Service<S::Item>,
     S: Flow,
     S::Item: Drop,
-    Q: Drive<Result<Svc::Response, Svc::Error>, Svc::Future>,
+    Q: CallQueue<Result<Svc::Response, Svc::Error>, Svc::Future>,
 {
     // The request is to be called.
     fn call(
@@ -53,7 +53,7 @@ where
         requires queue { Q.sound self.old.queue }
         requires flow { S.can_poll self.old.requests }
         requires goes { self.old.ended ≡ false }
-        ensures call { Called Svc.Service S.Flow.own Q.Drive (record (view_of self.old) { kept = None }) request result (view_of self.new) }
+        ensures call { Called Svc.Service S.Flow.own Q.CallQueue (record (view_of self.old) { kept = None }) request result (view_of self.new) }
         ensures there { IsSomeAnd self.new.service Svc.sound }
         ensures queue { Q.sound self.new.queue }
         ensures flow { S.can_poll self.new.requests }
@@ -91,7 +91,7 @@ where
         requires queue { Q.sound self.old.queue }
         requires flow { self.old.ended ≡ false → S.can_poll self.old.requests }
         requires armed { ¬ (Q.empty self.old.queue) → IsArmed cx.old }
-        ensures goes { GoesOn Svc.Service S.Flow.own Q.Drive self.old.ended self.old.kept (view_of self.old) result (view_of self.new) }
+        ensures goes { GoesOn Svc.Service S.Flow.own Q.CallQueue self.old.ended self.old.kept (view_of self.old) result (view_of self.new) }
         ensures there { IsSomeAnd self.new.service Svc.sound }
         ensures queue { Q.sound self.new.queue }
         ensures flow { self.new.ended ≡ false → S.can_poll self.new.requests }
@@ -122,7 +122,7 @@ where
         requires there { IsSomeAnd self.old.service Svc.sound }
         requires queue { Q.sound self.old.queue }
         requires flow { self.old.ended ≡ false → S.can_poll self.old.requests }
-        ensures pass { Pass Svc.Service S.Flow.own Q.Drive (view_of self.old) result (view_of self.new) }
+        ensures pass { Pass Svc.Service S.Flow.own Q.CallQueue (view_of self.old) result (view_of self.new) }
         ensures there { IsSomeAnd self.new.service Svc.sound }
         ensures queue { Q.sound self.new.queue }
         ensures flow { self.new.ended ≡ false → S.can_poll self.new.requests }
@@ -142,7 +142,7 @@ where
         requires there { IsSomeAnd self.old.service Svc.sound }
         requires queue { Q.sound self.old.queue }
         requires flow { self.old.ended ≡ false → S.can_poll self.old.requests }
-        ensures flowed { Flowed Svc.Service S.Flow.own Q.Drive (view_of self.old) result (view_of self.new) }
+        ensures flowed { Flowed Svc.Service S.Flow.own Q.CallQueue (view_of self.old) result (view_of self.new) }
         ensures there { IsSomeAnd self.new.service Svc.sound }
         ensures queue { Q.sound self.new.queue }
         ensures flow { self.new.ended ≡ false → S.can_poll self.new.requests }

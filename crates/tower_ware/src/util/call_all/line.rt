@@ -2,12 +2,12 @@
 ghost use Rattle.std.specs.Prelude.{◌≡◌, All, IsTrue, ◌↔◌};
 ghost use Rattle.std.specs.VecDeque.{deque_capacity};
 ghost use Rattle.futures.specs.Task.{Keeps};
-ghost use Rattle.tower_ware.specs.Line.{LineAsked, MayAsk, OthersAsked};
+ghost use Rattle.tower_ware.specs.OrderedCalls.{LineAsked, MayAsk, OthersAsked};
 ghost use Rattle.tower_ware.specs.Queue.{Empty, Grown, HasRoom, Pushed, Queue};
 ghost use Rattle.tower_ware.specs.declared.util.call_all.slot.Slot.{Slot};
 ghost use Rattle.tower_ware.specs.declared.util.call_all.slot.Slot.TheVariants.{Waiting};
 
-use crate::util::call_all::drive::Drive;
+use crate::util::call_all::call_queue::CallQueue;
 use crate::util::call_all::slot::Slot;
 use futures::task::{Context, Poll};
 use std::alloc::{AllocError, Global};
@@ -60,7 +60,7 @@ fn ask_others<T: Drop, F: Steps<Output = T>>(slots: &mut VecDeque<Slot<F, T>>, c
     }
 }
 
-impl<T: Drop, F: Steps<Output = T>> Drive<T, F> for Line<F, T> {
+impl<T: Drop, F: Steps<Output = T>> CallQueue<T, F> for Line<F, T> {
     ghost sound = { λ l. All (MayAsk F.can_poll) l.calls };
 
     ghost has_room = { HasRoom };

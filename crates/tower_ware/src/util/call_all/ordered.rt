@@ -2,7 +2,7 @@
 ghost use Rattle.std.specs.Prelude.{◌≡◌, All, IsSome, IsTrue, ◌↔◌, None, Some, false};
 ghost use Rattle.tower_base.specs.Gives.{IsFlow, MayYield};
 ghost use Rattle.tower_ware.specs.CallAll.{CallAllFlowed, CallerView, CanFlow, New, view_of};
-ghost use Rattle.tower_ware.specs.Line.{MayAsk};
+ghost use Rattle.tower_ware.specs.OrderedCalls.{MayAsk};
 ghost use Rattle.tower_ware.specs.declared.util.call_all.slot.Slot.{Slot};
 ghost use Rattle.tower_ware.specs.Queue.{Empty, Queue};
 

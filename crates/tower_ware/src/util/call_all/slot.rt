@@ -1,6 +1,6 @@
 //! A call without a yielded answer.
 ghost use Rattle.futures.specs.Task.{IsArmed, Keeps};
-ghost use Rattle.tower_ware.specs.Line.{MayAsk, OnWaiting, SlotAsked};
+ghost use Rattle.tower_ware.specs.OrderedCalls.{MayAsk, OnWaiting, SlotAsked};
 
 use futures::task::{Context, Poll};
 use tower_base::service::Steps;

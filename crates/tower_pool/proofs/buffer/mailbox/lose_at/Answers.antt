@@ -5,6 +5,6 @@ use Rattle.tower_pool.proofs.buffer.mailbox.lose_at.Goals as goal
 
 pub returns-in-Some-Cancelled-clause-order : goal.returns-in-Some-Cancelled-clause-order
 returns-in-Some-Cancelled-clause-order g c =
-    let keys = c.args.letters.now.order in
+    let keys = c.args.messages.now.order in
     c.remove.ensures.order ∙ ap (λ l. without l c.args.id) (c.in-Some-Cancelled.ensures.order ∙ c.unlink.ensures.order)
     ∙ without_lacks (without keys c.args.id) c.args.id (has_without_same keys c.args.id)

@@ -1,7 +1,7 @@
 use Rattle.tower_ware.specs.Bag.{bag}
-use Rattle.tower_ware.specs.Line.{line}
+use Rattle.tower_ware.specs.OrderedCalls.{line}
 use Rattle.tower_ware.proofs.CalmLemmas.{flows_calm, may_yield_map}
-use Rattle.tower_ware.proofs.OrderLemmas.{in_any_order, in_order}
+use Rattle.tower_ware.proofs.CallOrderLemmas.{in_any_order, in_order}
 use Rattle.tower_ware.proofs.util.call_all.law.Goals as goal
 
 pub returns-clause-ordered : goal.returns-clause-ordered

@@ -41,7 +41,7 @@ pub returns-in-Outcome-clause-steps : goal.returns-in-Outcome-clause-steps
 returns-in-Outcome-clause-steps g c = served c.self.inside.mail c.args.self.now c.outcome.new.self c.args.step _ c.outcome.result c.self.view_is c.in-Outcome.is c.outcome.ensures.follows
 
 pub returns-in-Forget-clause-steps : goal.returns-in-Forget-clause-steps
-returns-in-Forget-clause-steps g c = served c.self.inside.mail c.args.self.now c.give_up.new.self c.args.step _ c.give_up.result c.self.view_is c.in-Forget.is c.give_up.ensures.follows
+returns-in-Forget-clause-steps g c = served c.self.inside.mail c.args.self.now c.forget_message.new.self c.args.step _ c.forget_message.result c.self.view_is c.in-Forget.is c.forget_message.ensures.follows
 
 pub returns-in-WorkerGone-clause-steps : goal.returns-in-WorkerGone-clause-steps
 returns-in-WorkerGone-clause-steps g c = served c.self.inside.mail c.args.self.now c.worker_gone.new.self c.args.step _ c.worker_gone.result c.self.view_is c.in-WorkerGone.is c.worker_gone.ensures

@@ -11,9 +11,9 @@ use Rattle.tower_pool.proofs.buffer.mailbox.Mailbox.fail.Goals as goal
 pub invariant_of-self : goal.invariant_of-self
 invariant_of-self g c =
     let old = c.args.self.now in
-    let was : Sorted old.stored old.letters = record { differ = old.differ; linked = old.linked; sent = old.sent } in
+    let was : Sorted old.stored old.messages = record { differ = old.differ; linked = old.linked; sent = old.sent } in
     let same = c.if-not-fail_taken.ensures.kept refl in
-    let now = read old.stored old.letters c.fail_taken.new.letters was same.0 same.1 in
+    let now = read old.stored old.messages c.fail_taken.new.messages was same.0 same.1 in
     record {
       limit = old.limit;
       fits = omega (arith, old.fits, ap length same.0);
@@ -27,10 +27,10 @@ invariant_of-self g c =
 pub invariant_of-self-2 : goal.invariant_of-self-2
 invariant_of-self-2 g c =
     let old = c.args.self.now in
-    let was : Sorted old.stored old.letters = record { differ = old.differ; linked = old.linked; sent = old.sent } in
+    let was : Sorted old.stored old.messages = record { differ = old.differ; linked = old.linked; sent = old.sent } in
     let f = c.if-not-fail_taken.ensures.fails refl in
-    let now = sorted_finished old.stored c.keep_first.new.stored old.letters c.fail_taken.new.letters c.args.id (ap is_some c.keep_first.ensures) was f in
-    let w = empty_fits old.bound (old.reserved + length c.fail_taken.new.letters.order) c.new.result (omega (arith, old.fits, now.1)) c.new.ensures.stands in
+    let now = sorted_finished old.stored c.keep_first.new.stored old.messages c.fail_taken.new.messages c.args.id (ap is_some c.keep_first.ensures) was f in
+    let w = empty_fits old.bound (old.reserved + length c.fail_taken.new.messages.order) c.new.result (omega (arith, old.fits, now.1)) c.new.ensures.stands in
     let none = empty_sizes c.new.result c.new.ensures.stands in
     record {
       limit = old.limit;
@@ -45,10 +45,10 @@ invariant_of-self-2 g c =
 pub returns-clause-follows : goal.returns-clause-follows
 returns-clause-follows g c = λ messages line h s.
     let old = c.args.self.now in
-    let was : Sorted old.stored old.letters = record { differ = old.differ; linked = old.linked; sent = old.sent } in
+    let was : Sorted old.stored old.messages = record { differ = old.differ; linked = old.linked; sent = old.sent } in
     let f = c.if-not-fail_taken.ensures.fails refl in
-    let now = sorted_finished old.stored c.keep_first.new.stored old.letters c.fail_taken.new.letters c.args.id (ap is_some c.keep_first.ensures) was f in
-    let r = finished messages old.letters c.fail_taken.new.letters c.args.id h (old.linked c.args.id) f in
+    let now = sorted_finished old.stored c.keep_first.new.stored old.messages c.fail_taken.new.messages c.args.id (ap is_some c.keep_first.ensures) was f in
+    let r = finished messages old.messages c.fail_taken.new.messages c.args.id h (old.linked c.args.id) f in
     let shut = closes _ _ _ line s.2 in (
       r.left,
       holding line,

@@ -1,7 +1,7 @@
 use Rattle.std.proofs.Common.{◌≡◌, ◌+◌, ◌∙◌, length, slice_set, refl, sym, ap, arith}
 use Rattle.tower_pool.specs.Mail.{Entry}
 use Rattle.tower_pool.specs.Mailbox.{known}
-use Rattle.tower_pool.specs.declared.buffer.letter.Message.{Message}
+use Rattle.tower_pool.specs.declared.buffer.message.Message.{Message}
 use Rattle.tower_pool.proofs.Fates.{ended_lost, ended_settled, some_is}
 use Rattle.tower_limit.proofs.LineMoves.{stands_as}
 use Rattle.tower_pool.proofs.Messages.{Sorted}
@@ -11,11 +11,11 @@ use Rattle.tower_pool.proofs.buffer.mailbox.Mailbox.hand_out.Goals as goal
 pub invariant_of-self : goal.invariant_of-self
 invariant_of-self g c =
     let old = c.args.self.now in
-    let was : Sorted old.stored old.letters = record { differ = old.differ; linked = old.linked; sent = old.sent } in
+    let was : Sorted old.stored old.messages = record { differ = old.differ; linked = old.linked; sent = old.sent } in
     let m = c.requires.ended.0 in
     let there = c.requires.ended.1 in
     let out = (old.sent c.args.id m there).1 (ended_settled c.requires.ended.0.fate c.requires.ended.2) in
-    let d = removed old.stored old.letters old.letters c.remove.new.self c.args.id m was there refl refl c.remove.ensures.capacity
+    let d = removed old.stored old.messages old.messages c.remove.new.self c.args.id m was there refl refl c.remove.ensures.capacity
     out c.remove.ensures.entries c.remove.ensures.order c.remove.result c.remove.ensures.value c.remove.ensures.len in
     record {
       limit = old.limit;
@@ -30,37 +30,37 @@ invariant_of-self g c =
 pub returns-in-Answered-clause-follows : goal.returns-in-Answered-clause-follows
 returns-in-Answered-clause-follows g c = λ messages line h s.
     let old = c.args.self.now in
-    let was : Sorted old.stored old.letters = record { differ = old.differ; linked = old.linked; sent = old.sent } in
+    let was : Sorted old.stored old.messages = record { differ = old.differ; linked = old.linked; sent = old.sent } in
     let m = c.requires.ended.0 in
     let there = c.requires.ended.1 in
     let out = (old.sent c.args.id m there).1 (ended_settled c.requires.ended.0.fate c.requires.ended.2) in
-    let d = removed old.stored old.letters old.letters c.remove.new.self c.args.id m was there refl refl c.remove.ensures.capacity
+    let d = removed old.stored old.messages old.messages c.remove.new.self c.args.id m was there refl refl c.remove.ensures.capacity
     out c.remove.ensures.entries c.remove.ensures.order c.remove.result c.remove.ensures.value c.remove.ensures.len in
     let x = some_is _ _ (c.in-Some.ensures.value ∙ there) in
     let same : c.in-Some.field-0.fate ≡ m.fate = ap (λ (k : Message _ _). k.fate) x in
-    let r = gone messages old.letters c.remove.new.self c.args.id m there h (old.linked c.args.id) out d.updates d.ordered in (
+    let r = gone messages old.messages c.remove.new.self c.args.id m there h (old.linked c.args.id) out d.updates d.ordered in (
       slice_set messages r.place (Entry.gone m.fate),
       line,
       (r.place, known c.args.id m, r.at, refl, sym same ∙ c.in-Answered.is, refl),
       r.holds m.fate,
-      stands_as old.bound (old.reserved + length old.letters.order) (old.reserved + length c.remove.new.self.order) old.queue line (omega (arith, d.size)) s,
+      stands_as old.bound (old.reserved + length old.messages.order) (old.reserved + length c.remove.new.self.order) old.queue line (omega (arith, d.size)) s,
     )
 
 pub returns-in_default-fate-clause-follows : goal.returns-in_default-fate-clause-follows
 returns-in_default-fate-clause-follows g c = λ messages line h s.
     let old = c.args.self.now in
-    let was : Sorted old.stored old.letters = record { differ = old.differ; linked = old.linked; sent = old.sent } in
+    let was : Sorted old.stored old.messages = record { differ = old.differ; linked = old.linked; sent = old.sent } in
     let m = c.requires.ended.0 in
     let there = c.requires.ended.1 in
     let out = (old.sent c.args.id m there).1 (ended_settled c.requires.ended.0.fate c.requires.ended.2) in
-    let d = removed old.stored old.letters old.letters c.remove.new.self c.args.id m was there refl refl c.remove.ensures.capacity
+    let d = removed old.stored old.messages old.messages c.remove.new.self c.args.id m was there refl refl c.remove.ensures.capacity
     out c.remove.ensures.entries c.remove.ensures.order c.remove.result c.remove.ensures.value c.remove.ensures.len in
     let x = some_is _ _ (c.in-Some.ensures.value ∙ there) in
     let same : c.in-Some.field-0.fate ≡ m.fate = ap (λ (k : Message _ _). k.fate) x in
-    let r = gone messages old.letters c.remove.new.self c.args.id m there h (old.linked c.args.id) out d.updates d.ordered in (
+    let r = gone messages old.messages c.remove.new.self c.args.id m there h (old.linked c.args.id) out d.updates d.ordered in (
       slice_set messages r.place (Entry.gone m.fate),
       line,
       (r.place, known c.args.id m, r.at, refl, ended_lost m.fate c.requires.ended.2 (λ future e. c.in_default-fate.not-Answered future (same ∙ e)), refl),
       r.holds m.fate,
-      stands_as old.bound (old.reserved + length old.letters.order) (old.reserved + length c.remove.new.self.order) old.queue line (omega (arith, d.size)) s,
+      stands_as old.bound (old.reserved + length old.messages.order) (old.reserved + length c.remove.new.self.order) old.queue line (omega (arith, d.size)) s,
     )

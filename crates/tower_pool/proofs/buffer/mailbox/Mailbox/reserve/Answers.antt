@@ -7,9 +7,9 @@ use Rattle.tower_pool.proofs.buffer.mailbox.Mailbox.reserve.Goals as goal
 pub invariant_of-self : goal.invariant_of-self
 invariant_of-self g c =
     let old = c.args.self.now in
-    let was : Sorted old.stored old.letters = record { differ = old.differ; linked = old.linked; sent = old.sent } in
-    let now = sorted_as old.stored old.letters c.reserve.new.self was c.reserve.ensures.order (λ id. ap (λ e. get e id) c.reserve.ensures.rest_kept) in
-    let size : length c.reserve.new.self.order ≡ length old.letters.order = ap length c.reserve.ensures.order in
+    let was : Sorted old.stored old.messages = record { differ = old.differ; linked = old.linked; sent = old.sent } in
+    let now = sorted_as old.stored old.messages c.reserve.new.self was c.reserve.ensures.order (λ id. ap (λ e. get e id) c.reserve.ensures.rest_kept) in
+    let size : length c.reserve.new.self.order ≡ length old.messages.order = ap length c.reserve.ensures.order in
     record {
       limit = old.limit;
       fits = omega (arith, old.fits, size);
@@ -24,11 +24,11 @@ pub returns-then-free-gt0-clause-follows : goal.returns-then-free-gt0-clause-fol
 returns-then-free-gt0-clause-follows g c = λ messages line h s.
     let old = c.args.self.now in
     let now = c.reserve.new.self in
-    let size : length now.order ≡ length old.letters.order = ap length c.reserve.ensures.order in
-    let r = joins old.bound (old.reserved + length old.letters.order) old.queue line s (omega (arith, c.free.ensures, c.if-free-gt0.true, size)) old.full in (
+    let size : length now.order ≡ length old.messages.order = ap length c.reserve.ensures.order in
+    let r = joins old.bound (old.reserved + length old.messages.order) old.queue line s (omega (arith, c.free.ensures, c.if-free-gt0.true, size)) old.full in (
       messages,
       r.0,
       (c.if-self.false, r.1, refl),
-      holds_as old.letters now messages c.reserve.ensures.order (λ id. ap (λ e. get e id) c.reserve.ensures.rest_kept) h,
-      stands_as old.bound (old.reserved + length old.letters.order + 1) (old.reserved + 1 + length now.order) old.queue r.0 (omega (arith, size)) r.2,
+      holds_as old.messages now messages c.reserve.ensures.order (λ id. ap (λ e. get e id) c.reserve.ensures.rest_kept) h,
+      stands_as old.bound (old.reserved + length old.messages.order + 1) (old.reserved + 1 + length now.order) old.queue r.0 (omega (arith, size)) r.2,
     )

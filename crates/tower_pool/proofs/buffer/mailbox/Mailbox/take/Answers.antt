@@ -1,7 +1,7 @@
 use Rattle.std.proofs.Common.{◌≡◌, ◌+◌, ◌∙◌, suc, Some, true, false, is_some, length, subst, sym, ap, arith}
 use Rattle.std.proofs.lemmas.Bool.{lt-ltb, ltb-false, ltb-true}
 use Rattle.slab.specs.Slab.{Slab, get, slab_len}
-use Rattle.tower_pool.specs.Letters.{is_queued}
+use Rattle.tower_pool.specs.Messages.{is_queued}
 use Rattle.tower_pool.specs.Mail.{NoneQueued}
 use Rattle.tower_pool.specs.Mailbox.{Follows}
 use Rattle.tower_pool.specs.declared.buffer.mail.MailStep.TheVariants.{Take}
@@ -16,8 +16,8 @@ use Rattle.tower_pool.proofs.buffer.mailbox.Mailbox.take.Goals as goal
 pub invariant_of-self : goal.invariant_of-self
 invariant_of-self g c =
     let old = c.clearing.self in
-    let was : Sorted old.stored old.letters = record { differ = old.differ; linked = old.linked; sent = old.sent } in
-    let now = read old.stored old.letters c.is_cancelled_at.new.letters was c.is_cancelled_at.ensures.order c.is_cancelled_at.ensures.entries in
+    let was : Sorted old.stored old.messages = record { differ = old.differ; linked = old.linked; sent = old.sent } in
+    let now = read old.stored old.messages c.is_cancelled_at.new.messages was c.is_cancelled_at.ensures.order c.is_cancelled_at.ensures.entries in
     let size = ap length c.is_cancelled_at.ensures.order in
     record {
       limit = old.limit;
@@ -32,27 +32,27 @@ invariant_of-self g c =
 pub take_first-requires-clause-open : goal.take_first-requires-clause-open
 take_first-requires-clause-open g c = λ message at.
     let old = c.clearing.self in
-    let there : get old.letters.entries c.in-Some.first ≡ Some message = ap (λ e. get e c.in-Some.first) (sym c.is_cancelled_at.ensures.entries) ∙ at in
-    let some : is_some message.request ≡ true = sym (old.linked c.in-Some.first ∙ ap is_queued there) ∙ first_has old.letters.order c.in-Some.first (sym c.in-Some.ensures) in
+    let there : get old.messages.entries c.in-Some.first ≡ Some message = ap (λ e. get e c.in-Some.first) (sym c.is_cancelled_at.ensures.entries) ∙ at in
+    let some : is_some message.request ≡ true = sym (old.linked c.in-Some.first ∙ ap is_queued there) ∙ first_has old.messages.order c.in-Some.first (sym c.in-Some.ensures) in
     let waited = sym (c.is_cancelled_at.ensures.cancelled message there) ∙ c.if-not-is_cancelled_at.true in
     open_queued message.fate (still_unsettled message.request message.fate some (old.sent c.in-Some.first message there).1) waited
 
 pub clear_first-requires-clause-cancelled : goal.clear_first-requires-clause-cancelled
 clear_first-requires-clause-cancelled g c = λ message at.
     let old = c.clearing.self in
-    let there : get old.letters.entries c.in-Some.first ≡ Some message = ap (λ e. get e c.in-Some.first) (sym c.is_cancelled_at.ensures.entries) ∙ at in
+    let there : get old.messages.entries c.in-Some.first ≡ Some message = ap (λ e. get e c.in-Some.first) (sym c.is_cancelled_at.ensures.entries) ∙ at in
     cancelled_is message.fate (sym (c.is_cancelled_at.ensures.cancelled message there) ∙ c.if-not-is_cancelled_at.false)
 
 pub clearing-preserved : goal.clearing-preserved
 clearing-preserved g c =
     let old = c.clearing.self in
-    let mid = c.is_cancelled_at.new.letters in
-    let size : length mid.order ≡ length old.letters.order = ap length c.is_cancelled_at.ensures.order in (
+    let mid = c.is_cancelled_at.new.messages in
+    let size : length mid.order ≡ length old.messages.order = ap length c.is_cancelled_at.ensures.order in (
       suc c.clearing.invariant.0,
       λ messages line h s.
           let r = c.clearing.invariant.1 messages line h s in
-          let q = c.clear_first.ensures.clears r.0 r.1 (holds_as old.letters mid r.0 c.is_cancelled_at.ensures.order (λ id. ap (λ e. get e id) c.is_cancelled_at.ensures.entries) r.3)
-          (stands_as old.bound (old.reserved + length old.letters.order) (old.reserved + length mid.order) old.queue r.1 (omega (arith, size)) r.4) in
+          let q = c.clear_first.ensures.clears r.0 r.1 (holds_as old.messages mid r.0 c.is_cancelled_at.ensures.order (λ id. ap (λ e. get e id) c.is_cancelled_at.ensures.entries) r.3)
+          (stands_as old.bound (old.reserved + length old.messages.order) (old.reserved + length mid.order) old.queue r.1 (omega (arith, size)) r.4) in
           (q.0, q.1, (_, r.2, q.2), q.3, q.4),
       sym (lt-ltb 0 (suc c.clearing.invariant.0) (omega arith)),
       omega (arith, c.clearing.invariant.3, c.clear_first.ensures.few, c.clear_first.ensures.fewer, c.is_cancelled_at.ensures.touches, size),
@@ -62,32 +62,32 @@ pub returns-then-not-is_cancelled_at-clause-follows : goal.returns-then-not-is_c
 returns-then-not-is_cancelled_at-clause-follows g c =
     let fn = c.args.self.now in
     let old = c.clearing.self in
-    let mid = c.is_cancelled_at.new.letters in
-    let size : length mid.order ≡ length old.letters.order = ap length c.is_cancelled_at.ensures.order in
+    let mid = c.is_cancelled_at.new.messages in
+    let size : length mid.order ≡ length old.messages.order = ap length c.is_cancelled_at.ensures.order in
     let taken = c.take_first.ensures.takes in
     subst (λ (reply : MailReply _ _ _). Follows fn Take reply c.take_first.new.self) (sym taken.1) (λ messages line h s.
     let r = c.clearing.invariant.1 messages line h s in
-    let q = taken.2 r.0 r.1 (holds_as old.letters mid r.0 c.is_cancelled_at.ensures.order (λ id. ap (λ e. get e id) c.is_cancelled_at.ensures.entries) r.3)
-    (stands_as old.bound (old.reserved + length old.letters.order) (old.reserved + length mid.order) old.queue r.1 (omega (arith, size)) r.4) in
+    let q = taken.2 r.0 r.1 (holds_as old.messages mid r.0 c.is_cancelled_at.ensures.order (λ id. ap (λ e. get e id) c.is_cancelled_at.ensures.entries) r.3)
+    (stands_as old.bound (old.reserved + length old.messages.order) (old.reserved + length mid.order) old.queue r.1 (omega (arith, size)) r.4) in
     (q.0, q.1, (c.clearing.invariant.0, _, r.2, q.2), q.3, q.4))
 
 pub returns-then-cleared-clause-follows : goal.returns-then-cleared-clause-follows
 returns-then-cleared-clause-follows g c = λ messages line h s.
     let r = c.clearing.invariant.1 messages line h s in
     let some = ltb-true 0 c.clearing.invariant.0 (sym c.clearing.invariant.2 ∙ c.if-cleared.true) in
-    let none : NoneQueued r.0 = none_queued r.0 (sym r.3.order ∙ none_is c.clearing.self.letters.order c.in_default.ensures) in
+    let none : NoneQueued r.0 = none_queued r.0 (sym r.3.order ∙ none_is c.clearing.self.messages.order c.in_default.ensures) in
     (r.0, r.1, cleared_some _ _ c.clearing.invariant.0 some r.2 none, r.3, r.4)
 
 pub returns-then-is_over-clause-follows : goal.returns-then-is_over-clause-follows
 returns-then-is_over-clause-follows g c = λ messages line h s.
     let r = c.clearing.invariant.1 messages line h s in
     let few = ltb-false 0 c.clearing.invariant.0 (sym c.clearing.invariant.2 ∙ c.if-cleared.false) in
-    let none : NoneQueued r.0 = none_queued r.0 (sym r.3.order ∙ none_is c.clearing.self.letters.order c.in_default.ensures) in
+    let none : NoneQueued r.0 = none_queued r.0 (sym r.3.order ∙ none_is c.clearing.self.messages.order c.in_default.ensures) in
     (r.0, r.1, cleared_none _ _ c.clearing.invariant.0 true few r.2 none (sym c.is_over.ensures ∙ c.if-is_over.true), r.3, r.4)
 
 pub returns-clause-follows : goal.returns-clause-follows
 returns-clause-follows g c = λ messages line h s.
     let r = c.clearing.invariant.1 messages line h s in
     let few = ltb-false 0 c.clearing.invariant.0 (sym c.clearing.invariant.2 ∙ c.if-cleared.false) in
-    let none : NoneQueued r.0 = none_queued r.0 (sym r.3.order ∙ none_is c.clearing.self.letters.order c.in_default.ensures) in
+    let none : NoneQueued r.0 = none_queued r.0 (sym r.3.order ∙ none_is c.clearing.self.messages.order c.in_default.ensures) in
     (r.0, r.1, cleared_none _ _ c.clearing.invariant.0 false few r.2 none (sym c.is_over.ensures ∙ c.if-is_over.false), r.3, r.4)

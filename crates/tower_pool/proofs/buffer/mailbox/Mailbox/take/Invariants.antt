@@ -7,4 +7,4 @@ abbrev pub invariant-clearing : goal.invariant-clearing
 invariant-clearing g l = (n : ℕ) × Changes (Clears n) l.fn.self l.self × (l.cleared ≡ nat_lt 0 n) × FewEach l.fn.self l.self
 
 abbrev pub decreases-clearing : goal.decreases-clearing
-decreases-clearing g l = length l.self.letters.order
+decreases-clearing g l = length l.self.messages.order

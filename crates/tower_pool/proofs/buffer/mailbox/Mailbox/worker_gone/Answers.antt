@@ -11,9 +11,9 @@ use Rattle.tower_pool.proofs.buffer.mailbox.Mailbox.worker_gone.Goals as goal
 pub invariant_of-self : goal.invariant_of-self
 invariant_of-self g c =
     let old = c.args.self.now in
-    let was : Sorted old.stored old.letters = record { differ = old.differ; linked = old.linked; sent = old.sent } in
-    let now = sorted_lost old.stored old.letters c.abandon.new.letters was c.abandon.ensures.order c.abandon.ensures.entries in
-    let w = empty_fits old.bound (old.reserved + length c.abandon.new.letters.order) c.new.result (omega (arith, old.fits, ap length c.abandon.ensures.order)) c.new.ensures.stands in
+    let was : Sorted old.stored old.messages = record { differ = old.differ; linked = old.linked; sent = old.sent } in
+    let now = sorted_lost old.stored old.messages c.abandon.new.messages was c.abandon.ensures.order c.abandon.ensures.entries in
+    let w = empty_fits old.bound (old.reserved + length c.abandon.new.messages.order) c.new.result (omega (arith, old.fits, ap length c.abandon.ensures.order)) c.new.ensures.stands in
     let none = empty_sizes c.new.result c.new.ensures.stands in
     record {
       limit = old.limit;
@@ -28,13 +28,13 @@ invariant_of-self g c =
 pub returns : goal.returns
 returns g c = λ messages line h s.
     let old = c.args.self.now in
-    let was : Sorted old.stored old.letters = record { differ = old.differ; linked = old.linked; sent = old.sent } in
+    let was : Sorted old.stored old.messages = record { differ = old.differ; linked = old.linked; sent = old.sent } in
     let shut = closes _ _ _ line s.2 in
-    let all : queued messages ≡ length old.letters.order = queued_length messages ∙ ap length (sym h.order) in
+    let all : queued messages ≡ length old.messages.order = queued_length messages ∙ ap length (sym h.order) in
     let r = leave _ _ old.reserved _ (holding line) (omega (arith, shut.0, all), shut.1, shut.2) in (
       abandoned messages,
       r.0,
       (r.1, refl),
-      holds_left old.stored old.letters c.abandon.new.letters was c.abandon.ensures.order c.abandon.ensures.entries messages h,
+      holds_left old.stored old.messages c.abandon.new.messages was c.abandon.ensures.order c.abandon.ensures.entries messages h,
       (empty, c.new.ensures.stands, (omega (arith, r.2.0, ap length c.abandon.ensures.order), r.2.1, r.2.2)),
     )

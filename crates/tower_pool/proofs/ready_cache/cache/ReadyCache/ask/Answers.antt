@@ -5,7 +5,7 @@ use Rattle.futures.specs.declared.task.Poll.TheVariants.{Ready}
 use Rattle.tower_pool.specs.declared.ready_cache.error.Error.TheVariants.{Failed}
 use Rattle.indexmap.specs.IndexMap.{insert_entry}
 use Rattle.tower_pool.specs.ReadyCache.{awaited}
-use Rattle.tower_pool.specs.Waiters.{cache_of, entry_of, knows}
+use Rattle.tower_pool.specs.Pending.{cache_of, entry_of, knows}
 use Rattle.tower_pool.proofs.AskLemmas.{asked_by, sound_first, sound_gone, sound_last, sound_ready, when_ok}
 use Rattle.tower_pool.proofs.CacheLemmas.{same_view}
 use Rattle.tower_pool.proofs.KeptLemmas.{kept_dropped, kept_failed, kept_inserted, kept_last}

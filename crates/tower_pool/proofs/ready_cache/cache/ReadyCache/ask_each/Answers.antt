@@ -1,6 +1,6 @@
 use Rattle.std.proofs.Common.{rules, suc, ◌≡◌, ◌<◌, ◌-◌, ◌∙◌, Ok, true, false, true≢false, ap, sym, subst, refl, arith}
 use Rattle.tower_pool.specs.ReadyCachePoll.{AskedFirst}
-use Rattle.tower_pool.specs.Waiters.{cache_of}
+use Rattle.tower_pool.specs.Pending.{cache_of}
 use Rattle.tower_pool.proofs.KeptLemmas.{kept_rotated}
 use Rattle.tower_pool.proofs.AskLemmas.{Asking, asking_begins, asking_left, asking_stops, asking_waits, sound_rotated}
 use Rattle.tower_pool.proofs.ready_cache.cache.ReadyCache.ask_each.Goals as goal

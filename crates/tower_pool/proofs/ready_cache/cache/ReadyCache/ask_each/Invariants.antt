@@ -1,7 +1,7 @@
 use Rattle.std.proofs.Common.{◌≡◌, ◌≤◌, ◌+◌, ◌*◌, true, length}
 use Rattle.futures.specs.Task.{IsArmed, Keeps}
 use Rattle.tower_pool.specs.ReadyCache.{Sound}
-use Rattle.tower_pool.specs.Waiters.{Holds, cache_of}
+use Rattle.tower_pool.specs.Pending.{Holds, cache_of}
 use Rattle.tower_pool.proofs.AskLemmas.{Asking}
 use Rattle.tower_pool.proofs.ready_cache.cache.ReadyCache.ask_each.Given as goal
 

@@ -1,6 +1,6 @@
 use Rattle.std.proofs.Common.{All, ◌||◌, ap, sym, subst, ◌∙◌}
 use Rattle.tower_pool.specs.ReadyCache.{Askable, At, Sound, awaited}
-use Rattle.tower_pool.specs.Waiters.{knows}
+use Rattle.tower_pool.specs.Pending.{knows}
 use Rattle.tower_pool.proofs.CacheLemmas.{called_of, same_view}
 use Rattle.tower_pool.proofs.KeptLemmas.{kept_back, known_at}
 use Rattle.tower_pool.proofs.PlaceLemmas.{All-swap_remove, for_some, inside, one_less, taken}

@@ -1,7 +1,7 @@
 use Rattle.std.proofs.Common.{All, rules, ◌||◌, Err, is_some, refl, sym, ap, subst, ◌∙◌, arith}
 use Rattle.futures.specs.declared.task.Poll.TheVariants.{Ready}
 use Rattle.tower_pool.specs.ReadyCache.{Askable, Sound, awaited, put_back}
-use Rattle.tower_pool.specs.Waiters.{knows}
+use Rattle.tower_pool.specs.Pending.{knows}
 use Rattle.indexmap.specs.IndexMap.{set_value_at}
 use Rattle.tower_pool.proofs.CacheLemmas.{checked_of, same_view}
 use Rattle.tower_pool.proofs.KeptLemmas.{kept_back, kept_left, kept_lent, known_at, known_written}

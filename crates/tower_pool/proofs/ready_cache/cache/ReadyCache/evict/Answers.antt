@@ -1,7 +1,7 @@
 use Rattle.std.proofs.Common.{All, sym, subst, arith}
 use Rattle.tower_pool.specs.ReadyCache.{Askable, Sound}
 use Rattle.tower_pool.proofs.PlaceLemmas.{All-swap_remove_entry}
-use Rattle.tower_pool.specs.Waiters.{knows}
+use Rattle.tower_pool.specs.Pending.{knows}
 use Rattle.tower_pool.proofs.KeptLemmas.{kept_evicted}
 use Rattle.tower_pool.proofs.PendingLemmas.{All-cancel}
 use Rattle.tower_pool.proofs.ready_cache.cache.ReadyCache.evict.Goals as goal

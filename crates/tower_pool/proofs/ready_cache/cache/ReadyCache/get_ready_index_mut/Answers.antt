@@ -1,6 +1,6 @@
 use Rattle.std.proofs.Common.{◌∙◌, ap, slice_get}
 use Rattle.std.specs.Option.{option_map}
-use Rattle.tower_pool.specs.Waiters.{knows}
+use Rattle.tower_pool.specs.Pending.{knows}
 use Rattle.tower_pool.proofs.KeptLemmas.{kept_lent}
 use Rattle.tower_pool.proofs.PlaceLemmas.{value_there}
 use Rattle.tower_pool.proofs.ready_cache.cache.ReadyCache.get_ready_index_mut.Goals as goal

@@ -1,4 +1,4 @@
-use Rattle.tower_pool.specs.Waiters.{knows}
+use Rattle.tower_pool.specs.Pending.{knows}
 use Rattle.tower_pool.proofs.KeptLemmas.{kept_lent}
 use Rattle.tower_pool.proofs.ready_cache.cache.ReadyCache.get_ready_mut.Goals as goal
 

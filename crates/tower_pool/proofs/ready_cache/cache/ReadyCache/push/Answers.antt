@@ -1,6 +1,6 @@
 use Rattle.std.proofs.Common.{ap, sym, subst, ◌+◌}
 use Rattle.tower_pool.specs.ReadyCache.{Sound}
-use Rattle.tower_pool.specs.Waiters.{knows}
+use Rattle.tower_pool.specs.Pending.{knows}
 use Rattle.tower_pool.proofs.CacheLemmas.{sound_push}
 use Rattle.tower_pool.proofs.KeptLemmas.{kept_push}
 use Rattle.tower_pool.proofs.ready_cache.cache.ReadyCache.push.Goals as goal

@@ -1,5 +1,5 @@
 use Rattle.std.proofs.Common.{rules, ◌≤◌, length, arith}
-use Rattle.tower_ware.proofs.LineLemmas.{others_asked}
+use Rattle.tower_ware.proofs.OrderedCallsLemmas.{others_asked}
 use Rattle.tower_ware.proofs.util.call_all.line.ask_others.Goals as goal
 
 pub returns-clause-asked : goal.returns-clause-asked

@@ -1,7 +1,7 @@
 use Rattle.std.proofs.Common.{◌≡◌, All, ◌<◌, ◌≤◌, ℕ, length, slice_index_or}
 use Rattle.std.specs.VecDeque.{deque_capacity, deque_len}
 use Rattle.futures.specs.Task.{Keeps}
-use Rattle.tower_ware.specs.Line.{MayAsk, SlotAsked}
+use Rattle.tower_ware.specs.OrderedCalls.{MayAsk, SlotAsked}
 use Rattle.tower_ware.proofs.util.call_all.line.ask_others.Given as goal
 
 abbrev pub invariant-loop-i : goal.invariant-loop-i

@@ -16,7 +16,7 @@ loop-pass-preserved g c = record {
   there = search rules;
   queue = search rules;
   flow = search rules;
-  went = goes_more (Pass g.Svc.Service g.S.Flow g.Q.Drive)
+  went = goes_more (Pass g.Svc.Service g.S.Flow g.Q.CallQueue)
       c.loop-pass._pass _ _ _ c.loop-pass.invariant.went (rw c.in_default.is at c.pass.ensures.pass);
   kept = search rules;
 }

@@ -7,9 +7,9 @@ use Rattle.tower_ware.proofs.util.call_all.caller.Caller+Svc+S+Q+S+Item.passes.G
 abbrev pub invariant-loop-pass : goal.invariant-loop-pass
 invariant-loop-pass g l = record {
   there : IsSomeAnd l.self.service g.Svc.Service.sound;
-  queue : g.Q.Drive.sound l.self.queue;
+  queue : g.Q.CallQueue.sound l.self.queue;
   flow : l.self.ended ≡ false → g.S.Stream.can_poll l.self.requests;
-  went : Goes (Pass g.Svc.Service g.S.Flow g.Q.Drive)
+  went : Goes (Pass g.Svc.Service g.S.Flow g.Q.CallQueue)
       l._pass (view_of l.fn.self) (view_of l.self);
   kept : Keeps l.fn.cx l.cx;
 }

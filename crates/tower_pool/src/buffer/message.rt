@@ -1,0 +1,59 @@
+//! A message that somebody still knows by its id.
+ghost use Rattle.std.specs.Prelude.{◌≡◌};
+ghost use Rattle.tower_pool.specs.Messages.{bare, is_cancelled, taken_by};
+
+/// What became of a message.
+#[derive(Drop)]
+pub enum Fate<F> {
+    /// It has no outcome yet.
+    Open,
+    /// It was answered with this future.
+    Answered(F),
+    /// The service failed.
+    Failed,
+    /// Nobody waits for it any more.
+    Cancelled,
+    /// The worker went away.
+    Lost,
+}
+
+/// A message, under its id. It has its request while it is queued.
+#[derive(Drop)]
+pub struct Message<Request, F> {
+    pub request: Option<Request>,
+    pub fate: Fate<F>,
+}
+
+impl<F> Fate<F> {
+    pub(crate) fn is_cancelled(&self) -> bool
+        ensures { result ≡ is_cancelled self.now }
+    {
+        matches!(self, Fate::Cancelled)
+    }
+
+    // Without its future.
+    pub(crate) fn bare(&self) -> Fate<()>
+        ensures { result ≡ bare self.now }
+    {
+        match self {
+            Fate::Open => Fate::Open,
+            Fate::Answered(_) => Fate::Answered(()),
+            Fate::Failed => Fate::Failed,
+            Fate::Cancelled => Fate::Cancelled,
+            Fate::Lost => Fate::Lost,
+        }
+    }
+}
+
+impl<Request, F> Message<Request, F> {
+    // Of one that the worker has, which has no outcome or isn't waited for: whether it is waited for.
+    pub(crate) fn taken(&self) -> Option<bool>
+        ensures { result ≡ taken_by self.now.request self.now.fate }
+    {
+        match (&self.request, &self.fate) {
+            (None, Fate::Open) => Some(true),
+            (None, Fate::Cancelled) => Some(false),
+            _ => None,
+        }
+    }
+}

@@ -1,0 +1,56 @@
+//! What keeps the futures of calls.
+ghost use Rattle.std.specs.Prelude.{◌≡◌, IsTrue, ◌↔◌, None, OnOk, Option};
+ghost use Rattle.futures.specs.Poll.{OnPending};
+ghost use Rattle.futures.specs.Task.{IsArmed, Keeps};
+ghost use Rattle.futures.specs.declared.task.Poll.{Poll};
+ghost use Rattle.futures.specs.declared.task.Poll.TheVariants.{Ready};
+
+use futures::task::{Context, Poll};
+use std::alloc::AllocError;
+use tower_base::service::Steps;
+
+/// Futures of calls, without the answers that were yielded: the Rust's `Drive`.
+pub trait CallQueue<T, F: Steps<Output = T>>: Drop {
+    // Each of them may be polled.
+    ghost sound: { Self → Type 0 };
+
+    // One more may be put in.
+    ghost has_room: { Self → Type 0 };
+
+    // None is left.
+    ghost empty: { Self → Type 0 };
+
+    // A poll may give this answer, with none for the end, and leave the second value.
+    ghost asked: { Self → Poll (Option T) → Self → Type 0 };
+
+    // The same calls.
+    ghost grown: { Self → Self → Type 0 };
+
+    // The second has the future as the last.
+    ghost pushed: { Self → F → Self → Type 0 };
+
+    fn poll(&mut self, cx: &mut Context<'_>) -> Poll<Option<T>>
+        requires { sound self.old }
+        ensures asked { asked self.old result self.new }
+        ensures sound { sound self.new }
+        ensures none { result ≡ Ready None → empty self.new }
+        ensures armed { OnPending result (IsArmed cx.new) }
+        ensures kept { Keeps cx.old cx.new };
+
+    fn is_empty(&self) -> bool
+        ensures { IsTrue result ↔ empty self.now };
+
+    // Makes room for one.
+    fn reserve(&mut self) -> Result<(), AllocError>
+        requires { sound self.old }
+        ensures grown { grown self.old self.new }
+        ensures sound { sound self.new }
+        ensures room { OnOk result (has_room self.new) };
+
+    fn push(&mut self, future: F)
+        requires room { has_room self.old }
+        requires sound { sound self.old }
+        requires pollable { F.can_poll future }
+        ensures pushed { pushed self.old future self.new }
+        ensures sound { sound self.new };
+}
