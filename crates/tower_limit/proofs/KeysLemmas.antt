@@ -1,10 +1,24 @@
 -- Lists of keys, of which no key stands twice.
-use Rattle.std.proofs.Common.{◌≡◌, ℕ, ◌+◌, ◌<◌, ◌≤◌, zero, suc, Bool, true, false, ◌||◌, not, eqb, List, [], ◌∷◌, ◌++◌, length, Some, slice_get, remove, refl, sym, ap, subst, ◌∙◌, inl, inr, arith}
+use Rattle.std.proofs.Common.{◌≡◌, ℕ, ◌+◌, ◌<◌, ◌≤◌, zero, suc, Bool, true, false, ◌&&◌, ◌||◌, not, eqb, List, [], ◌∷◌, ◌++◌, length, Some, slice_get, remove, refl, sym, ap, subst, ◌∙◌, inl, inr, arith}
 use Rattle.std.proofs.lemmas.Bool.Decides.{eqb_tells}
 use Rattle.std.proofs.lemmas.Bool.{eq-eqb}
 use Rattle.std.proofs.lemmas.List.Folds.{list_any-append}
 use Rattle.std.proofs.lemmas.List.Elements.{filter-append}
 use Rattle.tower_base.specs.Order.{has, without, Apart}
+use Rattle.tower_limit.specs.Waiters.{are_apart}
+
+-- that keys are apart, as a fact and as a `Bool`
+pub apart_is : (keys : List ℕ) → are_apart keys ≡ true → Apart keys
+apart_is [] e = tt
+apart_is (first ∷ rest) e = let b = both (has rest first) (are_apart rest) e in (b.0, apart_is rest b.1)
+  where
+    both : (a b : Bool) → not a && b ≡ true → (a ≡ false) × (b ≡ true)
+    both false b h = (refl, h)
+    both true b h = absurd (cc)
+
+pub is_apart : (keys : List ℕ) → Apart keys → are_apart keys ≡ true
+is_apart [] h = refl
+is_apart (first ∷ rest) h = ap (λ b. not b && are_apart rest) h.0 ∙ is_apart rest h.1
 
 eqb_self : (n : ℕ) → eqb n n ≡ true
 eqb_self n = eq-eqb n n refl

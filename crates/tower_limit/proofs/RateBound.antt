@@ -1,9 +1,9 @@
 -- No interval as long as the period holds more calls than the number.
-use Rattle.std.proofs.Common.{◌≡◌, ◌+◌, ◌-◌, ◌≤◌, ◌<◌, ◌||◌, ℕ, zero, suc, Bool, true, false, not, Some, None, List, [], ◌∷◌, length, nat_le, slice_get, slice_index, if◌then◌else◌, refl, sym, ap, ◌∙◌, subst, arith}
-use Rattle.std.proofs.lemmas.Bool.{leb-true, leb-false, le-leb}
+use Rattle.std.proofs.Common.{◌≡◌, ◌+◌, ◌-◌, ◌≤◌, ◌<◌, ◌||◌, ℕ, zero, suc, Bool, true, false, not, Some, List, [], ◌∷◌, length, nat_le, slice_get, slice_index, if◌then◌else◌, refl, ap, ◌∙◌, arith}
+use Rattle.std.proofs.lemmas.Bool.{leb-true, leb-false}
 use Rattle.std.proofs.lemmas.Bool.Decides.{nat_tests}
 use Rattle.std.proofs.lemmas.Option.{get_or_from_slice_get, slice_get_within}
-use Rattle.tower_limit.specs.Rate.{Calls, opening, is_limited, oldest, passes, may_call, after_poll, after_call}
+use Rattle.tower_limit.specs.Rate.{Calls, opening, is_limited, oldest, may_call, after_poll, after_call}
 use Rattle.tower_limit.specs.RateLaws.{Step, Fair, one_within, calls_within, Bounded}
 
 -- the newest of these moments is no later

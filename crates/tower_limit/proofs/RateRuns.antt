@@ -1,5 +1,5 @@
 -- A run of a rate limit is a fair list of steps.
-use Rattle.std.proofs.Common.{◌≡◌, ◌+◌, ◌≤◌, ◌<◌, ◌||◌, ℕ, Bool, true, false, not, List, [], ◌∷◌, ◌++◌, refl, ap, sym, ◌∙◌, subst, arith, Result}
+use Rattle.std.proofs.Common.{◌≡◌, ◌+◌, ◌≤◌, ◌||◌, ℕ, Bool, true, false, not, List, [], ◌∷◌, refl, ap, sym, ◌∙◌, subst, arith, Result}
 use Rattle.futures.specs.declared.task.Poll.{Poll}
 use Rattle.tower_base.specs.Monotonic.{IsMonotonic}
 use Rattle.tower_base.specs.Projection.{Once, Each, RunInside, Projects}
@@ -7,9 +7,9 @@ use Rattle.tower_base.specs.ProjectionLemmas.{no_action, one_poll, one_call, pro
 use Rattle.tower_base.specs.ServiceRun.{relations, Action, Transition, Takes, ServiceRun, requests}
 use Rattle.tower_base.specs.declared.service.Service.{Ghosts as ServiceOf}
 use Rattle.tower_base.specs.declared.service.Clock.{Ghosts as ClockOf}
-use Rattle.tower_limit.specs.Rate.{Calls, RateLimitView, RateCoreView, StandsFor, Stands, PollsAt, Asks, opening, is_limited, passes, may_call, after_poll, after_call}
+use Rattle.tower_limit.specs.Rate.{Calls, RateLimitView, RateCoreView, StandsFor, PollsAt, Asks, opening, is_limited, passes, may_call, after_poll, after_call}
 use Rattle.tower_limit.specs.RateLaws.{Step, Fair, one_within, calls_within}
-use Rattle.tower_limit.specs.RateRun.{rate_of, within, AtMostIn, call_moments, Forward, RunsBounded, RunsForward, KeepsRate}
+use Rattle.tower_limit.specs.RateRun.{rate_of, within, call_moments, Forward, RunsBounded, RunsForward, KeepsRate}
 use Rattle.tower_limit.proofs.RateBound.{bounded}
 use Rattle.tower_limit.proofs.RateStands.{full}
 

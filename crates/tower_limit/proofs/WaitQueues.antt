@@ -7,10 +7,10 @@ use Rattle.tower_base.specs.Links.{LinksView}
 use Rattle.tower_base.specs.Order.{has, without, first_or, Apart}
 use Rattle.tower_limit.specs.Turns.{Turns, Admits, Enters, Leaves, Looks, empty}
 use Rattle.tower_limit.specs.WaitQueue.{Follows, StandsAs, StandsFor, granted, size, waiting}
-use Rattle.tower_limit.specs.Waiters.{IsPresent, Waits, outside}
+use Rattle.tower_limit.specs.Waiters.{IsPresent, Waits, are_apart, outside}
 use Rattle.tower_limit.specs.declared.wait_queue.Turn.TheVariants.{Granted, Waiting, Unknown}
 use Rattle.tower_limit.specs.declared.wait_queue.WaitQueue.{WaitQueue}
-use Rattle.tower_limit.proofs.KeysLemmas.{append_assoc, apart_front, at_has, behind, has_append, in_front, length_without, or_right, without_append, without_at, without_lacks}
+use Rattle.tower_limit.proofs.KeysLemmas.{append_assoc, apart_front, apart_is, at_has, behind, has_append, in_front, is_apart, length_without, or_right, without_append, without_at, without_lacks}
 use Rattle.tower_limit.proofs.Waiters.{admitted, granted_has, grown, pushed, removed, outside_waits, waits_apart, waits_count, waits_present}
 
 -- so many were granted, and wait with those in the order
@@ -24,10 +24,10 @@ pub kept_from : (count : ℕ) (waiters : LinksView (Unit {0})) → Apart waiters
 kept_from count waiters apart present size = record { front = outside waiters; waits = outside_waits waiters apart present; size = size }
 
 pub kept_of : (queue : WaitQueue) → Kept queue.granted queue.waiters
-kept_of queue = kept_from queue.granted queue.waiters queue.apart queue.present queue.count
+kept_of queue = kept_from queue.granted queue.waiters (apart_is queue.waiters.order queue.apart) queue.present queue.count
 
-pub kept_apart : (count : ℕ) (waiters : LinksView (Unit {0})) → Kept count waiters → Apart waiters.order
-kept_apart count waiters k = waits_apart waiters k.front k.waits
+pub kept_apart : (count : ℕ) (waiters : LinksView (Unit {0})) → Kept count waiters → are_apart waiters.order ≡ true
+kept_apart count waiters k = is_apart waiters.order (waits_apart waiters k.front k.waits)
 
 pub kept_present : (count : ℕ) (waiters : LinksView (Unit {0})) → Kept count waiters → IsPresent waiters
 kept_present count waiters k = waits_present waiters k.front k.waits
@@ -63,9 +63,9 @@ longer order key ne = elim (cases_has order key) [
   | inr lacks ↦ absurd (ne (ap length (without_lacks order key lacks)))
 ]
 
-pub no_shorter : (order : List ℕ) (key : ℕ) → Apart order → length order ≤ length (without order key) → has order key ≡ false
+pub no_shorter : (order : List ℕ) (key : ℕ) → are_apart order ≡ true → length order ≤ length (without order key) → has order key ≡ false
 no_shorter order key apart le = elim (cases_has order key) [
-  | inl h ↦ absurd (omega (arith, le, length_without order key apart h))
+  | inl h ↦ absurd (omega (arith, le, length_without order key (apart_is order apart) h))
   | inr lacks ↦ lacks
 ]
 
@@ -131,7 +131,7 @@ module _ (count : ℕ) (old new : LinksView (Unit {0})) (k : Kept count old) whe
 pub some_queue : (queue : WaitQueue) → (plain : Turns) × StandsFor queue plain
 some_queue queue = (
   record { keys = outside queue.waiters ++ queue.waiters.order; granted = queue.granted },
-  (outside queue.waiters, outside_waits queue.waiters queue.apart queue.present, queue.count, refl, refl),
+  (outside queue.waiters, outside_waits queue.waiters (apart_is queue.waiters.order queue.apart) queue.present, queue.count, refl, refl),
 )
 
 -- how many wait

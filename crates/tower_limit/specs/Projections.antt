@@ -1,5 +1,5 @@
 -- What goes inside of what each middleware is asked.
-use Rattle.std.proofs.Common.{◌≡◌, IsSome, List, [], refl, Result, Ok, Err}
+use Rattle.std.proofs.Common.{IsSome, List, [], refl, Result, Ok, Err}
 use Rattle.std.specs.declared.alloc.AllocError.{AllocError}
 use Rattle.futures.specs.declared.task.Poll.{Poll}
 use Rattle.futures.specs.declared.task.Poll.TheVariants.{Ready, Pending}

@@ -1,9 +1,9 @@
 -- After a poll that answers `Ok` a call may be made.
-use Rattle.std.proofs.Common.{◌≡◌, ◌||◌, ℕ, Bool, true, false, Ok, not, if◌then◌else◌, refl, ap}
+use Rattle.std.proofs.Common.{◌≡◌, ◌||◌, Bool, true, false, Ok, not, refl, ap}
 use Rattle.futures.specs.declared.task.Poll.TheVariants.{Ready}
 use Rattle.tower_base.specs.declared.service.Service.{Ghosts as ServiceOf}
 use Rattle.tower_base.specs.declared.service.Clock.{Ghosts as ClockOf}
-use Rattle.tower_limit.specs.Rate.{Calls, RateLimitView, StandsFor, Stands, Polled, PollsAt, Asks, is_limited, passes, may_call, after_poll}
+use Rattle.tower_limit.specs.Rate.{Calls, RateLimitView, StandsFor, Stands, Polled, PollsAt, Asks, is_limited, passes, may_call}
 
 -- a pass that is open allows a call
 pub open-allows : (limited : Bool) → not limited || true ≡ true

@@ -1,9 +1,13 @@
--- Who waits in a line of permits.
-use Rattle.std.specs.Prelude.{◌≡◌, ◌&&◌, not, if◌then◌else◌, is_some, ℕ, zero, suc, Bool, true, false, List, [], ◌∷◌, ◌++◌, length}
-use Rattle.std.specs.Coded.{Coded-set, coded_bool, ×_prop, Unit-prop}
+-- Who waits in a queue.
+use Rattle.std.specs.Prelude.{◌≡◌, ◌&&◌, not, if◌then◌else◌, is_some, ℕ, zero, suc, Bool, true, List, [], ◌∷◌, ◌++◌, length}
 use Rattle.slab.specs.Slab.{get}
 use Rattle.tower_base.specs.Links.{LinksView}
 use Rattle.tower_base.specs.Order.{has, Apart}
+
+-- no key stands twice
+abbrev pub are_apart : List ℕ → Bool
+are_apart [] = true
+are_apart (key ∷ rest) = not (has rest key) && are_apart rest
 
 -- the key's entry stands outside the order
 abbrev pub stands_outside : LinksView (Unit {0}) → ℕ → Bool
@@ -25,8 +29,3 @@ IsPresent waiters = (key : ℕ) → has waiters.order key ≡ true → is_some (
 pub record Waits (granted : List ℕ) (waiters : LinksView (Unit {0})) : Type 0 where
   pub apart : Apart (granted ++ waiters.order)
   pub present : (key : ℕ) → has (granted ++ waiters.order) key ≡ is_some (get waiters.entries key)
-
--- that keys are apart is a fact
-pub Apart-prop : (keys : List ℕ) → IsProp (Apart keys)
-Apart-prop [] = Unit-prop
-Apart-prop (key ∷ rest) = ×_prop (Coded-set coded_bool (has rest key) false) (Apart-prop rest)

@@ -1,8 +1,7 @@
 //! Those who wait for grants, in the order of asking.
-ghost use Rattle.std.specs.Prelude.{◌≡◌, ◌<◌, ◌≤◌, ◌+◌, IsOk, length};
+ghost use Rattle.std.specs.Prelude.{◌≡◌, ◌<◌, ◌≤◌, ◌+◌, IsOk, length, true};
 ghost use Rattle.slab.specs.Slab.{slab_len};
-ghost use Rattle.tower_base.specs.Order.{Apart};
-ghost use Rattle.tower_limit.specs.Waiters.{Apart-prop, IsPresent, outside};
+ghost use Rattle.tower_limit.specs.Waiters.{IsPresent, are_apart, outside};
 
 use std::alloc::{AllocError, Global};
 use tower_base::links::Links;
@@ -27,7 +26,7 @@ pub enum Turn {
 pub struct WaitQueue {
     granted: usize,
     waiters: Links<()>,
-    ghost apart: { Apart waiters.order } by { Apart-prop waiters.order },
+    ghost apart: { are_apart waiters.order ≡ true },
     ghost present: { IsPresent waiters },
     ghost count: { length (outside waiters) ≡ granted },
     ghost places: { slab_len waiters.entries ≡ granted + length waiters.order },

@@ -8,7 +8,7 @@ use Rattle.tower_base.specs.Order.{has, without}
 use Rattle.tower_pool.specs.Messages.{Fits, is_queued, is_unsettled, lost, lost_by}
 use Rattle.tower_pool.specs.Mail.{At, Entry, SentMessage, abandoned, left_by, queued}
 use Rattle.tower_pool.specs.Mailbox.{Holds, kept, known, queue}
-use Rattle.tower_pool.specs.Waiting.{are_apart}
+use Rattle.tower_limit.specs.Waiters.{are_apart}
 use Rattle.tower_pool.specs.declared.buffer.message.Fate.{Fate}
 use Rattle.tower_pool.specs.declared.buffer.message.Fate.TheVariants.{Open, Answered, Failed, Cancelled, Lost}
 use Rattle.tower_pool.specs.declared.buffer.message.Message.{Message}

@@ -4,7 +4,6 @@ pub mod CacheLemmas
 pub mod Closing
 pub mod Fates
 pub mod KeptLemmas
-pub mod KeysLemmas
 pub mod Machine
 pub mod MailRuns
 pub mod Messages

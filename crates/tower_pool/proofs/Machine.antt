@@ -14,8 +14,7 @@ use Rattle.tower_pool.specs.declared.buffer.mail.MailStep.{MailStep}
 use Rattle.tower_pool.specs.declared.buffer.mail.MailReply.{MailReply}
 use Rattle.tower_pool.specs.declared.buffer.mailbox.Mailbox.{Mailbox}
 use Rattle.tower_pool.proofs.Fates.{queued_some, some_is}
-use Rattle.tower_limit.proofs.KeysLemmas.{apart_cross, at_has, has_at, has_first, not_both, or_right}
-use Rattle.tower_pool.proofs.KeysLemmas.{apart_is}
+use Rattle.tower_limit.proofs.KeysLemmas.{apart_cross, apart_is, at_has, has_at, has_first, not_both, or_right}
 use Rattle.tower_limit.proofs.Lines.{some_line}
 use Rattle.tower_limit.proofs.WaitQueues.{some_queue}
 use Rattle.tower_pool.proofs.Messages.{Sorted, here_is, not_here}

@@ -10,6 +10,5 @@ pub mod Pending
 pub mod ReadyCache
 pub mod ReadyCacheLends
 pub mod ReadyCachePoll
-pub mod Waiting
 pub mod Worker
 pub mod WorkerOrder

@@ -1,7 +1,7 @@
 use Rattle.std.proofs.Common.{◌≡◌, ◌≤◌, ◌-◌, true, false, None, is_some, ◌∙◌, inr, refl, sym, ap, arith, length}
 use Rattle.slab.specs.Slab.{get, slab_len}
 use Rattle.tower_base.specs.Order.{has}
-use Rattle.tower_limit.proofs.KeysLemmas.{length_without, without_lacks}
+use Rattle.tower_limit.proofs.KeysLemmas.{apart_is, length_without, without_lacks}
 use Rattle.tower_limit.proofs.WaitQueues.{Kept, absent_lacks, count_some, granted_goes, kept_apart, kept_count, kept_gone, kept_left, kept_of, kept_present, kept_taken, lacks_key, linked_leaves, longer, no_shorter, stays_without}
 use Rattle.tower_limit.proofs.wait_queue.WaitQueue.leave.Goals as goal
 
@@ -74,7 +74,7 @@ invariant_of-self-else-len-waiting c =
       apart = kept_apart old.granted mid k;
       present = kept_present old.granted mid k;
       count = kept_count old.granted mid k;
-      places = omega (arith, c.in-Some.ensures.len, old.places, length_without old.waiters.order c.args.key old.apart h, ap length c.remove.ensures.order);
+      places = omega (arith, c.in-Some.ensures.len, old.places, length_without old.waiters.order c.args.key (apart_is old.waiters.order old.apart) h, ap length c.remove.ensures.order);
     }
 
 pub returns-else-len-waiting-clause-follows : goal.returns-else-len-waiting-clause-follows
