@@ -1,8 +1,8 @@
 //! The handles of a service and the futures of its calls.
 ghost use Rattle.std.specs.Prelude.{◌≡◌, true};
 
+use crate::callable::Handle;
 use crate::command::letter_of;
-use crate::held::Handle;
 use crate::party::Reader;
 use crate::report::error_text;
 use futures::task::{Poll, Solo};

@@ -1,11 +1,11 @@
 //! Tests as scripts: what is asked of a service, what it answers and what its parts noted, a line each.
 #![tactic(auto)]
 
+mod callable;
 pub mod command;
 mod copies;
 pub mod flow;
 mod handles;
-mod held;
 mod lone;
 pub mod party;
 pub mod player;

@@ -1,5 +1,5 @@
 -- The messages that are kept under their ids, among all that were sent.
-use Rattle.std.proofs.Common.{◌≡◌, ◌≢◌, ◌⊎◌, ℕ, ◌<◌, zero, suc, Bool, true, false, ◌||◌, if◌then◌else◌, List, [], ◌∷◌, ◌++◌, length, Option, Some, None, is_some, slice_get, slice_set, refl, sym, ap, subst, ◌∙◌, inl, inr, arith}
+use Rattle.std.proofs.Common.{◌≡◌, ◌≢◌, ◌⊎◌, ℕ, ◌<◌, zero, suc, Bool, true, false, ◌||◌, if◌then◌else◌, List, [], ◌∷◌, ◌++◌, length, Option, Some, None, is_some, slice_get, slice_index_or, slice_set, refl, sym, ap, subst, ◌∙◌, inl, inr, arith}
 use Rattle.std.proofs.lemmas.Bool.Decides.{eqb_tells}
 use Rattle.slab.specs.Slab.{get, Updates}
 use Rattle.tower_base.specs.Links.{LinksView}
@@ -165,6 +165,14 @@ module _ {Q F : Type 0} where
       ap (λ (r : Option Q). ahead (is_some r) first.id (queue messages)) (none 0 first refl) ∙ empty_queue messages (λ place item at. none (suc place) item at)
 
   -- ---- what is kept, before and after a change
+
+  pub holds_none : (links : LinksView (Message Q F)) → links.order ≡ [] → links.entries.slots ≡ [] → Holds links []
+  holds_none links order slots = record {
+    stands = λ place item at. absurd (cc);
+    sent = λ id message there. absurd (not_none message (sym there ∙ ap (λ (l : List (Option (Message Q F))). slice_index_or l id None) slots));
+    once = λ place other item another at also same. absurd (cc);
+    order = order;
+  }
 
   pub holds_as : (old new : LinksView (Message Q F)) (messages : List (Entry Q F)) → new.order ≡ old.order → ((id : ℕ) → get new.entries id ≡ get old.entries id)
       → Holds old messages → Holds new messages

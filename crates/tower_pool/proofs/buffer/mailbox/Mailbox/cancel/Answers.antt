@@ -28,4 +28,4 @@ pub returns-clause-follows : goal.returns-clause-follows
 returns-clause-follows g c = λ messages line p s.
     let old = c.args.self.now in
     let r = nobody_left old.bound (old.reserved + length old.messages.order) old.queue line s c.leave.new.self c.args.key c.if-leave.ensures.follows in
-    (messages, r.0, (c.if-self.false, r.1, refl), p, r.2)
+    (messages, r.0, (c.if-self.false, r.1, rw r.1.1 refl), p, r.2)

@@ -51,7 +51,7 @@ returns-in-Waiting-clause-follows g c = λ messages line p s.
     let old = c.args.self.now in
     let all = old.full (saw_waiting old.queue c.look.new.self c.args.key c.in-Waiting.ensures.follows).0 in
     let r = waits_on old.bound (old.reserved + length old.messages.order) old.queue line s c.look.new.self c.args.key c.in-Waiting.ensures.follows (omega (arith, all)) in
-    (messages, r.0, (c.if-self.false, r.1, refl), p, r.2)
+    (messages, r.0, (c.if-self.false, r.1, rw r.1.4 refl), p, r.2)
 
 pub invariant_of-self-in-Unknown : goal.invariant_of-self-in-Unknown
 invariant_of-self-in-Unknown g c =
@@ -73,4 +73,4 @@ pub returns-in-Unknown-clause-follows : goal.returns-in-Unknown-clause-follows
 returns-in-Unknown-clause-follows g c = λ messages line p s.
     let old = c.args.self.now in
     let r = nobody old.bound (old.reserved + length old.messages.order) old.queue line s c.look.new.self c.args.key c.in-Unknown.ensures.follows in
-    (messages, r.0, (c.if-self.false, r.1, refl), p, r.2)
+    (messages, r.0, (c.if-self.false, r.1, rw r.1.1 refl), p, r.2)

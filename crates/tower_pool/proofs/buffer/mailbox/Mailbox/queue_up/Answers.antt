@@ -28,7 +28,7 @@ pub returns-in-Err-clause-follows : goal.returns-in-Err-clause-follows
 returns-in-Err-clause-follows g c = λ messages line p s.
     let old = c.args.self.now in
     let r = no_memory old.bound (old.reserved + length old.messages.order) old.queue line s c.wait.new.self _ c.in-Err.ensures.follows c.requires.full in
-    (messages, r.0, (inl c.requires.closed, refl), p, r.2)
+    (messages, r.0, (inl c.requires.closed, rw r.1.1 refl), p, r.2)
 
 pub returns-in-Err-clause-excused : goal.returns-in-Err-clause-excused
 returns-in-Err-clause-excused g c = λ same. full_room _ _ (λ less. c.in-Err.ensures.succeeds (omega (arith, less)))

@@ -1,4 +1,4 @@
-use Rattle.std.proofs.Common.{◌≡◌, ◌+◌, ◌∙◌, suc, Some, true, false, is_some, length, subst, sym, ap, arith}
+use Rattle.std.proofs.Common.{◌≡◌, ◌+◌, ◌∙◌, suc, Some, true, false, is_some, length, refl, subst, sym, ap, arith}
 use Rattle.std.proofs.lemmas.Bool.{lt-ltb, ltb-false, ltb-true}
 use Rattle.slab.specs.Slab.{Slab, get, slab_len}
 use Rattle.tower_pool.specs.Messages.{is_queued}
@@ -42,6 +42,9 @@ clear_first-requires-clause-cancelled g c = λ message at.
     let old = c.clearing.self in
     let there : get old.messages.entries c.in-Some.first ≡ Some message = ap (λ e. get e c.in-Some.first) (sym c.is_cancelled_at.ensures.entries) ∙ at in
     cancelled_is message.fate (sym (c.is_cancelled_at.ensures.cancelled message there) ∙ c.if-not-is_cancelled_at.false)
+
+pub clearing-init : goal.clearing-init
+clearing-init g c = (0, (λ messages line h s. (messages, line, refl, h, s)), refl, omega arith)
 
 pub clearing-preserved : goal.clearing-preserved
 clearing-preserved g c =
