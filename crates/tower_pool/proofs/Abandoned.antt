@@ -7,14 +7,13 @@ use Rattle.tower_base.specs.Links.{LinksView}
 use Rattle.tower_base.specs.Order.{has, without}
 use Rattle.tower_pool.specs.Messages.{Fits, is_queued, is_unsettled, lost, lost_by}
 use Rattle.tower_pool.specs.Mail.{At, Entry, SentMessage, abandoned, left_by, queued}
-use Rattle.tower_pool.specs.Mailbox.{Holds, kept, known, queue}
-use Rattle.tower_limit.specs.Waiters.{are_apart}
+use Rattle.tower_pool.specs.MessageSteps.{Holds, kept, known, queue}
 use Rattle.tower_pool.specs.declared.buffer.message.Fate.{Fate}
 use Rattle.tower_pool.specs.declared.buffer.message.Fate.TheVariants.{Open, Answered, Failed, Cancelled, Lost}
 use Rattle.tower_pool.specs.declared.buffer.message.Message.{Message}
 use Rattle.tower_pool.proofs.Fates.{some_is}
 use Rattle.tower_limit.proofs.KeysLemmas.{has_first, has_without_other, has_without_same, not_both}
-use Rattle.tower_pool.proofs.Messages.{Sorted, empty_queue, here_is, not_here}
+use Rattle.tower_pool.proofs.Messages.{Sorted, empty_queue, here_is, not_here, sorted_left}
 
 -- a list that has no key is empty
 pub no_keys : (keys : List ℕ) → ((key : ℕ) → has keys key ≡ false) → keys ≡ []
@@ -165,12 +164,12 @@ module _ {Q F E : Type 0} (stored : Option E) (old new : LinksView (Message Q F)
           let r = h.sent id was is in
           (r.0, left_at messages r.0 (known id was) r.1 ∙ ap Some (lost_tells id was message was.fate e))
 
-  pub sorted_lost : Sorted stored new
-  sorted_lost = record {
-    differ = ap are_apart order;
-    linked = λ id. ap (λ l. has l id) order ∙ by (get old.entries id) (λ message there. (s.sent id message there).1) ∙ sym (ap is_queued (entries id));
-    sent = λ id message there. fit message (get old.entries id) (λ was is. s.sent id was is) (sym (entries id) ∙ there);
-  }
+-- one more was walked over
+module _ {Q F E : Type 0} (stored : Option E) (old new : LinksView (Message Q F)) (s : Sorted stored old) where
+  pub sorted_lost : (id : ℕ) → new.order ≡ without old.order id → Updates old.entries new.entries id (lost (get old.entries id)) → Sorted stored new
+  sorted_lost id order updates = sorted_left stored old new s id (lost (get old.entries id)) updates order
+      (sym (by (get old.entries id) (λ message there. (s.sent id message there).1)))
+      (λ message there. fit message (get old.entries id) (λ was is. s.sent id was is) there)
     where
       one : (was : Message Q F) (fate : Fate F) → (is_unsettled fate ≡ false → was.request ≡ None) → false ≡ is_queued (lost_by was fate)
       one was Open out = refl

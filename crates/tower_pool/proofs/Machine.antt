@@ -1,23 +1,28 @@
 -- What a mailbox serves is the machine's.
-use Rattle.std.proofs.Common.{◌≡◌, ℕ, zero, suc, true, false, if◌then◌else◌, Option, Some, None, is_some, List, [], ◌∷◌, ◌++◌, map, slice_get, slice_index_or, refl, ◌+◌, ap, subst, sym, ◌∙◌, arith, length}
+use Rattle.std.proofs.Common.{◌≡◌, ℕ, zero, suc, true, false, if◌then◌else◌, Option, Some, None, is_some, List, [], ◌∷◌, ◌++◌, map, slice_get, slice_index_or, refl, ◌+◌, ap, subst, sym, ◌∙◌, arith}
 use Rattle.slab.specs.Slab.{get}
 use Rattle.tower_base.specs.Latch.{FollowsMachine, StepsAs}
 use Rattle.tower_base.specs.Links.{LinksView}
 use Rattle.tower_base.specs.Order.{has, Apart}
+use Rattle.tower_limit.specs.Line.{Ticket}
+use Rattle.tower_limit.specs.LineCore.{StandsAt}
 use Rattle.tower_limit.specs.Waiters.{outside}
 use Rattle.tower_pool.specs.Messages.{is_queued}
 use Rattle.tower_pool.specs.Mail.{At, Entry, SentMessage, Mail, MailSteps}
-use Rattle.tower_pool.specs.Mailbox.{Follows, Holds, StandsFor, kept, known, plain_of, queue}
+use Rattle.tower_pool.specs.MessageSteps.{Follows as MessagesFollow, Holds, KeepsRest, kept, known, queue, queued}
+use Rattle.tower_pool.specs.Mailbox.{Follows, HasLine, StandsFor, plain_of}
 use Rattle.tower_pool.specs.declared.buffer.message.Fate.TheVariants.{Open}
 use Rattle.tower_pool.specs.declared.buffer.message.Message.{Message}
 use Rattle.tower_pool.specs.declared.buffer.mail.MailStep.{MailStep}
 use Rattle.tower_pool.specs.declared.buffer.mail.MailReply.{MailReply}
 use Rattle.tower_pool.specs.declared.buffer.mailbox.Mailbox.{Mailbox}
+use Rattle.tower_pool.specs.declared.buffer.messages.Messages.{Messages}
 use Rattle.tower_pool.proofs.Fates.{queued_some, some_is}
 use Rattle.tower_limit.proofs.KeysLemmas.{apart_cross, apart_is, at_has, has_at, has_first, not_both, or_right}
+use Rattle.tower_limit.proofs.LineMoves.{stands_as}
 use Rattle.tower_limit.proofs.Lines.{some_line}
 use Rattle.tower_limit.proofs.WaitQueues.{some_queue}
-use Rattle.tower_pool.proofs.Messages.{Sorted, here_is, not_here}
+use Rattle.tower_pool.proofs.Messages.{Sorted, here_is, not_here, sorted_of}
 use Rattle.tower_limit.proofs.Waiters.{outside_waits}
 
 -- a key stands at one place
@@ -121,8 +126,8 @@ module _ {Q F E : Type 0} where
   pub some_mail : (box : Mailbox Q F E) → (mail : Mail Q F E) × StandsFor box mail
   some_mail box =
       let waiters = some_queue box.queue in
-      let line = some_line box.bound (box.reserved + length box.messages.order) waiters.0.keys (omega (arith, box.fits)) in
-      let held = some_messages box.stored box.messages (record { differ = box.differ; linked = box.linked; sent = box.sent }) in
+      let line = some_line box.bound (box.reserved + queued box.messages) waiters.0.keys (omega (arith, box.fits)) in
+      let held = some_messages box.messages.stored box.messages.links (sorted_of box.messages) in
       (plain_of box held.0 line.0, (held.1, (waiters.0, waiters.1, line.1), refl))
 
   pub follows : (old new : Mailbox Q F E) (step : MailStep Q F E) (reply : MailReply Q F E) → Follows old step reply new
@@ -138,3 +143,39 @@ module _ {Q F E : Type 0} where
     subst (λ (m : Mailbox Q F E). FollowsMachine StandsFor MailSteps m asked reply new) same
         (subst (λ (a : MailStep Q F E). FollowsMachine StandsFor MailSteps was a reply new) (sym is) (follows was new step reply f)),
   )
+
+  -- a step of the messages alone is one of the mail
+  passes_on : (old : Mailbox Q F E) (now : Messages Q F E) (step : MailStep Q F E) (reply : MailReply Q F E) → MessagesFollow old.messages step reply now
+      → KeepsRest old.messages now
+      → (messages : List (Entry Q F)) (line : List Ticket) → Holds old.messages.links messages → HasLine old line
+      → (left : List (Entry Q F)) × (goes : List Ticket) × MailSteps (plain_of old messages line) step reply (record (plain_of old left goes) { stored = now.stored })
+      × Holds now.links left × StandsAt old.bound (old.reserved + queued now) old.queue goes
+  passes_on old now step reply f rest messages line h s =
+      let k = f (plain_of old messages line) refl h in (
+        k.0,
+        line,
+        rw rest.3 k.1,
+        k.2,
+        stands_as old.bound (old.reserved + queued old.messages) (old.reserved + queued now) old.queue line (omega (arith, rest.0)) s,
+      )
+
+  -- the mail with these messages in place of its own
+  abbrev pub box_with : (old : Mailbox Q F E) (now : Messages Q F E) → KeepsRest old.messages now → Mailbox Q F E
+  box_with old now rest = record {
+    alloc = old.alloc;
+    bound = old.bound;
+    reserved = old.reserved;
+    queue = old.queue;
+    messages = now;
+    buffers = old.buffers;
+    closed = old.closed;
+    has_worker = old.has_worker;
+    limit = old.limit;
+    fits = omega (arith, old.fits, rest.0);
+    full = λ waits. omega (arith, old.full waits, rest.0);
+    room = omega (arith, old.room, rest.1, rest.2);
+  }
+
+  pub served_on : (was old : Mailbox Q F E) (now : Messages Q F E) (asked step : MailStep Q F E) (reply : MailReply Q F E) → was ≡ old → asked ≡ step
+      → MessagesFollow was.messages step reply now → (rest : KeepsRest was.messages now) → StepsAs StandsFor MailSteps old asked reply (box_with was now rest)
+  served_on was old now asked step reply same is f rest = served was old (box_with was now rest) asked step reply same is (passes_on was now step reply f rest)

@@ -6,11 +6,12 @@ use Rattle.tower_base.specs.Links.{LinksView}
 use Rattle.tower_base.specs.Order.{has, without}
 use Rattle.tower_pool.specs.Messages.{Fits, is_queued}
 use Rattle.tower_pool.specs.Mail.{At, Entry, SentMessage, NoneQueued, NoneWith, OldestAt}
-use Rattle.tower_pool.specs.Mailbox.{Holds, known, kept, queue}
+use Rattle.tower_pool.specs.MessageSteps.{Holds, known, kept, queue}
 use Rattle.tower_limit.specs.Waiters.{are_apart}
 use Rattle.tower_pool.specs.declared.buffer.message.Fate.{Fate}
 use Rattle.tower_pool.specs.declared.buffer.message.Fate.TheVariants.{Open}
 use Rattle.tower_pool.specs.declared.buffer.message.Message.{Message}
+use Rattle.tower_pool.specs.declared.buffer.messages.Messages.{Messages}
 use Rattle.tower_pool.proofs.Fates.{not_none, not_some, some_is}
 use Rattle.tower_limit.proofs.KeysLemmas.{apart_is, apart_push, apart_without, has_append, has_without_other, has_without_same, is_apart}
 
@@ -295,6 +296,9 @@ pub record Sorted {Q F E : Type 0} (stored : Option E) (links : LinksView (Messa
 -- where there is one, it fits
 abbrev pub FitsIf : {Q F E : Type 0} → Option E → Option (Message Q F) → Type 0
 FitsIf {Q} {F} stored slot = (message : Message Q F) → slot ≡ Some message → Fits stored message
+
+pub sorted_of : {Q F E : Type 0} (messages : Messages Q F E) → Sorted messages.stored messages.links
+sorted_of messages = record { differ = messages.differ; linked = messages.linked; sent = messages.sent }
 
 module _ {Q F E : Type 0} (stored : Option E) (old new : LinksView (Message Q F)) (s : Sorted stored old) where
   pub sorted_as : new.order ≡ old.order → ((id : ℕ) → get new.entries id ≡ get old.entries id) → Sorted stored new

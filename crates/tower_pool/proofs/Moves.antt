@@ -5,7 +5,7 @@ use Rattle.tower_base.specs.Links.{LinksView}
 use Rattle.tower_base.specs.Order.{has, without, first_or, Apart}
 use Rattle.tower_pool.specs.Messages.{FailsTaken, Fits, is_queued, taken_at}
 use Rattle.tower_pool.specs.Mail.{At, Clears, Entry, IsTaken, SentMessage, Mail, NoneQueued, NoneWith, OldestAt, Settles, is_over}
-use Rattle.tower_pool.specs.Mailbox.{Holds, kept, known, queue}
+use Rattle.tower_pool.specs.MessageSteps.{Holds, kept, known, queue}
 use Rattle.tower_limit.specs.Waiters.{are_apart}
 use Rattle.tower_pool.specs.declared.buffer.message.Fate.{Fate}
 use Rattle.tower_pool.specs.declared.buffer.message.Fate.TheVariants.{Failed, Cancelled}

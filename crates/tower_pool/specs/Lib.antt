@@ -5,6 +5,7 @@ pub mod MailHistory
 pub mod MailLaws
 pub mod Mailbox
 pub mod Making
+pub mod MessageSteps
 pub mod Messages
 pub mod Pending
 pub mod ReadyCache

@@ -9,6 +9,7 @@ mod mail_core;
 mod mailbox;
 mod make;
 mod message;
+mod messages;
 mod seat;
 mod service;
 mod worker;

@@ -6,6 +6,10 @@ use crate::buffer::mailbox::Mailbox;
 use std::alloc::Global;
 use std::marker::Model;
 use tower_base::latch::Core;
+use tower_base::latch::held::Pollable;
+
+/// The core of a `Buffer` whose futures are of this type.
+pub(crate) type Mail<Request, F, E> = MailCore<Request, Pollable<F>, E>;
 
 /// Messages on their way to a worker, the places for them, and those who wait for places.
 ///
@@ -85,12 +89,12 @@ impl<Request: Drop, F: Drop, E: Clone> Core for MailCore<Request, F, E> {
             MailStep::Unreserve => self.mail.unreserve(),
             MailStep::Send(request) => self.mail.send(request),
             MailStep::Take => self.mail.take(),
-            MailStep::Live(id) => self.mail.live(id),
-            MailStep::Answer(id, future) => self.mail.answer(id, future),
+            MailStep::Live(id) => self.mail.messages.live(id),
+            MailStep::Answer(id, future) => self.mail.messages.answer(id, future),
             MailStep::Fail(id, error) => self.mail.fail(id, error),
-            MailStep::FailStored(id) => self.mail.fail_stored(id),
-            MailStep::Outcome(id) => self.mail.outcome(id),
-            MailStep::Forget(id) => self.mail.forget_message(id),
+            MailStep::FailStored(id) => self.mail.messages.fail_stored(id),
+            MailStep::Outcome(id) => self.mail.messages.outcome(id),
+            MailStep::Forget(id) => self.mail.messages.forget_message(id),
             MailStep::WorkerGone => self.mail.worker_gone(),
         }
     }

@@ -1,6 +1,6 @@
 //! A message that somebody still knows by its id.
 ghost use Rattle.std.specs.Prelude.{◌≡◌};
-ghost use Rattle.tower_pool.specs.Messages.{bare, is_cancelled, taken_by};
+ghost use Rattle.tower_pool.specs.Messages.{bare, taken_by};
 
 /// What became of a message.
 #[derive(Drop)]
@@ -25,12 +25,6 @@ pub struct Message<Request, F> {
 }
 
 impl<F> Fate<F> {
-    pub(crate) fn is_cancelled(&self) -> bool
-        ensures { result ≡ is_cancelled self.now }
-    {
-        matches!(self, Fate::Cancelled)
-    }
-
     // Without its future.
     pub(crate) fn bare(&self) -> Fate<()>
         ensures { result ≡ bare self.now }

@@ -8,7 +8,7 @@ ghost use Rattle.tower_pool.specs.WorkerOrder.{Orderly};
 ghost use Rattle.tower_pool.specs.Worker.{HandsOn, Pass, Serves, Stepped, WorkerView};
 
 use crate::buffer::mail::{MailReply, MailStep};
-use crate::buffer::mail_core::MailCore;
+use crate::buffer::mail_core::Mail;
 use futures::future::Future;
 use futures::task::{Context, Poll};
 use std::marker::{Model, PhantomData};
@@ -28,7 +28,7 @@ pub struct Worker<
     Request: Drop,
     F: Steps + Drop,
     E: Clone,
-    L: Latch<MailCore<Request, Pollable<F>, E>>,
+    L: Latch<Mail<Request, F, E>>,
 > {
     latch: L,
     service: S,
@@ -37,26 +37,16 @@ pub struct Worker<
     of: PhantomData<(F, E)>,
 }
 
-impl<
-    S: Drop,
-    Request: Drop,
-    F: Steps + Drop,
-    E: Clone,
-    L: Latch<MailCore<Request, Pollable<F>, E>>,
-> Model for Worker<S, Request, F, E, L> {
+impl<S: Drop, Request: Drop, F: Steps + Drop, E: Clone, L: Latch<Mail<Request, F, E>>> Model
+    for Worker<S, Request, F, E, L> {
     ghost Value = { WorkerView L S Request };
 
     ghost view = { λ w. record { latch = w.latch; service = w.service; message = w.message; has_failed = w.has_failed } };
 }
 
 /// The mail is told that the worker is gone, by one step at the latch.
-impl<
-    S: Drop,
-    Request: Drop,
-    F: Steps + Drop,
-    E: Clone,
-    L: Latch<MailCore<Request, Pollable<F>, E>>,
-> Drop for Worker<S, Request, F, E, L> {
+impl<S: Drop, Request: Drop, F: Steps + Drop, E: Clone, L: Latch<Mail<Request, F, E>>> Drop
+    for Worker<S, Request, F, E, L> {
     fn drop(self)
         ensures { (reply : _) × L.gave self.latch MailStep.WorkerGone reply }
     {
@@ -71,13 +61,14 @@ impl<
     }
 }
 
-impl<
-    S: Drop,
+impl<S, Request, F, E, L> Worker<S, Request, F, E, L>
+where
     Request: Drop,
     F: Steps + Drop,
     E: Clone,
-    L: Latch<MailCore<Request, Pollable<F>, E>>,
-> Worker<S, Request, F, E, L> {
+    S: Service<Request, Error = E, Future = F>,
+    L: Latch<Mail<Request, F, E>>,
+{
     // It has taken nothing.
     pub(crate) fn idle(latch: L, service: S) -> Self
         ensures { result ≡ record { latch = latch; service = service; message = None; has_failed = false } }
@@ -90,16 +81,7 @@ impl<
             of: PhantomData,
         }
     }
-}
 
-impl<S, Request, F, E, L> Worker<S, Request, F, E, L>
-where
-    Request: Drop,
-    F: Steps + Drop,
-    E: Clone,
-    S: Service<Request, Error = E, Future = F>,
-    L: Latch<MailCore<Request, Pollable<F>, E>>,
-{
     // One pass: none where the next one follows.
     fn pass(&mut self, cx: &mut Context<'_>) -> Option<Poll<()>>
         requires { S.sound self.old.service }
@@ -202,7 +184,7 @@ where
     F: Steps + Drop,
     E: Clone,
     S: Service<Request, Error = E, Future = F>,
-    L: Latch<MailCore<Request, Pollable<F>, E>>,
+    L: Latch<Mail<Request, F, E>>,
 {
     type Output = ();
 
@@ -226,7 +208,7 @@ where
     F: Steps + Drop,
     E: Clone,
     S: Service<Request, Error = E, Future = F>,
-    L: Latch<MailCore<Request, Pollable<F>, E>>,
+    L: Latch<Mail<Request, F, E>>,
 {
     type Output = ();
 

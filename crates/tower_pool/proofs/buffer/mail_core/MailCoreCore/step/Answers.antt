@@ -1,4 +1,5 @@
-use Rattle.tower_pool.proofs.Machine.{served}
+use Rattle.tower_pool.specs.declared.buffer.mail.MailStep.TheVariants.{Answer, FailStored, Forget, Live, Outcome}
+use Rattle.tower_pool.proofs.Machine.{served, served_on}
 use Rattle.tower_pool.proofs.buffer.mail_core.MailCoreCore.step.Goals as goal
 
 pub returns-in-Join-clause-steps : goal.returns-in-Join-clause-steps
@@ -26,22 +27,22 @@ pub returns-in-Take-clause-steps : goal.returns-in-Take-clause-steps
 returns-in-Take-clause-steps g c = served c.self.inside.mail c.args.self.now c.take.new.self c.args.step _ c.take.result c.self.view_is c.in-Take.is c.take.ensures.follows
 
 pub returns-in-Live-clause-steps : goal.returns-in-Live-clause-steps
-returns-in-Live-clause-steps g c = served c.self.inside.mail c.args.self.now c.live.new.self c.args.step _ c.live.result c.self.view_is c.in-Live.is c.live.ensures.follows
+returns-in-Live-clause-steps g c = served_on c.self.inside.mail c.args.self.now c.live.new.self c.args.step (Live c.in-Live.id) c.live.result c.self.view_is c.in-Live.is c.live.ensures.follows c.live.ensures.rest
 
 pub returns-in-Answer-clause-steps : goal.returns-in-Answer-clause-steps
-returns-in-Answer-clause-steps g c = served c.self.inside.mail c.args.self.now c.answer.new.self c.args.step _ c.answer.result c.self.view_is c.in-Answer.is c.answer.ensures.follows
+returns-in-Answer-clause-steps g c = served_on c.self.inside.mail c.args.self.now c.answer.new.self c.args.step (Answer c.in-Answer.id c.in-Answer.future) c.answer.result c.self.view_is c.in-Answer.is c.answer.ensures.follows c.answer.ensures.rest
 
 pub returns-in-Fail-clause-steps : goal.returns-in-Fail-clause-steps
 returns-in-Fail-clause-steps g c = served c.self.inside.mail c.args.self.now c.fail.new.self c.args.step _ c.fail.result c.self.view_is c.in-Fail.is c.fail.ensures.follows
 
 pub returns-in-FailStored-clause-steps : goal.returns-in-FailStored-clause-steps
-returns-in-FailStored-clause-steps g c = served c.self.inside.mail c.args.self.now c.fail_stored.new.self c.args.step _ c.fail_stored.result c.self.view_is c.in-FailStored.is c.fail_stored.ensures.follows
+returns-in-FailStored-clause-steps g c = served_on c.self.inside.mail c.args.self.now c.fail_stored.new.self c.args.step (FailStored c.in-FailStored.id) c.fail_stored.result c.self.view_is c.in-FailStored.is c.fail_stored.ensures.follows c.fail_stored.ensures.rest
 
 pub returns-in-Outcome-clause-steps : goal.returns-in-Outcome-clause-steps
-returns-in-Outcome-clause-steps g c = served c.self.inside.mail c.args.self.now c.outcome.new.self c.args.step _ c.outcome.result c.self.view_is c.in-Outcome.is c.outcome.ensures.follows
+returns-in-Outcome-clause-steps g c = served_on c.self.inside.mail c.args.self.now c.outcome.new.self c.args.step (Outcome c.in-Outcome.id) c.outcome.result c.self.view_is c.in-Outcome.is c.outcome.ensures.follows c.outcome.ensures.rest
 
 pub returns-in-Forget-clause-steps : goal.returns-in-Forget-clause-steps
-returns-in-Forget-clause-steps g c = served c.self.inside.mail c.args.self.now c.forget_message.new.self c.args.step _ c.forget_message.result c.self.view_is c.in-Forget.is c.forget_message.ensures.follows
+returns-in-Forget-clause-steps g c = served_on c.self.inside.mail c.args.self.now c.forget_message.new.self c.args.step (Forget c.in-Forget.id) c.forget_message.result c.self.view_is c.in-Forget.is c.forget_message.ensures.follows c.forget_message.ensures.rest
 
 pub returns-in-WorkerGone-clause-steps : goal.returns-in-WorkerGone-clause-steps
 returns-in-WorkerGone-clause-steps g c = served c.self.inside.mail c.args.self.now c.worker_gone.new.self c.args.step _ c.worker_gone.result c.self.view_is c.in-WorkerGone.is c.worker_gone.ensures

@@ -1,4 +1,5 @@
-use Rattle.std.proofs.Common.{◌+◌, inl, refl, arith, length}
+use Rattle.std.proofs.Common.{◌+◌, inl, refl, arith}
+use Rattle.tower_pool.specs.MessageSteps.{queued}
 use Rattle.tower_limit.proofs.LineMoves.{Fits, enters, enters_fits, no_memory}
 use Rattle.tower_limit.proofs.WaitQueues.{entered_size, full_room}
 use Rattle.tower_pool.proofs.buffer.mailbox.Mailbox.queue_up.Goals as goal
@@ -6,28 +7,25 @@ use Rattle.tower_pool.proofs.buffer.mailbox.Mailbox.queue_up.Goals as goal
 pub invariant_of-self : goal.invariant_of-self
 invariant_of-self g c =
     let old = c.args.self.now in
-    let was : Fits old.bound (old.reserved + length old.messages.order) old.queue = record { fits = old.fits; full = old.full } in
-    let w = enters_fits old.bound (old.reserved + length old.messages.order) old.queue c.wait.new.self was c.wait.result c.wait.ensures.follows c.requires.full in
+    let was : Fits old.bound (old.reserved + queued old.messages) old.queue = record { fits = old.fits; full = old.full } in
+    let w = enters_fits old.bound (old.reserved + queued old.messages) old.queue c.wait.new.self was c.wait.result c.wait.ensures.follows c.requires.full in
     record {
       limit = old.limit;
       fits = w.fits;
       full = w.full;
       room = omega (arith, c.requires.room, entered_size old.queue c.wait.new.self c.wait.result c.wait.ensures.follows);
-      differ = old.differ;
-      linked = old.linked;
-      sent = old.sent;
     }
 
 pub returns-in-Ok-clause-follows : goal.returns-in-Ok-clause-follows
 returns-in-Ok-clause-follows g c = λ messages line p s.
     let old = c.args.self.now in
-    let r = enters old.bound (old.reserved + length old.messages.order) old.queue line s c.wait.new.self c.in-Ok.key c.in-Ok.ensures.follows c.requires.full in
+    let r = enters old.bound (old.reserved + queued old.messages) old.queue line s c.wait.new.self c.in-Ok.key c.in-Ok.ensures.follows c.requires.full in
     (messages, r.0, (c.requires.closed, r.1, refl), p, r.2)
 
 pub returns-in-Err-clause-follows : goal.returns-in-Err-clause-follows
 returns-in-Err-clause-follows g c = λ messages line p s.
     let old = c.args.self.now in
-    let r = no_memory old.bound (old.reserved + length old.messages.order) old.queue line s c.wait.new.self _ c.in-Err.ensures.follows c.requires.full in
+    let r = no_memory old.bound (old.reserved + queued old.messages) old.queue line s c.wait.new.self _ c.in-Err.ensures.follows c.requires.full in
     (messages, r.0, (inl c.requires.closed, rw r.1.1 refl), p, r.2)
 
 pub returns-in-Err-clause-excused : goal.returns-in-Err-clause-excused

@@ -2,46 +2,42 @@ use Rattle.std.proofs.Common.{◌≡◌, ◌+◌, ◌∙◌, suc, Some, true, fa
 use Rattle.std.proofs.lemmas.Bool.{lt-ltb, ltb-false, ltb-true}
 use Rattle.slab.specs.Slab.{Slab, get, slab_len}
 use Rattle.tower_pool.specs.Messages.{is_queued}
-use Rattle.tower_pool.specs.Mail.{NoneQueued}
-use Rattle.tower_pool.specs.Mailbox.{Follows}
+use Rattle.tower_pool.specs.Mail.{ClearsOldest, Mail, NoneQueued, TakesOldest}
+use Rattle.tower_pool.specs.Mailbox.{Follows, plain_of}
+use Rattle.tower_pool.specs.MessageSteps.{queued}
 use Rattle.tower_pool.specs.declared.buffer.mail.MailStep.TheVariants.{Take}
 use Rattle.tower_pool.specs.declared.buffer.mail.MailReply.{MailReply}
 use Rattle.tower_pool.proofs.Fates.{cancelled_is, open_queued, still_unsettled}
 use Rattle.tower_limit.proofs.LineMoves.{stands_as}
 use Rattle.tower_limit.proofs.WaitQueues.{none_is}
-use Rattle.tower_pool.proofs.Messages.{Sorted, holds_as, none_queued}
-use Rattle.tower_pool.proofs.Moves.{cleared_none, cleared_some, first_has, read}
+use Rattle.tower_pool.proofs.Messages.{holds_as, none_queued}
+use Rattle.tower_pool.proofs.Moves.{cleared_none, cleared_some, first_has}
 use Rattle.tower_pool.proofs.buffer.mailbox.Mailbox.take.Goals as goal
 
 pub invariant_of-self : goal.invariant_of-self
 invariant_of-self g c =
     let old = c.clearing.self in
-    let was : Sorted old.stored old.messages = record { differ = old.differ; linked = old.linked; sent = old.sent } in
-    let now = read old.stored old.messages c.is_cancelled_at.new.messages was c.is_cancelled_at.ensures.order c.is_cancelled_at.ensures.entries in
-    let size = ap length c.is_cancelled_at.ensures.order in
+    let size = ap length c.is_cancelled.ensures.order in
     record {
       limit = old.limit;
       fits = omega (arith, old.fits, size);
       full = λ waits. omega (arith, old.full waits, size);
-      room = omega (arith, old.room, ap slab_len c.is_cancelled_at.ensures.entries, ap (λ (e : Slab _). e.capacity) c.is_cancelled_at.ensures.entries);
-      differ = now.differ;
-      linked = now.linked;
-      sent = now.sent;
+      room = omega (arith, old.room, ap slab_len c.is_cancelled.ensures.entries, ap (λ (e : Slab _). e.capacity) c.is_cancelled.ensures.entries);
     }
 
 pub take_first-requires-clause-open : goal.take_first-requires-clause-open
 take_first-requires-clause-open g c = λ message at.
     let old = c.clearing.self in
-    let there : get old.messages.entries c.in-Some.first ≡ Some message = ap (λ e. get e c.in-Some.first) (sym c.is_cancelled_at.ensures.entries) ∙ at in
-    let some : is_some message.request ≡ true = sym (old.linked c.in-Some.first ∙ ap is_queued there) ∙ first_has old.messages.order c.in-Some.first (sym c.in-Some.ensures) in
-    let waited = sym (c.is_cancelled_at.ensures.cancelled message there) ∙ c.if-not-is_cancelled_at.true in
-    open_queued message.fate (still_unsettled message.request message.fate some (old.sent c.in-Some.first message there).1) waited
+    let there : get old.messages.links.entries c.in-Some.first ≡ Some message = ap (λ e. get e c.in-Some.first) (sym c.is_cancelled.ensures.entries) ∙ at in
+    let some : is_some message.request ≡ true = sym (old.messages.linked c.in-Some.first ∙ ap is_queued there) ∙ first_has old.messages.links.order c.in-Some.first (sym c.in-Some.ensures) in
+    let waited = sym (c.is_cancelled.ensures.cancelled message there) ∙ c.if-not-is_cancelled.true in
+    open_queued message.fate (still_unsettled message.request message.fate some (old.messages.sent c.in-Some.first message there).1) waited
 
 pub clear_first-requires-clause-cancelled : goal.clear_first-requires-clause-cancelled
 clear_first-requires-clause-cancelled g c = λ message at.
     let old = c.clearing.self in
-    let there : get old.messages.entries c.in-Some.first ≡ Some message = ap (λ e. get e c.in-Some.first) (sym c.is_cancelled_at.ensures.entries) ∙ at in
-    cancelled_is message.fate (sym (c.is_cancelled_at.ensures.cancelled message there) ∙ c.if-not-is_cancelled_at.false)
+    let there : get old.messages.links.entries c.in-Some.first ≡ Some message = ap (λ e. get e c.in-Some.first) (sym c.is_cancelled.ensures.entries) ∙ at in
+    cancelled_is message.fate (sym (c.is_cancelled.ensures.cancelled message there) ∙ c.if-not-is_cancelled.false)
 
 pub clearing-init : goal.clearing-init
 clearing-init g c = (0, (λ messages line h s. (messages, line, refl, h, s)), refl, omega arith)
@@ -49,48 +45,50 @@ clearing-init g c = (0, (λ messages line h s. (messages, line, refl, h, s)), re
 pub clearing-preserved : goal.clearing-preserved
 clearing-preserved g c =
     let old = c.clearing.self in
-    let mid = c.is_cancelled_at.new.messages in
-    let size : length mid.order ≡ length old.messages.order = ap length c.is_cancelled_at.ensures.order in (
+    let mid = c.is_cancelled.new.self in
+    let size : queued mid ≡ queued old.messages = ap length c.is_cancelled.ensures.order in (
       suc c.clearing.invariant.0,
       λ messages line h s.
           let r = c.clearing.invariant.1 messages line h s in
-          let q = c.clear_first.ensures.clears r.0 r.1 (holds_as old.messages mid r.0 c.is_cancelled_at.ensures.order (λ id. ap (λ e. get e id) c.is_cancelled_at.ensures.entries) r.3)
-          (stands_as old.bound (old.reserved + length old.messages.order) (old.reserved + length mid.order) old.queue r.1 (omega (arith, size)) r.4) in
-          (q.0, q.1, (_, r.2, q.2), q.3, q.4),
+          let q = c.clear_first.ensures.clears r.0 r.1 (holds_as old.messages.links mid.links r.0 c.is_cancelled.ensures.order (λ id. ap (λ e. get e id) c.is_cancelled.ensures.entries) r.3)
+          (stands_as old.bound (old.reserved + queued old.messages) (old.reserved + queued mid) old.queue r.1 (omega (arith, size)) r.4) in
+          let as_was : record (plain_of old r.0 r.1) { stored = mid.stored } ≡ plain_of old r.0 r.1 = rw c.is_cancelled.ensures.stored refl in
+          (q.0, q.1, (_, r.2, subst (λ (mail : Mail _ _ _). ClearsOldest mail (plain_of c.clear_first.new.self q.0 q.1)) as_was q.2), q.3, q.4),
       sym (lt-ltb 0 (suc c.clearing.invariant.0) (omega arith)),
-      omega (arith, c.clearing.invariant.3, c.clear_first.ensures.few, c.clear_first.ensures.fewer, c.is_cancelled_at.ensures.touches, size),
+      omega (arith, c.clearing.invariant.3, c.clear_first.ensures.few, c.clear_first.ensures.fewer, c.is_cancelled.ensures.touches, size),
     )
 
-pub returns-then-not-is_cancelled_at-clause-follows : goal.returns-then-not-is_cancelled_at-clause-follows
-returns-then-not-is_cancelled_at-clause-follows g c =
+pub returns-then-not-is_cancelled-clause-follows : goal.returns-then-not-is_cancelled-clause-follows
+returns-then-not-is_cancelled-clause-follows g c =
     let fn = c.args.self.now in
     let old = c.clearing.self in
-    let mid = c.is_cancelled_at.new.messages in
-    let size : length mid.order ≡ length old.messages.order = ap length c.is_cancelled_at.ensures.order in
+    let mid = c.is_cancelled.new.self in
+    let size : queued mid ≡ queued old.messages = ap length c.is_cancelled.ensures.order in
     let taken = c.take_first.ensures.takes in
     subst (λ (reply : MailReply _ _ _). Follows fn Take reply c.take_first.new.self) (sym taken.1) (λ messages line h s.
     let r = c.clearing.invariant.1 messages line h s in
-    let q = taken.2 r.0 r.1 (holds_as old.messages mid r.0 c.is_cancelled_at.ensures.order (λ id. ap (λ e. get e id) c.is_cancelled_at.ensures.entries) r.3)
-    (stands_as old.bound (old.reserved + length old.messages.order) (old.reserved + length mid.order) old.queue r.1 (omega (arith, size)) r.4) in
-    (q.0, q.1, (c.clearing.invariant.0, _, r.2, q.2), q.3, q.4))
+    let q = taken.2 r.0 r.1 (holds_as old.messages.links mid.links r.0 c.is_cancelled.ensures.order (λ id. ap (λ e. get e id) c.is_cancelled.ensures.entries) r.3)
+    (stands_as old.bound (old.reserved + queued old.messages) (old.reserved + queued mid) old.queue r.1 (omega (arith, size)) r.4) in
+    let as_was : record (plain_of old r.0 r.1) { stored = mid.stored } ≡ plain_of old r.0 r.1 = rw c.is_cancelled.ensures.stored refl in
+    (q.0, q.1, (c.clearing.invariant.0, _, r.2, subst (λ (mail : Mail _ _ _). TakesOldest mail c.in-Some.first taken.0 (plain_of c.take_first.new.self q.0 q.1)) as_was q.2), q.3, q.4))
 
 pub returns-then-cleared-clause-follows : goal.returns-then-cleared-clause-follows
 returns-then-cleared-clause-follows g c = λ messages line h s.
     let r = c.clearing.invariant.1 messages line h s in
     let some = ltb-true 0 c.clearing.invariant.0 (sym c.clearing.invariant.2 ∙ c.if-cleared.true) in
-    let none : NoneQueued r.0 = none_queued r.0 (sym r.3.order ∙ none_is c.clearing.self.messages.order c.in_default.ensures) in
+    let none : NoneQueued r.0 = none_queued r.0 (sym r.3.order ∙ none_is c.clearing.self.messages.links.order c.in_default.ensures) in
     (r.0, r.1, cleared_some _ _ c.clearing.invariant.0 some r.2 none, r.3, r.4)
 
 pub returns-then-is_over-clause-follows : goal.returns-then-is_over-clause-follows
 returns-then-is_over-clause-follows g c = λ messages line h s.
     let r = c.clearing.invariant.1 messages line h s in
     let few = ltb-false 0 c.clearing.invariant.0 (sym c.clearing.invariant.2 ∙ c.if-cleared.false) in
-    let none : NoneQueued r.0 = none_queued r.0 (sym r.3.order ∙ none_is c.clearing.self.messages.order c.in_default.ensures) in
+    let none : NoneQueued r.0 = none_queued r.0 (sym r.3.order ∙ none_is c.clearing.self.messages.links.order c.in_default.ensures) in
     (r.0, r.1, cleared_none _ _ c.clearing.invariant.0 true few r.2 none (sym c.is_over.ensures ∙ c.if-is_over.true), r.3, r.4)
 
 pub returns-clause-follows : goal.returns-clause-follows
 returns-clause-follows g c = λ messages line h s.
     let r = c.clearing.invariant.1 messages line h s in
     let few = ltb-false 0 c.clearing.invariant.0 (sym c.clearing.invariant.2 ∙ c.if-cleared.false) in
-    let none : NoneQueued r.0 = none_queued r.0 (sym r.3.order ∙ none_is c.clearing.self.messages.order c.in_default.ensures) in
+    let none : NoneQueued r.0 = none_queued r.0 (sym r.3.order ∙ none_is c.clearing.self.messages.links.order c.in_default.ensures) in
     (r.0, r.1, cleared_none _ _ c.clearing.invariant.0 false few r.2 none (sym c.is_over.ensures ∙ c.if-is_over.false), r.3, r.4)

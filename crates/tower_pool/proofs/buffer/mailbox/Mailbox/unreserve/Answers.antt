@@ -1,4 +1,5 @@
-use Rattle.std.proofs.Common.{◌<◌, ◌-◌, ◌+◌, refl, arith, length}
+use Rattle.std.proofs.Common.{◌<◌, ◌-◌, ◌+◌, refl, arith}
+use Rattle.tower_pool.specs.MessageSteps.{queued}
 use Rattle.tower_limit.proofs.LineMoves.{admits, admits_fits, returned, stands_as}
 use Rattle.tower_limit.proofs.WaitQueues.{admits_size}
 use Rattle.tower_pool.proofs.buffer.mailbox.Mailbox.unreserve.Goals as goal
@@ -7,22 +8,19 @@ pub invariant_of-self : goal.invariant_of-self
 invariant_of-self g c =
     let old = c.args.self.now in
     let some : 0 < old.reserved = omega (arith, c.if-self-eq0.false) in
-    let w = admits_fits old.bound (old.reserved - 1 + length old.messages.order) old.queue c.admit.new.self (record { fits = omega (arith, old.fits, some); full = λ waits. omega (arith, old.full waits, some) }) c.admit.ensures.follows in
+    let w = admits_fits old.bound (old.reserved - 1 + queued old.messages) old.queue c.admit.new.self (record { fits = omega (arith, old.fits, some); full = λ waits. omega (arith, old.full waits, some) }) c.admit.ensures.follows in
     let same = admits_size old.queue c.admit.new.self c.admit.ensures.follows in
     record {
       limit = old.limit;
       fits = w.fits;
       full = w.full;
       room = omega (arith, old.room, some, same);
-      differ = old.differ;
-      linked = old.linked;
-      sent = old.sent;
     }
 
 pub returns-clause-follows : goal.returns-clause-follows
 returns-clause-follows g c = λ messages line p s.
     let old = c.args.self.now in
     let some : 0 < old.reserved = omega (arith, c.if-self-eq0.false) in
-    let r = returned old.bound (old.reserved + length old.messages.order) old.queue line s (omega (arith, some)) in
-    let now = stands_as old.bound (old.reserved + length old.messages.order - 1) (old.reserved - 1 + length old.messages.order) old.queue r.0 (omega (arith, some)) r.2 in
-    (messages, r.0, (some, r.1, refl), p, admits old.bound (old.reserved - 1 + length old.messages.order) old.queue r.0 now c.admit.new.self c.admit.ensures.follows)
+    let r = returned old.bound (old.reserved + queued old.messages) old.queue line s (omega (arith, some)) in
+    let now = stands_as old.bound (old.reserved + queued old.messages - 1) (old.reserved - 1 + queued old.messages) old.queue r.0 (omega (arith, some)) r.2 in
+    (messages, r.0, (some, r.1, refl), p, admits old.bound (old.reserved - 1 + queued old.messages) old.queue r.0 now c.admit.new.self c.admit.ensures.follows)

@@ -1,10 +1,10 @@
-use Rattle.std.proofs.Common.{rules, Bool, ◌≡◌, ◌∙◌, [], ◌∷◌, ◌++◌, is_some, refl, sym, ap, cond, Some, None, true, false}
+use Rattle.std.proofs.Common.{rules, Bool, ◌≡◌, ◌∙◌, ◌++◌, is_some, refl, sym, ap, Some, None, true, false}
 use Rattle.std.proofs.lemmas.List.{append-nil}
 use Rattle.std.specs.Map.{lookup}
 use Rattle.std.specs.Option.{option_copied_mut}
 use Rattle.tower_pool.specs.ReadyCache.{awaited}
 use Rattle.tower_pool.specs.Pending.{entry_of, last_of, names_one, stored}
-use Rattle.tower_pool.proofs.PendingPlaces.{awaited_items, has_room, items_with_cancelled, items_with_named, none_stored, placed_cancelled, placed_named, small_more, stands_with, still_known, stored_last}
+use Rattle.tower_pool.proofs.PendingPlaces.{has_room, items_with_cancelled, items_with_named, none_stored, placed_cancelled, placed_named, small_more, stands_with, still_known, stored_last}
 use Rattle.tower_pool.proofs.ready_cache.pending.Pending.append.Goals as goal
 
 pub push_back-requires : goal.push_back-requires

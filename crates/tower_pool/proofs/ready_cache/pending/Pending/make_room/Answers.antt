@@ -1,7 +1,6 @@
 use Rattle.std.proofs.Common.{rules, ◌≡◌, ◌∙◌, ◌++◌, ◌+◌, ◌<◌, sym, ap, length, subst, Option, Some, None, true, false, refl, cond, ℕ}
 use Rattle.std.specs.Map.{lookup}
 use Rattle.std.specs.Result.{is_ok}
-use Rattle.slab.specs.Slab.{HasRoomFor}
 use Rattle.tower_pool.specs.ReadyCache.{Apart, cancel}
 use Rattle.tower_pool.specs.Pending.{Stands, last_of}
 use Rattle.tower_pool.proofs.PendingPlaces.{fits_all, items_all, items_room, put_of, stands_marked, stands_room, when_put, when_refused}

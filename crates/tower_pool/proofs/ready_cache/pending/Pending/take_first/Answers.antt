@@ -1,4 +1,4 @@
-use Rattle.std.proofs.Common.{rules, ◌≡◌, ◌∙◌, ◌+◌, ◌++◌, length, sym, ap, refl, Some, None, arith}
+use Rattle.std.proofs.Common.{rules, ◌≡◌, ◌∙◌, ◌+◌, ◌++◌, sym, ap, refl, Some, None, arith}
 use Rattle.slab.specs.Slab.{get, slab_len}
 use Rattle.tower_base.specs.Order.{first_or}
 use Rattle.tower_pool.specs.Pending.{last_of}
