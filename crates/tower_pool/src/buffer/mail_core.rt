@@ -6,10 +6,6 @@ use crate::buffer::mailbox::Mailbox;
 use std::alloc::Global;
 use std::marker::Model;
 use tower_base::latch::Core;
-use tower_base::latch::held::Pollable;
-
-/// The core of a `Buffer` whose futures are of this type.
-pub(crate) type Mail<Request, F, E> = MailCore<Request, Pollable<F>, E>;
 
 /// Messages on their way to a worker, the places for them, and those who wait for places.
 ///

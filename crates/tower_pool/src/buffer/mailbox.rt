@@ -1,5 +1,5 @@
 //! Mail: the messages on their way to a worker, and the line for places.
-ghost use Rattle.std.specs.Prelude.{◌≡◌, ◌<◌, ◌≤◌, ◌+◌, ◌^◌, ℕ, unwrap_or, Some, None, [], true, false, length};
+ghost use Rattle.std.specs.Prelude.{◌≡◌, ◌<◌, ◌≤◌, ◌+◌, ◌^◌, Some, None, true, false};
 ghost use Rattle.slab.specs.Slab.{get};
 ghost use Rattle.tower_base.specs.Order.{first_or};
 ghost use Rattle.tower_limit.specs.WaitQueue.{granted, room, size, waiting};

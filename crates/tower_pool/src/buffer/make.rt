@@ -3,7 +3,7 @@ ghost use Rattle.std.specs.Prelude.{◌≡◌, ◌<◌, ◌↔◌, IfOk, IsTrue}
 ghost use Rattle.tower_pool.specs.Making.{Begins, HandsOver, Paired, PairedOver, idle};
 
 use crate::buffer::error::Error;
-use crate::buffer::mail_core::{Mail, MailCore};
+use crate::buffer::mail_core::MailCore;
 use crate::buffer::service::Buffer;
 use crate::buffer::worker::Worker;
 use std::alloc::{AllocError, Global};
@@ -12,7 +12,7 @@ use tower_base::latch::held::Pollable;
 use tower_base::latch::{Guarded, Latch};
 use tower_base::service::{Executor, Service, Steps};
 
-impl<Request: Drop, F: Steps + Drop, E: Clone, L: Latch<Mail<Request, F, E>>> Buffer<
+impl<Request: Drop, F: Steps + Drop, E: Clone, L: Latch<MailCore<Request, Pollable<F>, E>>> Buffer<
     Request,
     F,
     E,
@@ -58,7 +58,7 @@ impl<Request: Drop, F: Steps + Drop, E: Clone, R: Wait + Copy> Buffer<
     Request,
     F,
     E,
-    Guarded<Mail<Request, F, E>, R>,
+    Guarded<MailCore<Request, Pollable<F>, E>, R>,
 > {
     /// A `Buffer` of so many places and its worker, which the caller drives: the Rust's
     /// `tower::buffer::Buffer::pair`. It asks for what `fits` tests, and for errors whose clones equal what
@@ -71,7 +71,7 @@ impl<Request: Drop, F: Steps + Drop, E: Clone, R: Wait + Copy> Buffer<
     ) -> Result<
         (
             Self,
-            Worker<S, Request, F, E, Guarded<Mail<Request, F, E>, R>>,
+            Worker<S, Request, F, E, Guarded<MailCore<Request, Pollable<F>, E>, R>>,
         ),
         AllocError,
     >
@@ -97,7 +97,7 @@ impl<Request: Drop, F: Steps + Drop, E: Clone, R: Wait + Copy> Buffer<
     ) -> Result<Self, Error<E>>
     where
         S: Service<Request, Error = E, Future = F>,
-        X: Executor<Worker<S, Request, F, E, Guarded<Mail<Request, F, E>, R>>>,
+        X: Executor<Worker<S, Request, F, E, Guarded<MailCore<Request, Pollable<F>, E>, R>>>,
         requires positive { 0 < bound }
         requires same { (x y : E) → E.is_clone x y → y ≡ x }
         requires can_spawn { (latch : _) → X.can_spawn executor.now (idle latch service) }

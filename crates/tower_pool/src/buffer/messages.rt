@@ -1,5 +1,5 @@
 //! The messages that somebody still knows by their ids.
-ghost use Rattle.std.specs.Prelude.{◌≡◌, ◌<◌, ◌≤◌, ◌+◌, ℕ, unwrap_or, Some, None, [], true, false, length, IsOk, OnOk};
+ghost use Rattle.std.specs.Prelude.{◌≡◌, ◌<◌, ◌≤◌, ◌+◌, ℕ, unwrap_or, Some, None, [], true, false, IsOk, OnOk};
 ghost use Rattle.slab.specs.Slab.{get, slab_len, ContainsKey, Updates};
 ghost use Rattle.tower_base.specs.Order.{has, without, first_or};
 ghost use Rattle.tower_pool.specs.Messages.{Ended, FailsTaken, Fits, fate_at, is_cancelled, is_queued, lost, taken_at};

@@ -8,7 +8,7 @@ ghost use Rattle.tower_pool.specs.WorkerOrder.{Orderly};
 ghost use Rattle.tower_pool.specs.Worker.{HandsOn, Pass, Serves, Stepped, WorkerView};
 
 use crate::buffer::mail::{MailReply, MailStep};
-use crate::buffer::mail_core::Mail;
+use crate::buffer::mail_core::MailCore;
 use futures::future::Future;
 use futures::task::{Context, Poll};
 use std::marker::{Model, PhantomData};
@@ -16,6 +16,9 @@ use tower_base::latch::Latch;
 use tower_base::latch::held::Pollable;
 use tower_base::passes::TURNS;
 use tower_base::service::{Service, Steps};
+
+/// The core behind the latch of a worker.
+type Mail<Request, F, E> = MailCore<Request, Pollable<F>, E>;
 
 /// Takes one message after another, waits until the service is ready, and calls it: the Rust's
 /// `tower::buffer::Worker`. It is handed to an executor, and ends once no message will come any more.
