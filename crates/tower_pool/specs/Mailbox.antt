@@ -19,7 +19,7 @@ module _ {Q F E : Type 0} where
   abbrev pub FewEach : Mailbox Q F E → Mailbox Q F E → Type 0
   FewEach old new = touches new + 6 * queued new.messages ≤ touches old + 6 * queued old.messages
 
-  -- `Take` reaches at most six entries for each message that leaves the queue, and any other step six, but where the worker is gone.
+  -- `Take` reaches at most six entries for each message that leaves the queue, and any other step six, unless the worker is gone.
   -- (`Fail` drops the queue with its count, so that what it touched there before isn't seen.)
   abbrev pub Few : Mailbox Q F E → MailStep Q F E → Mailbox Q F E → Type 0
   Few old Take new = FewEach old new

@@ -37,7 +37,7 @@ module _ {F : Type 0} where
   bare Lost = Lost
 
 module _ {Q F : Type 0} where
-  -- of one that the worker has, which has no outcome or isn't waited for: whether it is waited for
+  -- if the worker holds it unsettled: whether someone still waits
   abbrev pub taken_by : Option Q → Fate F → Option Bool
   taken_by None Open = Some true
   taken_by None Cancelled = Some false
@@ -55,7 +55,7 @@ module _ {Q F : Type 0} where
   is_queued None = false
   is_queued (Some message) = is_some message.request
 
-  -- where the worker is gone, one without an outcome is lost, and one that nobody waits for is gone
+  -- if the worker is gone, a message without an outcome is lost, and one that nobody waits for is gone
   abbrev pub lost_by : Message Q F → Fate F → Option (Message Q F)
   lost_by message Open = Some (record { request = None; fate = Lost })
   lost_by message Cancelled = None
@@ -65,7 +65,7 @@ module _ {Q F : Type 0} where
   lost None = None
   lost (Some message) = lost_by message message.fate
 
-  -- It has failed only where an error is stored, and is queued only without an outcome.
+  -- It has failed only if an error is stored, and is queued only without an outcome.
   abbrev pub Fits : {E : Type 0} → Option E → Message Q F → Type 0
   Fits stored message = (is_failed message.fate ≡ true → is_some stored ≡ true) × (is_unsettled message.fate ≡ false → message.request ≡ None)
 

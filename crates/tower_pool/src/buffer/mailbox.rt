@@ -107,7 +107,7 @@ impl<Request, F, E> Mailbox<Request, F, E> {
         MailReply::Done
     }
 
-    // Waits, where no place is free. There is room for its message.
+    // Waits, since no place is free. There is room for its message.
     fn queue_up(&mut self) -> MailReply<Request, F, E>
         requires closed { self.old.closed ≡ false }
         requires full { self.old.bound ≤ self.old.reserved + queued self.old.messages + granted self.old.queue }
@@ -186,7 +186,7 @@ impl<Request: Drop, F, E: Clone> Mailbox<Request, F, E> {
         MailReply::Sent(id)
     }
 
-    // The worker is gone. The place is used up, unless there is no memory for what is told.
+    // The worker is gone. The place is used up, unless the reply finds no memory.
     fn refuse(&mut self, request: Request) -> MailReply<Request, F, E>
         requires same { (x y : E) → E.is_clone x y → y ≡ x }
         requires reserved { 0 < self.old.reserved }
@@ -231,14 +231,14 @@ impl<Request: Drop, F: Drop, E: Drop> Mailbox<Request, F, E> {
         MailReply::Empty
     }
 
-    // No message is queued, and none will be, where none is.
+    // Whether no further message will be queued.
     fn is_over(&self) -> bool
         ensures { result ≡ (nat_eq self.now.reserved 0 && (self.now.closed || nat_eq self.now.buffers 0)) }
     {
         self.reserved == 0 && (self.closed || self.buffers == 0)
     }
 
-    // The oldest queued message, which nobody waits for.
+    // Removes the oldest queued message, which nobody waits for.
     fn clear_first(&mut self, id: usize)
         requires oldest { first_or self.old.messages.links.order None ≡ Some id }
         requires cancelled { (message : Message Request F) → get self.old.messages.links.entries id ≡ Some message → message.fate ≡ Fate.Cancelled }
@@ -250,7 +250,7 @@ impl<Request: Drop, F: Drop, E: Drop> Mailbox<Request, F, E> {
         self.queue.admit();
     }
 
-    // The oldest queued message, which somebody waits for.
+    // Takes the oldest queued message, which somebody waits for.
     fn take_first(&mut self, id: usize) -> MailReply<Request, F, E>
         requires oldest { first_or self.old.messages.links.order None ≡ Some id }
         requires open { (message : Message Request F) → get self.old.messages.links.entries id ≡ Some message → message.fate ≡ Fate.Open }

@@ -40,7 +40,7 @@ impl<F> Fate<F> {
 }
 
 impl<Request, F> Message<Request, F> {
-    // Of one that the worker has, which has no outcome or isn't waited for: whether it is waited for.
+    // If the worker holds it unsettled: whether someone still waits. Otherwise `None`.
     pub(crate) fn taken(&self) -> Option<bool>
         ensures { result ≡ taken_by self.now.request self.now.fate }
     {

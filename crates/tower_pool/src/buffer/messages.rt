@@ -102,7 +102,7 @@ impl<Request, F, E> Messages<Request, F, E> {
 }
 
 impl<Request, F, E: Clone> Messages<Request, F, E> {
-    /// What closed mail tells.
+    /// What a closed mail replies.
     pub(crate) fn shut(&self) -> MailReply<Request, F, E>
         requires { (x y : E) → E.is_clone x y → y ≡ x }
         ensures { Tells self.now.stored result }
@@ -121,7 +121,7 @@ impl<Request: Drop, F: Drop, E: Drop> Messages<Request, F, E> {
     ghost use Rattle.tower_pool.specs.Mail.{IsTaken, NoneWith, Settles, abandoned};
     ghost use Rattle.tower_pool.specs.MessageSteps.{Becomes, Clears, Follows, KeepsRest, Opens, capacity, len, queued, touches};
 
-    /// The oldest queued message, which nobody waits for, is gone.
+    /// Removes the oldest queued message, which nobody waits for.
     pub(crate) fn clear(&mut self, id: usize)
         requires oldest { first_or self.old.links.order None ≡ Some id }
         requires cancelled { (message : Message Request F) → get self.old.links.entries id ≡ Some message → message.fate ≡ Fate.Cancelled }
@@ -134,7 +134,7 @@ impl<Request: Drop, F: Drop, E: Drop> Messages<Request, F, E> {
         self.links.remove(id);
     }
 
-    /// The oldest queued message, which somebody waits for, leaves the queue with its request.
+    /// Takes the oldest queued message, which somebody waits for, out of the queue, and returns its request.
     pub(crate) fn open(&mut self, id: usize) -> Request
         requires oldest { first_or self.old.links.order None ≡ Some id }
         requires open { (message : Message Request F) → get self.old.links.entries id ≡ Some message → message.fate ≡ Fate.Open }
@@ -218,8 +218,8 @@ impl<Request: Drop, F: Drop, E: Drop> Messages<Request, F, E> {
         MailReply::Done
     }
 
-    /// Whether the worker has this message. If so, the first error is stored for good, and the message has failed, or is gone
-    /// if nobody waits for it.
+    /// Returns whether the worker holds this message unsettled. If so, it stores the first error for good, and the message
+    /// fails, or is removed if nobody waits for it.
     pub(crate) fn fail(&mut self, id: u64, error: E) -> bool
         ensures unknown { result ≡ false → Becomes self.old (λ old new. NoneWith IsTaken old id × (new ≡ old)) self.new × (self.new.stored ≡ self.old.stored) }
         ensures fails { result ≡ true → Becomes self.old (λ old new. Settles Fate.Failed old id new) self.new × (self.new.stored ≡ Some (unwrap_or self.old.stored error)) }
@@ -234,7 +234,7 @@ impl<Request: Drop, F: Drop, E: Drop> Messages<Request, F, E> {
         true
     }
 
-    /// The worker is gone: messages without an outcome are lost, and those that nobody waits for are gone.
+    /// The worker is gone: messages without an outcome are lost, and those that nobody waits for are removed.
     pub(crate) fn abandon(&mut self)
         ensures follows { Becomes self.old (λ old new. new ≡ abandoned old) self.new }
         ensures queued { queued self.new ≡ 0 }
@@ -267,7 +267,7 @@ impl<Request: Drop, F: Drop, E: Clone> Messages<Request, F, E> {
         }
     }
 
-    // The stored error. Without memory for its clone the message stays.
+    // Replies the stored error. If its clone finds no memory, the message stays.
     fn tell_failure(&mut self, id: u64) -> MailReply<Request, F, E>
         requires same { (x y : E) → E.is_clone x y → y ≡ x }
         requires failed { (message : Message Request F) × (get self.old.links.entries id ≡ Some message) × (message.fate ≡ Fate.Failed) }
@@ -284,7 +284,7 @@ impl<Request: Drop, F: Drop, E: Clone> Messages<Request, F, E> {
         }
     }
 
-    // The future of a message that was answered, or that the message was lost.
+    // Replies the future of a message that was answered, or that the message was lost.
     fn hand_out(&mut self, id: u64) -> MailReply<Request, F, E>
         requires ended { (message : Message Request F) × (get self.old.links.entries id ≡ Some message) × Ended message.fate }
         ensures follows { Follows self.old (MailStep.Outcome id) result self.new }
@@ -301,7 +301,7 @@ impl<Request: Drop, F: Drop, E: Clone> Messages<Request, F, E> {
     }
 }
 
-// Of the message under the key, if the worker has it, and it has no outcome or isn't waited for: whether it is.
+// If the worker holds this message unsettled: whether someone still waits. Otherwise `None`.
 fn taken<Request, F>(links: &mut Linked<Request, F>, id: usize) -> Option<bool>
     ensures taken { result ≡ taken_at (get links.old.entries id) }
     ensures order { links.new.order ≡ links.old.order }
@@ -311,7 +311,7 @@ fn taken<Request, F>(links: &mut Linked<Request, F>, id: usize) -> Option<bool>
     links.get(id)?.taken()
 }
 
-// What became of the message under the key.
+// What became of this message, without its future.
 fn fate_of<Request, F>(links: &mut Linked<Request, F>, id: usize) -> Option<Fate<()>>
     ensures fate { result ≡ fate_at (get links.old.entries id) }
     ensures order { links.new.order ≡ links.old.order }
@@ -331,7 +331,7 @@ fn out<Request, F>(fate: Fate<F>) -> Message<Request, F>
     }
 }
 
-// This becomes of the message under the key.
+// Gives this message an outcome.
 fn settle<Request: Drop, F: Drop>(links: &mut Linked<Request, F>, id: usize, fate: Fate<F>)
     requires { ContainsKey links.old.entries id }
     ensures entries { (message : Message Request F) → get links.old.entries id ≡ Some message
@@ -345,7 +345,7 @@ fn settle<Request: Drop, F: Drop>(links: &mut Linked<Request, F>, id: usize, fat
     links.replace(id, Message { request, fate });
 }
 
-// Whether the worker has the message under the key. It has failed, or is known no more if nobody waits for it.
+// Returns whether the worker holds this message unsettled. If so, the message fails, or is removed if nobody waits for it.
 fn fail_taken<Request: Drop, F: Drop>(links: &mut Linked<Request, F>, id: usize) -> bool
     ensures unknown { result ≡ false → taken_at (get links.old.entries id) ≡ None }
     ensures kept { result ≡ false → (links.new.order ≡ links.old.order) × (links.new.entries ≡ links.old.entries) }
