@@ -1,10 +1,11 @@
-//! Workers in threads of their own.
-ghost use Rattle.std.specs.Prelude.{◌≡◌, IfOk};
+//! Threads, each with a buffer whose worker is a task of the thread's pool.
+ghost use Rattle.std.specs.Prelude.{◌≡◌};
 
 use crate::jobs::{Answer, Job, Unfinished, search};
 use crate::policy::GoesOn;
-use futures::executor::block_on;
-use futures::future::{Either, Ready, ready, select};
+use futures::executor::LocalPool;
+use futures::future::{Future, Ready, ready};
+use futures::task::Doorbell;
 use std::alloc::{AllocError, AllocGlobal, Global};
 use std::fmt::Display;
 use std::io::{self, Eprint};
@@ -15,9 +16,8 @@ use std::thread;
 use std::thread::Threads;
 use std::time::Clock;
 use tower::buffer::Buffer;
-use tower::latch::held::Pollable;
 use tower::retry::budget::TpsBudget;
-use tower::service::{Polled, Steps, SystemClock};
+use tower::service::SystemClock;
 use tower::{Service, ServiceBuilder, ServiceExt};
 
 /// The answer of each line, in their order.
@@ -96,58 +96,35 @@ where
     }
 }
 
-// Takes one line after another, and calls about it.
+// Takes one line after another, and calls about it. The worker runs in a pool beside the calls.
 fn ask<R, B, W>(rt: &R, desk: &Desk, buffer: B, worker: W) -> io::Result<Vec<(usize, Answer)>>
 where
     R: Wait + RandomSource + AllocGlobal + Eprint,
     B: Service<Job, Response = u64> + Clone,
     B::Error: Display,
-    W: Steps<Output = ()>,
+    W: Future<Output = ()> + Drop,
     requires buffer { B.sound buffer }
     requires clones { (x y : B) → B.is_clone x y → B.sound x → B.sound y }
     requires worker { W.can_poll worker }
 {
+    let mut pool = LocalPool::with_doorbell(rt, Doorbell::parking())?;
+    pool.spawner()?.spawn(worker)?;
     let mut told = Vec::new(rt.alloc());
-    let mut at_work = Some(Pollable::new(worker));
     for _ in 0..desk.lines.len() {
         let place = desk.take();
         let Some(line) = desk.lines.get(place) else {
             break;
         };
         if let Some(job) = line {
-            let Some(worker) = at_work.take() else {
-                break;
-            };
-            let (answer, worker) = answered(rt, buffer.clone()?, worker.into_inner(), *job)?;
-            at_work = Some(Pollable::new(worker));
-            told.push((place, answer))?;
+            let answer = pool.run_until(rt, buffer.clone()?.oneshot(*job))?;
+            told.push((place, answer_of(rt.alloc(), job.number, answer)?))?;
         }
         desk.tell(rt);
     }
     Ok(told)
 }
 
-// Waits for the answer to one job. The worker runs beside the call.
-fn answered<R, B, W>(rt: &R, buffer: B, worker: W, job: Job) -> io::Result<(Answer, W)>
-where
-    R: Wait + RandomSource + AllocGlobal,
-    B: Service<Job, Response = u64>,
-    B::Error: Display,
-    W: Steps<Output = ()>,
-    requires buffer { B.sound buffer }
-    requires worker { W.can_poll worker }
-    ensures { IfOk result (λ answered. W.can_poll answered.1) }
-{
-    match block_on(rt, select(buffer.oneshot(job), Polled::new(worker)))? {
-        Either::Left(both) => {
-            let (answer, worker) = both;
-            Ok((told(rt.alloc(), job.number, answer)?, worker.into_inner()))
-        }
-        Either::Right(_ended) => Err(io::Error::other("a worker is gone")),
-    }
-}
-
-fn told<E: Display + Drop>(
+fn answer_of<E: Display + Drop>(
     alloc: Global,
     number: u64,
     answer: Result<u64, E>,
