@@ -48,7 +48,7 @@ LoadShedLayer::layer          scripted_ware/data/load_shed.script      load_shed
 Steer::new Steer::clone       scripted_ware/data/steer.script          clone          => b
 Timeout::clone                scripted_ware/data/timeout.script        clone          => b
 TimeoutLayer::layer TimeoutLayer::clone  scripted_ware/data/timeout.script  timeout 5 layer
-LineCore::step                tests_refused/src/slabs.rt               fn ample_joins
+LineCore::step WaitQueue::wait  tests_refused/src/slabs.rt               fn ample_joins
 Semaphore::new                tests_limit/src/concurrency.rt           Semaphore::new(rt, rt.alloc(), usize::MAX)
 Semaphore::share              scripted_limit/data/semaphore.script     share          => dropped
 PollSemaphore::share          scripted_limit/data/semaphore.script     share a        => dropped
