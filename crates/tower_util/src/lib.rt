@@ -1,5 +1,4 @@
 //! Small services and what combines them.
 #![tactic(auto)]
 
-pub mod make;
 pub mod util;

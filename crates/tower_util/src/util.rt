@@ -15,6 +15,7 @@ mod map_response;
 mod map_result;
 mod oneshot;
 mod optional;
+pub mod projection;
 mod ready;
 mod sealed;
 mod then;

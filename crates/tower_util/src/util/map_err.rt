@@ -4,6 +4,8 @@ ghost use Rattle.tower_base.specs.Gives.{IsStep, MayGive};
 ghost use Rattle.tower_util.specs.Fuse.{CanPoll, needs_of};
 ghost use Rattle.tower_util.specs.Maps.{MapView, MapLayerView, Polled, Called, MapErrStepped};
 ghost use Rattle.tower_util.specs.MapsReady.{polled_ready};
+ghost use Rattle.tower_base.specs.ProjectionLemmas.{composed_once};
+ghost use Rattle.tower_util.specs.Projections.{map};
 
 use crate::util::fuse::Fuse;
 use futures::future::Future;
@@ -12,6 +14,7 @@ use futures::task::{Context, Poll};
 use std::alloc::AllocError;
 use std::marker::Model;
 use tower_base::layer::Layer;
+use tower_base::run::Contains;
 use tower_base::service::{Service, Steps};
 
 /// Changes each error by a closure, that of readiness too: the Rust's `tower::util::MapErr`.
@@ -78,6 +81,21 @@ where
             f: self.f,
         }
     }
+}
+
+/// What its inner service contains.
+impl<S, F, Request, U, Passed, L> Contains<Request, Passed, L> for MapErr<S, F>
+where
+    L: Service<Passed>,
+    S: Contains<Request, Passed, L>,
+    F: Fn(S::Error) -> U + Copy,
+    U: Drop,
+{
+    ghost inside = { λ m. S.inside m.inner };
+
+    ghost goes = { S.goes };
+
+    ghost projects = { composed_once _ _ _ (λ m. m.inner) S.inside S.goes (map _ F.post) S.projects };
 }
 
 /// The response of a `MapErr`: the Rust's `tower::util::future::MapErrFuture`.

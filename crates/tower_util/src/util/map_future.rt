@@ -2,12 +2,15 @@
 ghost use Rattle.std.specs.Prelude.{◌≡◌};
 ghost use Rattle.tower_util.specs.Maps.{MapView, MapLayerView, Polled};
 ghost use Rattle.tower_util.specs.MapsReady.{polled_ready};
+ghost use Rattle.tower_base.specs.ProjectionLemmas.{composed_once};
+ghost use Rattle.tower_util.specs.Projections.{map_future};
 
 use futures::ready;
 use futures::task::{Context, Poll};
 use std::alloc::AllocError;
 use std::marker::Model;
 use tower_base::layer::Layer;
+use tower_base::run::Contains;
 use tower_base::service::{Service, Steps};
 
 /// Changes each future by a closure. An error of readiness is only converted: the Rust's `tower::util::MapFuture`.
@@ -77,6 +80,23 @@ where
         let future = self.inner.call(request);
         (self.f)(future)
     }
+}
+
+/// What its inner service contains.
+impl<R, S, F, T, E, Fut, Passed, L> Contains<R, Passed, L> for MapFuture<S, F>
+where
+    L: Service<Passed>,
+    S: Contains<R, Passed, L>,
+    F: FnMut(S::Future) -> Fut + Drop,
+    E: From<S::Error> + Drop,
+    Fut: Steps<Output = Result<T, E>>,
+    T: Drop,
+{
+    ghost inside = { λ m. S.inside m.inner };
+
+    ghost goes = { S.goes };
+
+    ghost projects = { composed_once _ _ _ (λ m. m.inner) S.inside S.goes (map_future _ (λ _. E.from_gives) F.step) S.projects };
 }
 
 impl<S, F> MapFuture<S, F> {

@@ -1,11 +1,15 @@
 //! A closure over the requests.
 ghost use Rattle.std.specs.Prelude.{◌≡◌};
 ghost use Rattle.tower_util.specs.Maps.{MapView, MapLayerView};
+ghost use Rattle.tower_base.specs.Projection.{Mapped, Through};
+ghost use Rattle.tower_base.specs.ProjectionLemmas.{composed};
+ghost use Rattle.tower_util.specs.Projections.{Makes, map_request};
 
 use futures::task::{Context, Poll};
 use std::alloc::AllocError;
 use std::marker::Model;
 use tower_base::layer::Layer;
+use tower_base::run::Contains;
 use tower_base::service::Service;
 
 /// Changes each request by a closure: the Rust's `tower::util::MapRequest`.
@@ -63,6 +67,20 @@ impl<S: Service<R2>, F: FnMut(R1) -> R2 + Drop, R1, R2> Service<R1> for MapReque
         let request = (self.f)(request);
         self.inner.call(request)
     }
+}
+
+/// What its inner service contains.
+impl<S, F, R1, R2, Passed, L> Contains<R1, Passed, L> for MapRequest<S, F>
+where
+    L: Service<Passed>,
+    S: Contains<R2, Passed, L>,
+    F: FnMut(R1) -> R2 + Drop,
+{
+    ghost inside = { λ m. S.inside m.inner };
+
+    ghost goes = { Through (Mapped (Makes F.step)) S.goes };
+
+    ghost projects = { composed _ _ _ (λ m. m.inner) S.inside _ S.goes (map_request _ F.step) S.projects };
 }
 
 /// Makes a `MapRequest` of a service: the Rust's `tower::util::MapRequestLayer`.

@@ -6,6 +6,8 @@ ghost use Rattle.tower_util.specs.Maps.{MapView, MapLayerView, Polled};
 ghost use Rattle.tower_util.specs.MapsReady.{polled_ready};
 ghost use Rattle.tower_util.specs.declared.util.chain.Chain.{Chain as Stages};
 ghost use Rattle.tower_util.specs.declared.util.chain.Chain.TheVariants.{First, Second, Done};
+ghost use Rattle.tower_base.specs.ProjectionLemmas.{composed_once};
+ghost use Rattle.tower_util.specs.Projections.{chain};
 
 use crate::util::chain::Chain;
 use futures::future::Future;
@@ -14,6 +16,7 @@ use futures::task::{Context, Poll};
 use std::alloc::AllocError;
 use std::marker::Model;
 use tower_base::layer::Layer;
+use tower_base::run::Contains;
 use tower_base::service::{Service, Steps};
 
 /// Goes on from each result with a future that a closure makes of it. An error of readiness is only converted: the Rust's `tower::util::Then`.
@@ -82,6 +85,23 @@ where
             state: Chain::First(self.inner.call(request), self.f),
         }
     }
+}
+
+/// What its inner service contains.
+impl<S, F, Request, Fut, T, U, Passed, L> Contains<Request, Passed, L> for Then<S, F>
+where
+    L: Service<Passed>,
+    S: Contains<Request, Passed, L>,
+    F: Fn(Result<S::Response, S::Error>) -> Fut + Copy,
+    Fut: Steps<Output = Result<T, U>>,
+    T: Drop,
+    U: From<S::Error> + Drop,
+{
+    ghost inside = { λ m. S.inside m.inner };
+
+    ghost goes = { S.goes };
+
+    ghost projects = { composed_once _ _ _ (λ m. m.inner) S.inside S.goes (chain _ (λ _. U.from_gives)) S.projects };
 }
 
 /// The response of a `Then`: the Rust's `tower::util::future::ThenFuture`.

@@ -1,0 +1,4 @@
+//! Services that make services.
+#![tactic(auto)]
+
+pub mod make;

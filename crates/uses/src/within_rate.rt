@@ -1,0 +1,113 @@
+//! A rate limit under layers of the library and one of one's own: whatever is polled, called, dropped or answered, the
+//! calls that reach the server keep to the rate.
+ghost use Rattle.std.specs.Prelude.{◌≡◌, IfOk};
+ghost use Rattle.tower_base.specs.Projection.{MappedOrNone, Once, Through};
+ghost use Rattle.tower_base.specs.ProjectionLemmas.{composed_once, forwards};
+ghost use Rattle.tower_base.specs.ServiceRun.{made};
+ghost use Rattle.tower_limit.specs.Rate.{New};
+ghost use Rattle.tower_limit.specs.RateRun.{KeepsRate};
+ghost use Rattle.tower_ware.specs.Projections.{LetsThrough};
+
+use crate::server::Server;
+use futures::task::{Context, Doorbell, Poll, Solo};
+use std::alloc::{AllocError, AllocGlobal, Global};
+use std::io;
+use std::marker::Model;
+use std::random::RandomSource;
+use std::sync::Wait;
+use tower::Service;
+use tower::drive::{Entry, Event, Transcript};
+use tower::filter::{self, Filter, Predicate};
+use tower::latch::Latch;
+use tower::limit::concurrency::{self, ConcurrencyLimit, LineCore, Semaphore};
+use tower::limit::rate::{Rate, RateLimit, drive_within_rate};
+use tower::run::Contains;
+use tower::service::{Clock, Monotonic, SystemClock};
+use tower::timeout::{self, Timeout};
+
+/// A layer of one's own: it counts the calls of its service.
+#[derive(Drop)]
+struct Counted<S> {
+    inner: S,
+    calls: u64,
+}
+
+// Contracts see the inner service alone.
+impl<S> Model for Counted<S> {
+    ghost Value = { S };
+
+    ghost view = { λ c. c.inner };
+}
+
+impl<Request, S: Service<Request>> Service<Request> for Counted<S> {
+    type Response = S::Response;
+
+    type Error = S::Error;
+
+    type Future = S::Future;
+
+    ghost sound = { S.sound };
+
+    ghost ready = { S.ready };
+
+    ghost polled = { S.polled };
+
+    ghost called = { λ old request future new. S.ready old × S.called old request future new };
+
+    ghost readies = { S.readies };
+
+    fn poll_ready(&mut self, cx: &mut Context<'_>) -> Poll<Result<(), S::Error>> {
+        self.inner.poll_ready(cx)
+    }
+
+    fn call(&mut self, request: Request) -> S::Future {
+        self.calls = self.calls.saturating_add(1);
+        self.inner.call(request)
+    }
+}
+
+// What goes inside: each poll and each call, as it is.
+impl<Request, Passed, L, S> Contains<Request, Passed, L> for Counted<S>
+where
+    L: Service<Passed>,
+    S: Contains<Request, Passed, L>,
+{
+    ghost inside = { S.inside };
+
+    ghost goes = { S.goes };
+
+    ghost projects = { composed_once _ _ _ (λ c. c) S.inside S.goes (forwards _ _ (λ c. c) (λ _ _ answer p. (answer, p)) (λ _ _ _ future c. (future, c.0, c.1))) S.projects };
+}
+
+type Failure<E, P> = timeout::Error<filter::Error<concurrency::Error<E>, P>>;
+
+// Drives a stack of five: a timeout, a filter, a concurrency limit and the layer of one's own over this rate limit.
+fn drive_over<S, C, D, U, L, T>(
+    alloc: Global,
+    cx: &mut Context<'_>,
+    limit: RateLimit<S, C>,
+    semaphore: Semaphore<L>,
+    predicate: U,
+    timer: D,
+    events: Vec<Event<T, ()>>,
+) -> Result<Transcript<S::Response, Failure<S::Error, U::Error>, ()>, AllocError>
+where
+    T: Drop,
+    S: Service<u32>,
+    C: Monotonic,
+    D: Clock,
+    U: Predicate<T, Request = u32>,
+    L: Latch<LineCore>,
+    requires server { S.sound limit.inner }
+    requires predicate { U.sound predicate }
+    ensures { IfOk result (λ transcript. KeepsRate S.Service C.Clock (Through (MappedOrNone (LetsThrough U.Predicate)) Once) limit (made events.items transcript.entries.items)) }
+{
+    let own = Counted {
+        inner: limit,
+        calls: 0,
+    };
+    let bounded = ConcurrencyLimit::with_semaphore(own, semaphore);
+    let stack = Timeout::new(Filter::new(bounded, predicate), 1_000_000_000, timer);
+    let transcript = drive_within_rate(alloc, cx, stack, events, |_: ()| {})?;
+    Ok(transcript)
+}
