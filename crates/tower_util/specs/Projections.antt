@@ -9,7 +9,7 @@ use Rattle.tower_base.specs.declared.service.Service.{Ghosts as ServiceOf}
 use Rattle.tower_util.specs.Chain as C
 use Rattle.tower_util.specs.FutureService as W
 use Rattle.tower_util.specs.Maps as M
-use Rattle.tower_util.specs.Optional as O
+use Rattle.tower_util.specs.Optional as Op
 use Rattle.tower_util.specs.declared.util.awaited.State.{State as Stage}
 use Rattle.tower_util.specs.declared.util.awaited.State.TheVariants.{Coming, There, Lost}
 use Rattle.tower_util.specs.declared.util.chain.Chain.{Chain}
@@ -21,8 +21,8 @@ use Rattle.tower_util.specs.declared.util.error.future_service.Error.{Error as A
 use Rattle.tower_util.specs.declared.util.optional.error.Error.{Error as OptionalError}
 
 -- the closure may make this of the request, at some value of it
-abbrev pub Makes : {N R Q : Type 0} → (N → R → Q → N → Type 0) → R → Q → Type 0
-Makes {N} step request inside = (before after : N) × step before request inside after
+abbrev pub ClosureMakes : {N R Q : Type 0} → (N → R → Q → N → Type 0) → R → Q → Type 0
+ClosureMakes {N} step request inside = (before after : N) × step before request inside after
 
 module _ {S Q A E F : Type 0} (s : ServiceOf S Q A E F) where
   module _ {N : Type 0} where
@@ -35,7 +35,7 @@ module _ {S Q A E F : Type 0} (s : ServiceOf S Q A E F) where
         called = λ old request future new. (inner : Q) × step old.f request inner new.f × s.ready old.inner × s.called old.inner inner future new.inner;
       }
 
-      pub map_request : Projects map_request_of (relations s) (λ m. m.inner) (Mapped (Makes step))
+      pub map_request : Projects map_request_of (relations s) (λ m. m.inner) (Mapped (ClosureMakes step))
       map_request old (Action.poll answer) new takes = one_poll (relations s) old.inner new.inner answer takes.0 refl
       map_request old (Action.call request future) new takes =
           one_call (relations s) old.inner new.inner takes.1.0 future takes.1.2 takes.1.3 (takes.1.0, (old.f, new.f, takes.1.1), refl)
@@ -82,7 +82,7 @@ module _ {S Q A E F : Type 0} (s : ServiceOf S Q A E F) where
 
   -- `Optional`
   abbrev optional_of : Relations (Option S) Q (OptionalError E) (Option F)
-  optional_of = record { ready = λ o. IfSome o s.ready; polled = O.Polled s.polled; called = O.Called s.ready s.called }
+  optional_of = record { ready = λ o. IfSome o s.ready; polled = Op.Polled s.polled; called = Op.Called s.ready s.called }
 
   -- If there is a service, it stays there, and gets just this action; and if there is none, none is made.
   abbrev pub RunsOfOptional : Option S → Action Q (OptionalError E) (Option F) → Option S → Type 0

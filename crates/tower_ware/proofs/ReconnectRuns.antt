@@ -93,10 +93,15 @@ module _ {M T S F ME Q A E G : Type 0} (m : ServiceOf M T S ME F) (connect : Ste
       ⊎_elim (λ ends. chained old.state p.passes.last.state new.state so_far (passed p.passes.last.state p.passes.last (Some answer) new refl ends.1))
       (λ tired. held (λ x. x ≡ []) old.state p.passes.last.state new (ap (λ v. v.state) tired.2) so_far) p.passes.ends
 
+  -- the kept error is taken
+  taken : (state : State F S) (old : View) (request : Q) (new : View) → old.state ≡ state → new ≡ record old { error = None } → Holds (AtMostOnce request) state new.state
+  taken state old request new same e = held (AtMostOnce request) state state new (ap (λ v. v.state) e ∙ same) (stays (AtMostOnce request) state (inr refl))
+
   calls : (state : State F S) (error : Option ME) (old : View) (request : Q) (reply : Reply G ME) (new : View) → old.state ≡ state
       → CalledAt s state error old request reply new → Holds (AtMostOnce request) state new.state
-  calls state (Some e) old request reply new same h =
-      held (AtMostOnce request) state state new (ap (λ v. v.state) h.1 ∙ same) (stays (AtMostOnce request) state (inr refl))
+  calls (Connected service) (Some e) old request reply new same h = taken (Connected service) old request new same h.1
+  calls (Connecting f) (Some e) old request reply new same h = taken (Connecting f) old request new same h.1
+  calls Idle (Some e) old request reply new same h = taken Idle old request new same h.1
   calls (Connected service) None old request reply new same h =
       held (AtMostOnce request) (Connected service) (Connected h.1) new (ap (λ v. v.state) h.5)
       (inl (one_call (relations s) service h.1 request h.0 h.2 h.3 (inl refl)))

@@ -9,7 +9,7 @@ use Rattle.tower_base.specs.ServiceRun.{Relations, relations, Action}
 use Rattle.tower_base.specs.Projection.{AtMostOnce, RunInside, Projects}
 use Rattle.tower_base.specs.ProjectionLemmas.{no_action, one_poll, one_call}
 use Rattle.tower_base.specs.declared.service.Service.{Ghosts as ServiceOf}
-use Rattle.tower_ware.specs.Projections.{at}
+use Rattle.tower_ware.specs.Projections.{service_at}
 use Rattle.tower_ware.specs.Steer.{SteerView, EachPolled, OnOk, Polled, Called}
 use Rattle.tower_ware.proofs.RunsLemmas.{after}
 use Rattle.tower_ware.specs.declared.steer.picker.Picker.{Ghosts as PickerOf}
@@ -56,7 +56,7 @@ module _ {S F Q A E G : Type 0} (s : ServiceOf S Q A E G) (p : PickerOf F S Q) (
       (on_ok (slice_index_or mid j d) (slice_index_or new j d) (λ stop. (answer ≡ stop) × (rest ≡ i ∷ is) × (new ≡ mid)) here.2 here.5
       (λ goes. each is mid answer rest new goes) (λ stop stops. ap (λ x. slice_index_or x j d) stops.2))
 
-  pub steer : Projects steer_of (relations s) (at j d) AtMostOnce
+  pub steer : Projects steer_of (relations s) (service_at j d) AtMostOnce
   steer old (Action.poll answer) new takes = each old.listed old.services answer new.listed new.services takes.polled
   steer old (Action.call request future) new takes =
       let c = takes.1 in

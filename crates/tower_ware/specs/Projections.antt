@@ -22,8 +22,8 @@ use Rattle.tower_ware.specs.declared.reconnect.state.State.{State as ConnectStat
 use Rattle.tower_ware.specs.declared.reconnect.state.State.TheVariants.{Idle, Connecting, Connected}
 
 -- the service of a `Steer` at the index, or another one where there is none
-abbrev pub at : {S F : Type 0} → ℕ → S → SteerView S F → S
-at index other v = slice_index_or v.services index other
+abbrev pub service_at : {S F : Type 0} → ℕ → S → SteerView S F → S
+service_at index other v = slice_index_or v.services index other
 
 -- the predicate may let the request through, at some value of it, as this one
 abbrev pub LetsThrough : {U R Q P : Type 0} → PredicateOf U R Q P → R → Q → Type 0

@@ -3,7 +3,7 @@ ghost use Rattle.std.specs.Prelude.{◌≡◌, ◌<◌, ◌≤◌, [], All, IfOk
 ghost use Rattle.std.specs.VecDeque.{deque_capacity};
 ghost use Rattle.tower_ware.specs.Steer.{Called, Fits, IsClone, Polled, Sound, SteerView, upto};
 ghost use Rattle.tower_ware.specs.SteerReady.{polled_ok};
-ghost use Rattle.tower_ware.specs.Projections.{at};
+ghost use Rattle.tower_ware.specs.Projections.{service_at};
 ghost use Rattle.tower_base.specs.ServiceRun.{relations};
 ghost use Rattle.tower_base.specs.Projection.{AtMostOnce, Projects};
 
@@ -99,7 +99,7 @@ impl<S: Service<Req>, F: Picker<S, Req>, Req> Service<Req> for Steer<S, F, Req> 
 
 /// For each service in it: each call goes there, once, or nothing does.
 pub fn projection<S: Service<Req>, F: Picker<S, Req>, Req>()
-    ensures { (index : _) (other : S) → Projects (relations ⟦<Steer<S, F, Req> as Service<Req>>⟧) (relations S.Service) (at index other) AtMostOnce }
+    ensures { (index : _) (other : S) → Projects (relations ⟦<Steer<S, F, Req> as Service<Req>>⟧) (relations S.Service) (service_at index other) AtMostOnce }
 {}
 
 impl<S: Clone, F: Clone, Req> Clone for Steer<S, F, Req> {

@@ -3,7 +3,7 @@ ghost use Rattle.std.specs.Prelude.{◌≡◌};
 ghost use Rattle.std.proofs.Common.{rules};
 ghost use Rattle.tower_base.specs.Gives.{IsStep, MayGive};
 ghost use Rattle.tower_util.specs.Either.{Stepped};
-ghost use Rattle.tower_util.specs.Projections.{EitherGoes, either};
+ghost use Rattle.tower_util.specs.Projections.{EitherGoes, either as either_projects};
 ghost use Rattle.tower_util.specs.declared.util.either.Either.TheVariants.{Left, Right};
 ghost use Rattle.tower_util.specs.declared.util.either.EitherResponseFuture.TheVariants.{First, Second};
 
@@ -79,7 +79,7 @@ where
 
     ghost goes = { EitherGoes A.goes B.goes };
 
-    ghost projects = { either _ _ _ A.inside B.inside A.goes B.goes A.projects B.projects };
+    ghost projects = { either_projects _ _ _ A.inside B.inside A.goes B.goes A.projects B.projects };
 }
 
 impl<S, A: Layer<S>, B: Layer<S>> Layer<S> for Either<A, B> {

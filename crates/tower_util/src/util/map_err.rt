@@ -5,7 +5,7 @@ ghost use Rattle.tower_util.specs.Fuse.{CanPoll, needs_of};
 ghost use Rattle.tower_util.specs.Maps.{MapView, MapLayerView, Polled, Called, MapErrStepped};
 ghost use Rattle.tower_util.specs.MapsReady.{polled_ready};
 ghost use Rattle.tower_base.specs.ProjectionLemmas.{composed_once};
-ghost use Rattle.tower_util.specs.Projections.{map};
+ghost use Rattle.tower_util.specs.Projections.{map as map_projects};
 
 use crate::util::fuse::Fuse;
 use futures::future::Future;
@@ -84,18 +84,18 @@ where
 }
 
 /// What its inner service contains.
-impl<S, F, Request, U, Passed, L> Contains<Request, Passed, L> for MapErr<S, F>
+impl<S, F, Q, V, Passed, L> Contains<Q, Passed, L> for MapErr<S, F>
 where
     L: Service<Passed>,
-    S: Contains<Request, Passed, L>,
-    F: Fn(S::Error) -> U + Copy,
-    U: Drop,
+    S: Contains<Q, Passed, L>,
+    F: Fn(S::Error) -> V + Copy,
+    V: Drop,
 {
     ghost inside = { λ m. S.inside m.inner };
 
     ghost goes = { S.goes };
 
-    ghost projects = { composed_once _ _ _ (λ m. m.inner) S.inside S.goes (map _ F.post) S.projects };
+    ghost projects = { composed_once _ _ _ (λ m. m.inner) S.inside S.goes (map_projects _ F.post) S.projects };
 }
 
 /// The response of a `MapErr`: the Rust's `tower::util::future::MapErrFuture`.

@@ -3,7 +3,7 @@ ghost use Rattle.std.specs.Prelude.{◌≡◌};
 ghost use Rattle.tower_util.specs.Maps.{MapView, MapLayerView, Polled};
 ghost use Rattle.tower_util.specs.MapsReady.{polled_ready};
 ghost use Rattle.tower_base.specs.ProjectionLemmas.{composed_once};
-ghost use Rattle.tower_util.specs.Projections.{map_future};
+ghost use Rattle.tower_util.specs.Projections.{map_future as map_future_projects};
 
 use futures::ready;
 use futures::task::{Context, Poll};
@@ -83,20 +83,20 @@ where
 }
 
 /// What its inner service contains.
-impl<R, S, F, T, E, Fut, Passed, L> Contains<R, Passed, L> for MapFuture<S, F>
+impl<Q, S, F, X, V, G, Passed, L> Contains<Q, Passed, L> for MapFuture<S, F>
 where
     L: Service<Passed>,
-    S: Contains<R, Passed, L>,
-    F: FnMut(S::Future) -> Fut + Drop,
-    E: From<S::Error> + Drop,
-    Fut: Steps<Output = Result<T, E>>,
-    T: Drop,
+    S: Contains<Q, Passed, L>,
+    F: FnMut(S::Future) -> G + Drop,
+    V: From<S::Error> + Drop,
+    G: Steps<Output = Result<X, V>>,
+    X: Drop,
 {
     ghost inside = { λ m. S.inside m.inner };
 
     ghost goes = { S.goes };
 
-    ghost projects = { composed_once _ _ _ (λ m. m.inner) S.inside S.goes (map_future _ (λ _. E.from_gives) F.step) S.projects };
+    ghost projects = { composed_once _ _ _ (λ m. m.inner) S.inside S.goes (map_future_projects _ (λ _. V.from_gives) F.step) S.projects };
 }
 
 impl<S, F> MapFuture<S, F> {

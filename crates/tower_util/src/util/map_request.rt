@@ -3,7 +3,7 @@ ghost use Rattle.std.specs.Prelude.{◌≡◌};
 ghost use Rattle.tower_util.specs.Maps.{MapView, MapLayerView};
 ghost use Rattle.tower_base.specs.Projection.{Mapped, Through};
 ghost use Rattle.tower_base.specs.ProjectionLemmas.{composed};
-ghost use Rattle.tower_util.specs.Projections.{Makes, map_request};
+ghost use Rattle.tower_util.specs.Projections.{ClosureMakes, map_request as map_request_projects};
 
 use futures::task::{Context, Poll};
 use std::alloc::AllocError;
@@ -70,17 +70,17 @@ impl<S: Service<R2>, F: FnMut(R1) -> R2 + Drop, R1, R2> Service<R1> for MapReque
 }
 
 /// What its inner service contains.
-impl<S, F, R1, R2, Passed, L> Contains<R1, Passed, L> for MapRequest<S, F>
+impl<S, F, Q, P, Passed, L> Contains<Q, Passed, L> for MapRequest<S, F>
 where
     L: Service<Passed>,
-    S: Contains<R2, Passed, L>,
-    F: FnMut(R1) -> R2 + Drop,
+    S: Contains<P, Passed, L>,
+    F: FnMut(Q) -> P + Drop,
 {
     ghost inside = { λ m. S.inside m.inner };
 
-    ghost goes = { Through (Mapped (Makes F.step)) S.goes };
+    ghost goes = { Through (Mapped (ClosureMakes F.step)) S.goes };
 
-    ghost projects = { composed _ _ _ (λ m. m.inner) S.inside _ S.goes (map_request _ F.step) S.projects };
+    ghost projects = { composed _ _ _ (λ m. m.inner) S.inside _ S.goes (map_request_projects _ F.step) S.projects };
 }
 
 /// Makes a `MapRequest` of a service: the Rust's `tower::util::MapRequestLayer`.

@@ -4,7 +4,7 @@ ghost use Rattle.tower_base.specs.Gives.{IsStep, MayGive};
 ghost use Rattle.tower_util.specs.Fuse.{CanPoll, needs_of};
 ghost use Rattle.tower_util.specs.Maps.{MapView, MapLayerView, Called, MapResponseStepped};
 ghost use Rattle.tower_base.specs.ProjectionLemmas.{composed_once};
-ghost use Rattle.tower_util.specs.Projections.{map_response};
+ghost use Rattle.tower_util.specs.Projections.{map_response as map_response_projects};
 
 use crate::util::fuse::Fuse;
 use futures::future::Future;
@@ -80,18 +80,18 @@ where
 }
 
 /// What its inner service contains.
-impl<S, F, Request, T, Passed, L> Contains<Request, Passed, L> for MapResponse<S, F>
+impl<S, F, Q, X, Passed, L> Contains<Q, Passed, L> for MapResponse<S, F>
 where
     L: Service<Passed>,
-    S: Contains<Request, Passed, L>,
-    F: Fn(S::Response) -> T + Copy,
-    T: Drop,
+    S: Contains<Q, Passed, L>,
+    F: Fn(S::Response) -> X + Copy,
+    X: Drop,
 {
     ghost inside = { λ m. S.inside m.inner };
 
     ghost goes = { S.goes };
 
-    ghost projects = { composed_once _ _ _ (λ m. m.inner) S.inside S.goes (map_response _) S.projects };
+    ghost projects = { composed_once _ _ _ (λ m. m.inner) S.inside S.goes (map_response_projects _) S.projects };
 }
 
 /// The response of a `MapResponse`: the Rust's `tower::util::future::MapResponseFuture`.

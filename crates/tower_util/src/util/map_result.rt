@@ -5,7 +5,7 @@ ghost use Rattle.tower_util.specs.Fuse.{CanPoll, needs_of};
 ghost use Rattle.tower_util.specs.Maps.{MapView, MapLayerView, Polled, Called, MapResultStepped};
 ghost use Rattle.tower_util.specs.MapsReady.{polled_ready};
 ghost use Rattle.tower_base.specs.ProjectionLemmas.{composed_once};
-ghost use Rattle.tower_util.specs.Projections.{map};
+ghost use Rattle.tower_util.specs.Projections.{map as map_projects};
 
 use crate::util::fuse::Fuse;
 use futures::future::Future;
@@ -85,19 +85,19 @@ where
 }
 
 /// What its inner service contains.
-impl<S, F, Request, T, U, Passed, L> Contains<Request, Passed, L> for MapResult<S, F>
+impl<S, F, Q, X, V, Passed, L> Contains<Q, Passed, L> for MapResult<S, F>
 where
     L: Service<Passed>,
-    S: Contains<Request, Passed, L>,
-    F: Fn(Result<S::Response, S::Error>) -> Result<T, U> + Copy,
-    T: Drop,
-    U: From<S::Error> + Drop,
+    S: Contains<Q, Passed, L>,
+    F: Fn(Result<S::Response, S::Error>) -> Result<X, V> + Copy,
+    X: Drop,
+    V: From<S::Error> + Drop,
 {
     ghost inside = { λ m. S.inside m.inner };
 
     ghost goes = { S.goes };
 
-    ghost projects = { composed_once _ _ _ (λ m. m.inner) S.inside S.goes (map _ (λ _. U.from_gives)) S.projects };
+    ghost projects = { composed_once _ _ _ (λ m. m.inner) S.inside S.goes (map_projects _ (λ _. V.from_gives)) S.projects };
 }
 
 /// The response of a `MapResult`: the Rust's `tower::util::future::MapResultFuture`.

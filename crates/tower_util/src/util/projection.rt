@@ -1,7 +1,7 @@
 //! What goes inside of what each service here is asked: laws. The Rust has no such module.
 ghost use Rattle.tower_base.specs.ServiceRun.{Takes, relations};
 ghost use Rattle.tower_base.specs.Projection.{Mapped, Once, Projects};
-ghost use Rattle.tower_util.specs.Projections.{Makes, RunsOfOptional, RunsOfSide, RunsOnceThere};
+ghost use Rattle.tower_util.specs.Projections.{ClosureMakes, RunsOfOptional, RunsOfSide, RunsOnceThere};
 
 use crate::util::{
     AndThen, Either, FutureService, MapErr, MapFuture, MapRequest, MapResponse, MapResult,
@@ -10,35 +10,31 @@ use crate::util::{
 use tower_base::service::{Service, Steps};
 
 /// Of each call what the closure makes of its request goes inside.
-pub fn map_request<S, F, R1, R2>()
+pub fn map_request<S: Service<R2>, F, R1, R2>()
 where
-    S: Service<R2>,
     F: FnMut(R1) -> R2 + Drop,
-    ensures { Projects (relations ⟦<MapRequest<S, F> as Service<R1>>⟧) (relations S.Service) (λ m. m.inner) (Mapped (Makes F.step)) }
+    ensures { Projects (relations ⟦<MapRequest<S, F> as Service<R1>>⟧) (relations S.Service) (λ m. m.inner) (Mapped (ClosureMakes F.step)) }
 {}
 
 /// Each call goes inside, once.
-pub fn map_response<S, F, Request, T>()
+pub fn map_response<S: Service<Request>, F, Request, T>()
 where
-    S: Service<Request>,
     F: Fn(S::Response) -> T + Copy,
     T: Drop,
     ensures { Projects (relations ⟦<MapResponse<S, F> as Service<Request>>⟧) (relations S.Service) (λ m. m.inner) Once }
 {}
 
 /// Each call goes inside, once.
-pub fn map_err<S, F, Request, U>()
+pub fn map_err<S: Service<Request>, F, Request, U>()
 where
-    S: Service<Request>,
     F: Fn(S::Error) -> U + Copy,
     U: Drop,
     ensures { Projects (relations ⟦<MapErr<S, F> as Service<Request>>⟧) (relations S.Service) (λ m. m.inner) Once }
 {}
 
 /// Each call goes inside, once.
-pub fn map_result<S, F, Request, T, U>()
+pub fn map_result<S: Service<Request>, F, Request, T, U>()
 where
-    S: Service<Request>,
     F: Fn(Result<S::Response, S::Error>) -> Result<T, U> + Copy,
     T: Drop,
     U: From<S::Error> + Drop,
@@ -46,9 +42,8 @@ where
 {}
 
 /// Each call goes inside, once.
-pub fn map_future<R, S, F, T, E, Fut>()
+pub fn map_future<R, S: Service<R>, F, T, E, Fut>()
 where
-    S: Service<R>,
     F: FnMut(S::Future) -> Fut + Drop,
     E: From<S::Error> + Drop,
     Fut: Steps<Output = Result<T, E>>,
@@ -57,9 +52,8 @@ where
 {}
 
 /// Each call goes inside, once.
-pub fn then<S, F, Request, Fut, T, U>()
+pub fn then<S: Service<Request>, F, Request, Fut, T, U>()
 where
-    S: Service<Request>,
     F: Fn(Result<S::Response, S::Error>) -> Fut + Copy,
     Fut: Steps<Output = Result<T, U>>,
     T: Drop,
@@ -68,9 +62,8 @@ where
 {}
 
 /// Each call goes inside, once.
-pub fn and_then<S, F, Request, Fut, T, U>()
+pub fn and_then<S: Service<Request>, F, Request, Fut, T, U>()
 where
-    S: Service<Request>,
     F: Fn(S::Response) -> Fut + Copy,
     Fut: Steps<Output = Result<T, U>>,
     T: Drop,

@@ -7,7 +7,7 @@ ghost use Rattle.tower_util.specs.MapsReady.{polled_ready};
 ghost use Rattle.tower_util.specs.declared.util.chain.Chain.{Chain as Stages};
 ghost use Rattle.tower_util.specs.declared.util.chain.Chain.TheVariants.{First, Second, Done};
 ghost use Rattle.tower_base.specs.ProjectionLemmas.{composed_once};
-ghost use Rattle.tower_util.specs.Projections.{chain};
+ghost use Rattle.tower_util.specs.Projections.{chain as chain_projects};
 
 use crate::util::chain::Chain;
 use futures::future::Future;
@@ -88,20 +88,20 @@ where
 }
 
 /// What its inner service contains.
-impl<S, F, Request, Fut, T, U, Passed, L> Contains<Request, Passed, L> for Then<S, F>
+impl<S, F, Q, G, X, V, Passed, L> Contains<Q, Passed, L> for Then<S, F>
 where
     L: Service<Passed>,
-    S: Contains<Request, Passed, L>,
-    F: Fn(Result<S::Response, S::Error>) -> Fut + Copy,
-    Fut: Steps<Output = Result<T, U>>,
-    T: Drop,
-    U: From<S::Error> + Drop,
+    S: Contains<Q, Passed, L>,
+    F: Fn(Result<S::Response, S::Error>) -> G + Copy,
+    G: Steps<Output = Result<X, V>>,
+    X: Drop,
+    V: From<S::Error> + Drop,
 {
     ghost inside = { λ m. S.inside m.inner };
 
     ghost goes = { S.goes };
 
-    ghost projects = { composed_once _ _ _ (λ m. m.inner) S.inside S.goes (chain _ (λ _. U.from_gives)) S.projects };
+    ghost projects = { composed_once _ _ _ (λ m. m.inner) S.inside S.goes (chain_projects _ (λ _. V.from_gives)) S.projects };
 }
 
 /// The response of a `Then`: the Rust's `tower::util::future::ThenFuture`.
