@@ -8,6 +8,7 @@ ghost use Rattle.tower_limit.specs.Rate.{New};
 ghost use Rattle.tower_limit.specs.RateRun.{KeepsRate};
 ghost use Rattle.tower_ware.specs.Projections.{LetsThrough};
 
+use crate::filter::even;
 use crate::server::Server;
 use futures::task::{Context, Doorbell, Poll, Solo};
 use std::alloc::{AllocError, AllocGlobal, Global};
@@ -17,7 +18,7 @@ use std::random::RandomSource;
 use std::sync::Wait;
 use tower::Service;
 use tower::drive::{Entry, Event, Transcript};
-use tower::filter::{self, Filter, Predicate};
+use tower::filter::{self, Filter, Predicate, PredicateFn};
 use tower::latch::Latch;
 use tower::limit::concurrency::{self, ConcurrencyLimit, LineCore, Semaphore};
 use tower::limit::rate::{Rate, RateLimit, drive_within_rate};
@@ -110,4 +111,79 @@ where
     let stack = Timeout::new(Filter::new(bounded, predicate), 1_000_000_000, timer);
     let transcript = drive_within_rate(alloc, cx, stack, events, |_: ()| {})?;
     Ok(transcript)
+}
+
+// The same over a new limit: its calls keep to the rate over the whole transcript.
+fn drive_five<S, C, D, U, L, T>(
+    alloc: Global,
+    cx: &mut Context<'_>,
+    server: S,
+    rate: Rate,
+    clock: C,
+    semaphore: Semaphore<L>,
+    predicate: U,
+    timer: D,
+    events: Vec<Event<T, ()>>,
+) -> Result<Transcript<S::Response, Failure<S::Error, U::Error>, ()>, AllocError>
+where
+    T: Drop,
+    S: Service<u32>,
+    C: Monotonic,
+    D: Clock,
+    U: Predicate<T, Request = u32>,
+    L: Latch<LineCore>,
+    requires server { S.sound server }
+    requires predicate { U.sound predicate }
+    ensures { IfOk result (λ transcript. (limit : _) × New rate.num rate.per server clock limit
+        × KeepsRate S.Service C.Clock (Through (MappedOrNone (LetsThrough U.Predicate)) Once) limit (made events.items transcript.entries.items)) }
+{
+    let limit = RateLimit::new(alloc, server, rate, clock)?;
+    let transcript = drive_over(alloc, cx, limit, semaphore, predicate, timer, events)?;
+    Ok(transcript)
+}
+
+// How many calls were made.
+fn calls<A, E>(transcript: &Transcript<A, E, ()>) -> u64 {
+    let mut made: u64 = 0;
+    for entry in &transcript.entries {
+        if let Entry::Called(_) = entry {
+            made = made.saturating_add(1);
+        }
+    }
+    made
+}
+
+/// Of three calls two reach the server within the hour.
+pub fn hold_back<R>(rt: R) -> io::Result<()>
+where
+    R: Wait + RandomSource + AllocGlobal + Print + std::time::Clock + Copy,
+{
+    let alloc = rt.alloc();
+    let events = vec![in alloc;
+        Event::Poll,
+        Event::Call(2),
+        Event::Poll,
+        Event::Call(4),
+        Event::Poll,
+        Event::Call(6),
+    ]?;
+    let (clock, timer) = (SystemClock::new(rt)?, SystemClock::new(rt)?);
+    let semaphore = Semaphore::new(rt, alloc, 3)?;
+    let predicate = PredicateFn::new(|request: u32| even(request));
+    let rate = Rate::new(2, 3_600_000_000_000);
+    let solo = Solo::new(&rt, Doorbell::spinning())?;
+    let mut cx = solo.begin();
+    let transcript = drive_five(
+        alloc,
+        &mut cx,
+        Server(1),
+        rate,
+        clock,
+        semaphore,
+        predicate,
+        timer,
+        events,
+    );
+    cx.cancel();
+    println!(rt; "within_rate: {} of 3 calls", calls(&transcript?))
 }

@@ -2,4 +2,4 @@ use Rattle.tower_util.specs.Projections.{map}
 use Rattle.tower_util.proofs.util.projection.map_err.Goals as goal
 
 pub returns : goal.returns
-returns g c = map g.S.Service g.F.post
+returns g c = map g.S.Service g.F.Fn.post
