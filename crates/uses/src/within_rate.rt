@@ -1,14 +1,13 @@
 //! A rate limit under layers of the library and one of one's own: whatever is polled, called, dropped or answered, the
 //! calls that reach the server keep to the rate.
-ghost use Rattle.std.specs.Prelude.{◌≡◌, IfOk};
+ghost use Rattle.std.specs.Prelude.{IfOk};
 ghost use Rattle.tower_base.specs.Projection.{MappedOrNone, Once, Through};
 ghost use Rattle.tower_base.specs.ProjectionLemmas.{composed_once, forwards};
 ghost use Rattle.tower_base.specs.ServiceRun.{made};
-ghost use Rattle.tower_limit.specs.Rate.{New};
 ghost use Rattle.tower_limit.specs.RateRun.{KeepsRate};
 ghost use Rattle.tower_ware.specs.Projections.{LetsThrough};
 
-use crate::filter::even;
+use crate::filter::{Odd, even};
 use crate::server::Server;
 use futures::task::{Context, Doorbell, Poll, Solo};
 use std::alloc::{AllocError, AllocGlobal, Global};
@@ -18,7 +17,7 @@ use std::random::RandomSource;
 use std::sync::Wait;
 use tower::Service;
 use tower::drive::{Entry, Event, Transcript};
-use tower::filter::{self, Filter, Predicate, PredicateFn};
+use tower::filter::{self, Filter, Predicate};
 use tower::latch::Latch;
 use tower::limit::concurrency::{self, ConcurrencyLimit, LineCore, Semaphore};
 use tower::limit::rate::{Rate, RateLimit, drive_within_rate};
@@ -82,14 +81,14 @@ where
 
 type Failure<E, P> = timeout::Error<filter::Error<concurrency::Error<E>, P>>;
 
-// Drives a stack of five: a timeout, a filter, a concurrency limit and the layer of one's own over this rate limit.
-fn drive_over<S, C, D, U, L, T>(
+// A timeout, a filter, a concurrency limit and the layer of one's own over a rate limit.
+type Five<S, C, L, U, D> = Timeout<Filter<ConcurrencyLimit<Counted<RateLimit<S, C>>, L>, U>, D>;
+
+// Drives the five. Of the calls that reach the server at most `num` come in any interval of length `per`, if the limit is new.
+fn drive_five<S, C, D, U, L, T>(
     alloc: Global,
     cx: &mut Context<'_>,
-    limit: RateLimit<S, C>,
-    semaphore: Semaphore<L>,
-    predicate: U,
-    timer: D,
+    stack: Five<S, C, L, U, D>,
     events: Vec<Event<T, ()>>,
 ) -> Result<Transcript<S::Response, Failure<S::Error, U::Error>, ()>, AllocError>
 where
@@ -99,47 +98,27 @@ where
     D: Clock,
     U: Predicate<T, Request = u32>,
     L: Latch<LineCore>,
-    requires server { S.sound limit.inner }
-    requires predicate { U.sound predicate }
-    ensures { IfOk result (λ transcript. KeepsRate S.Service C.Clock (Through (MappedOrNone (LetsThrough U.Predicate)) Once) limit (made events.items transcript.entries.items)) }
+    requires server { S.sound stack.inner.inner.inner.inner }
+    requires predicate { U.sound stack.inner.predicate }
+    ensures { IfOk result (λ transcript. KeepsRate S.Service C.Clock (Through (MappedOrNone (LetsThrough U.Predicate)) Once)
+        stack.inner.inner.inner (made events.items transcript.entries.items)) }
 {
-    let own = Counted {
-        inner: limit,
-        calls: 0,
-    };
-    let bounded = ConcurrencyLimit::with_semaphore(own, semaphore);
-    let stack = Timeout::new(Filter::new(bounded, predicate), 1_000_000_000, timer);
     let transcript = drive_within_rate(alloc, cx, stack, events, |_: ()| {})?;
     Ok(transcript)
 }
 
-// The same over a new limit: its calls keep to the rate over the whole transcript.
-fn drive_five<S, C, D, U, L, T>(
-    alloc: Global,
-    cx: &mut Context<'_>,
-    server: S,
-    rate: Rate,
-    clock: C,
-    semaphore: Semaphore<L>,
-    predicate: U,
-    timer: D,
-    events: Vec<Event<T, ()>>,
-) -> Result<Transcript<S::Response, Failure<S::Error, U::Error>, ()>, AllocError>
-where
-    T: Drop,
-    S: Service<u32>,
-    C: Monotonic,
-    D: Clock,
-    U: Predicate<T, Request = u32>,
-    L: Latch<LineCore>,
-    requires server { S.sound server }
-    requires predicate { U.sound predicate }
-    ensures { IfOk result (λ transcript. (limit : _) × New rate.num rate.per server clock limit
-        × KeepsRate S.Service C.Clock (Through (MappedOrNone (LetsThrough U.Predicate)) Once) limit (made events.items transcript.entries.items)) }
-{
-    let limit = RateLimit::new(alloc, server, rate, clock)?;
-    let transcript = drive_over(alloc, cx, limit, semaphore, predicate, timer, events)?;
-    Ok(transcript)
+/// Lets even requests through.
+#[derive(Drop)]
+struct Even;
+
+impl Predicate<u32> for Even {
+    type Request = u32;
+
+    type Error = Odd;
+
+    fn check(&mut self, request: u32) -> Result<u32, Odd> {
+        even(request)
+    }
 }
 
 // How many calls were made.
@@ -167,23 +146,20 @@ where
         Event::Poll,
         Event::Call(6),
     ]?;
-    let (clock, timer) = (SystemClock::new(rt)?, SystemClock::new(rt)?);
-    let semaphore = Semaphore::new(rt, alloc, 3)?;
-    let predicate = PredicateFn::new(|request: u32| even(request));
     let rate = Rate::new(2, 3_600_000_000_000);
+    let own = Counted {
+        inner: RateLimit::new(alloc, Server(1), rate, SystemClock::new(rt)?)?,
+        calls: 0,
+    };
+    let bounded = ConcurrencyLimit::with_semaphore(own, Semaphore::new(rt, alloc, 3)?);
+    let stack = Timeout::new(
+        Filter::new(bounded, Even),
+        1_000_000_000,
+        SystemClock::new(rt)?,
+    );
     let solo = Solo::new(&rt, Doorbell::spinning())?;
     let mut cx = solo.begin();
-    let transcript = drive_five(
-        alloc,
-        &mut cx,
-        Server(1),
-        rate,
-        clock,
-        semaphore,
-        predicate,
-        timer,
-        events,
-    );
+    let transcript = drive_five(alloc, &mut cx, stack, events);
     cx.cancel();
     println!(rt; "within_rate: {} of 3 calls", calls(&transcript?))
 }
