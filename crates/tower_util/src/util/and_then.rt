@@ -101,7 +101,7 @@ where
 
     ghost goes = { S.goes };
 
-    ghost projects = { composed_once _ _ _ (λ m. m.inner) S.inside S.goes (chain_projects _ (λ _. V.from_gives)) S.projects };
+    ghost projects = { composed_once _ _ _ (λ m. m.inner) S.inside S.goes (chain_projects S.Service (λ _. V.from_gives)) S.projects };
 }
 
 /// The response of an `AndThen`: the Rust's `tower::util::future::AndThenFuture`.

@@ -95,7 +95,7 @@ where
 
     ghost goes = { S.goes };
 
-    ghost projects = { composed_once _ _ _ (λ m. m.inner) S.inside S.goes (map_projects _ F.post) S.projects };
+    ghost projects = { composed_once _ _ _ (λ m. m.inner) S.inside S.goes (map_projects S.Service F.post) S.projects };
 }
 
 /// The response of a `MapErr`: the Rust's `tower::util::future::MapErrFuture`.

@@ -96,7 +96,7 @@ where
 
     ghost goes = { S.goes };
 
-    ghost projects = { composed_once _ _ _ (λ m. m.inner) S.inside S.goes (map_future_projects _ (λ _. V.from_gives) F.step) S.projects };
+    ghost projects = { composed_once _ _ _ (λ m. m.inner) S.inside S.goes (map_future_projects S.Service (λ _. V.from_gives) F.step) S.projects };
 }
 
 impl<S, F> MapFuture<S, F> {

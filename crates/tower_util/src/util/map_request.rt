@@ -80,7 +80,7 @@ where
 
     ghost goes = { Through (Mapped (ClosureMakes F.step)) S.goes };
 
-    ghost projects = { composed _ _ _ (λ m. m.inner) S.inside _ S.goes (map_request_projects _ F.step) S.projects };
+    ghost projects = { composed _ _ _ (λ m. m.inner) S.inside _ S.goes (map_request_projects S.Service F.step) S.projects };
 }
 
 /// Makes a `MapRequest` of a service: the Rust's `tower::util::MapRequestLayer`.

@@ -91,7 +91,7 @@ where
 
     ghost goes = { S.goes };
 
-    ghost projects = { composed_once _ _ _ (λ m. m.inner) S.inside S.goes (map_response_projects _) S.projects };
+    ghost projects = { composed_once _ _ _ (λ m. m.inner) S.inside S.goes (map_response_projects S.Service) S.projects };
 }
 
 /// The response of a `MapResponse`: the Rust's `tower::util::future::MapResponseFuture`.

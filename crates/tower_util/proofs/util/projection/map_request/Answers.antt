@@ -2,4 +2,4 @@ use Rattle.tower_util.specs.Projections.{map_request}
 use Rattle.tower_util.proofs.util.projection.map_request.Goals as goal
 
 pub returns : goal.returns
-returns g c = map_request g.S.Service (λ f x y h. g.F.FnMut.steps f (x, tt) y h)
+returns g c = map_request g.S.Service _
