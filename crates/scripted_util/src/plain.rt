@@ -6,7 +6,7 @@ use scripted::script::Script;
 use std::alloc::AllocError;
 use tests_support::service::Place;
 use tower_base::layer::Layer;
-use tower_make::make::Shared;
+use tower_util::make::Shared;
 use tower_util::util::{
     AndThen, AndThenLayer, Either, FutureService, MapErr, MapErrLayer, MapFuture, MapFutureLayer,
     MapRequest, MapRequestLayer, MapResponse, MapResponseLayer, MapResult, MapResultLayer, Then,

@@ -5,7 +5,7 @@ use scripted::report::Report;
 use scripted::script::{Places, Script};
 use std::alloc::AllocError;
 use tests_support::service::{Maker, Place};
-use tower_make::make::{MakeService, Shared};
+use tower_util::make::{MakeService, Shared};
 
 pub fn play(script: &Script<'_>, report: &mut Report<'_>) -> Result<(), AllocError> {
     let shared = Shared::new(script.service('a'));

@@ -8,7 +8,7 @@ use tests_support::run::task;
 use tests_support::script::Script;
 use tests_support::service::Scripted;
 use tower_base::service::Steps;
-use tower_make::make::MakeConnection;
+use tower_util::make::MakeConnection;
 
 // What a maker of connections makes at the first poll.
 fn connected<C: MakeConnection<u8>>(

@@ -9,7 +9,7 @@ use tests_support::run::{fire, stepped, task};
 use tests_support::script::{Mood, Reply, Script};
 use tests_support::service::{Maker, Place};
 use tower_base::service::{Service, Steps};
-use tower_make::make::MakeService;
+use tower_util::make::MakeService;
 
 // What a maker makes at the first poll.
 fn made<M: MakeService<Target, u8>, Target: Drop>(

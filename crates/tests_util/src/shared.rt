@@ -3,7 +3,7 @@
 use std::test::Fail;
 use tests_support::checks::Checks;
 use tests_support::run::{fire, task};
-use tower_make::make::Shared;
+use tower_util::make::Shared;
 
 #[test]
 fn copy_gives_clones_too(rt: HostRuntime) -> Result<(), Fail> {

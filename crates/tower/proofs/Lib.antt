@@ -1,3 +1,4 @@
 pub mod BalanceLemmas
 pub mod MakeLemmas
 pub mod SlotRuns
+pub mod WaitsLemmas

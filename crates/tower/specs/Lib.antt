@@ -5,3 +5,4 @@ pub mod Slot
 pub mod SlotLaws
 pub mod SpawnReady
 pub mod SpawnReadyReady
+pub mod Waits

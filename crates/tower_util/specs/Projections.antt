@@ -3,13 +3,15 @@ use Rattle.std.proofs.Common.{◌≡◌, ◌⊎◌, inl, inr, subst, sym, refl, 
 use Rattle.futures.specs.declared.task.Poll.{Poll}
 use Rattle.futures.specs.declared.task.Poll.TheVariants.{Ready, Pending}
 use Rattle.tower_base.specs.ServiceRun.{Relations, relations, Action, Takes, requests}
-use Rattle.tower_base.specs.Projection.{Once, Mapped, ByAction, RunInside, Projects}
-use Rattle.tower_base.specs.ProjectionLemmas.{forwards, one_poll, one_call}
+use Rattle.tower_base.specs.Projection.{Never, Once, Mapped, ByAction, RunInside, Projects}
+use Rattle.tower_base.specs.ProjectionLemmas.{forwards, no_action, one_poll, one_call}
 use Rattle.tower_base.specs.declared.service.Service.{Ghosts as ServiceOf}
 use Rattle.tower_util.specs.Chain as C
 use Rattle.tower_util.specs.FutureService as W
 use Rattle.tower_util.specs.Maps as M
 use Rattle.tower_util.specs.Optional as Op
+use Rattle.tower_util.specs.Shared as Sh
+use Rattle.tower_util.specs.declared.make.shared.Error.{Error as SharedError}
 use Rattle.tower_util.specs.declared.util.awaited.State.{State as Stage}
 use Rattle.tower_util.specs.declared.util.awaited.State.TheVariants.{Coming, There, Lost}
 use Rattle.tower_util.specs.declared.util.chain.Chain.{Chain}
@@ -133,6 +135,15 @@ module _ {S Q A E F : Type 0} (s : ServiceOf S Q A E F) where
     awaited (Coming coming) (Action.call request future) new takes = absurd takes.1
     awaited Lost (Action.poll answer) new takes = subst (λ v. RunsOnceThere Lost (Action.poll answer) v) (sym takes.1) tt
     awaited Lost (Action.call request future) new takes = absurd takes.1
+
+-- `Shared`
+module _ {S T Q A E F : Type 0} (is_clone : S → S → Type 0) (s : ServiceOf S Q A E F) where
+  abbrev shared_of : Relations S T SharedError (Option (Result S SharedError))
+  shared_of = record { ready = λ _. Unit {0}; polled = λ old answer new. (answer ≡ Ready (Ok tt)) × (new ≡ old); called = Sh.Called is_clone }
+
+  pub shared : Projects shared_of (relations s) (λ x. x) Never
+  shared old (Action.poll answer) new takes = no_action (relations s) old new takes.1 refl
+  shared old (Action.call request future) new takes = no_action (relations s) old new takes.1.1 refl
 
 -- what goes inside of the one side or of the other
 abbrev pub EitherGoes : {Q R : Type 0} → (Q → List R → Type 0) → (Q → List R → Type 0) → Q → List R → Type 0

@@ -4,8 +4,8 @@ ghost use Rattle.futures.specs.declared.task.Poll.TheVariants.{Ready};
 ghost use Rattle.tower_base.specs.Gives.{IsStep, MayGive};
 ghost use Rattle.tower_base.specs.Projection.{Never, Projects};
 ghost use Rattle.tower_base.specs.ServiceRun.{relations};
-ghost use Rattle.tower_make.specs.Shared.{Called, Stepped};
-ghost use Rattle.tower_make.specs.declared.make.shared.Error.{Error as SharedError};
+ghost use Rattle.tower_util.specs.Shared.{Called, Stepped};
+ghost use Rattle.tower_util.specs.declared.make.shared.Error.{Error as SharedError};
 
 use futures::future::Future;
 use futures::task::{Context, Poll};

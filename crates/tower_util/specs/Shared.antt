@@ -2,7 +2,7 @@
 use Rattle.std.specs.Prelude.{◌≡◌, Option, Some, None, Result, Ok, Err}
 use Rattle.futures.specs.declared.task.Poll.{Poll}
 use Rattle.futures.specs.declared.task.Poll.TheVariants.{Ready}
-use Rattle.tower_make.specs.declared.make.shared.Error.{Error}
+use Rattle.tower_util.specs.declared.make.shared.Error.{Error}
 
 -- a clone of the service, or `Memory`
 abbrev pub Holds : {S : Type 0} → (S → S → Type 0) → S → Option (Result S Error) → Type 0

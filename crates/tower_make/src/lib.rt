@@ -1,4 +1,0 @@
-//! Services that make services.
-#![tactic(auto)]
-
-pub mod make;
