@@ -5,8 +5,7 @@ use scripted::script::Script;
 use std::alloc::AllocError;
 use tests_support::future::After;
 use tests_support::service::Scripted;
-use tower_util::util::{ReadyOneshot, service_fn};
-use tower_ware::util::Oneshot;
+use tower_util::util::{Oneshot, ReadyOneshot, service_fn};
 
 pub fn play(script: &Script<'_>, report: &mut Report<'_>) -> Result<(), AllocError> {
     match script.number(0) {

@@ -12,10 +12,10 @@ use Rattle.tower_retry.specs.declared.hedge.delay.error.Error.TheVariants.{Inner
 use Rattle.tower_retry.specs.declared.hedge.delay.policy.Policy.{Ghosts as PolicyOf}
 use Rattle.tower_retry.specs.declared.hedge.delay.state.State.{State}
 use Rattle.tower_retry.specs.declared.hedge.delay.state.State.TheVariants.{Delaying, InFlight, NoClone}
-use Rattle.tower_ware.specs.Oneshot.{Stepped as OneshotStepped}
-use Rattle.tower_ware.specs.declared.util.oneshot.Oneshot.{Oneshot}
-use Rattle.tower_ware.specs.declared.util.oneshot.State.{State as OneshotState}
-use Rattle.tower_ware.specs.declared.util.oneshot.State.TheVariants.{NotReady}
+use Rattle.tower_util.specs.Oneshot.{Stepped as OneshotStepped}
+use Rattle.tower_util.specs.declared.util.oneshot.Oneshot.{Oneshot}
+use Rattle.tower_util.specs.declared.util.oneshot.State.{State as OneshotState}
+use Rattle.tower_util.specs.declared.util.oneshot.State.TheVariants.{NotReady}
 
 -- a `Delay`
 pub record DelayView (P S C : Type 0) : Type 0 where

@@ -1,14 +1,15 @@
 -- What goes inside of what each service here is asked.
-use Rattle.std.proofs.Common.{◌≡◌, ◌⊎◌, inl, inr, subst, sym, refl, List, [], Option, Some, None, IfSome, Result, Ok, Err}
+use Rattle.std.proofs.Common.{◌≡◌, ◌⊎◌, inl, inr, subst, sym, refl, List, [], Option, Some, None, IfSome, Result, Ok, Err, ◌∷◌}
 use Rattle.futures.specs.declared.task.Poll.{Poll}
 use Rattle.futures.specs.declared.task.Poll.TheVariants.{Ready, Pending}
 use Rattle.tower_base.specs.ServiceRun.{Relations, relations, Action, Takes, requests}
-use Rattle.tower_base.specs.Projection.{Never, Once, Mapped, ByAction, RunInside, Projects}
+use Rattle.tower_base.specs.Projection.{AtMostOnce, Never, Once, Mapped, ByAction, RunInside, Projects}
 use Rattle.tower_base.specs.ProjectionLemmas.{forwards, no_action, one_poll, one_call}
 use Rattle.tower_base.specs.declared.service.Service.{Ghosts as ServiceOf}
 use Rattle.tower_util.specs.Chain as C
 use Rattle.tower_util.specs.FutureService as W
 use Rattle.tower_util.specs.Maps as M
+use Rattle.tower_util.specs.Oneshot as On
 use Rattle.tower_util.specs.Optional as Op
 use Rattle.tower_util.specs.Shared as Sh
 use Rattle.tower_util.specs.declared.make.shared.Error.{Error as SharedError}
@@ -20,6 +21,8 @@ use Rattle.tower_util.specs.declared.util.either.Either.TheVariants.{Left, Right
 use Rattle.tower_util.specs.declared.util.either.EitherResponseFuture.{EitherResponseFuture}
 use Rattle.tower_util.specs.declared.util.either.EitherResponseFuture.TheVariants.{First, Second}
 use Rattle.tower_util.specs.declared.util.error.future_service.Error.{Error as AwaitedError}
+use Rattle.tower_util.specs.declared.util.oneshot.State.{State as OneshotState}
+use Rattle.tower_util.specs.declared.util.oneshot.State.TheVariants.{NotReady, InFlight, Done}
 use Rattle.tower_util.specs.declared.util.optional.error.Error.{Error as OptionalError}
 
 -- the closure may make this of the request, at some value of it
@@ -135,6 +138,42 @@ module _ {S Q A E F : Type 0} (s : ServiceOf S Q A E F) where
     awaited (Coming coming) (Action.call request future) new takes = absurd takes.1
     awaited Lost (Action.poll answer) new takes = subst (λ v. RunsOnceThere Lost (Action.poll answer) v) (sym takes.1) tt
     awaited Lost (Action.call request future) new takes = absurd takes.1
+
+  -- `Oneshot`: while it waits, its service is only polled. Then the service is called with the request, once, or has failed, and is dropped.
+  abbrev pub RunsInOneshot : OneshotState S Q F → OneshotState S Q F → Type 0
+  RunsInOneshot (NotReady old request) (NotReady new same) = RunInside (relations s) (λ x. x ≡ []) old new × (same ≡ request)
+  RunsInOneshot (NotReady old request) new = (left : S) × RunInside (relations s) (AtMostOnce request) old left
+  RunsInOneshot old (NotReady new request) = ⊥
+  RunsInOneshot old new = Unit {0}
+
+  module _ (stepped : F → Poll (Result A E) → F → Type 0) where
+    -- after the call
+    flown : (service left : S) (request : Q) (future : F) (answer : Poll (Result A E)) (new : OneshotState S Q F)
+        → RunInside (relations s) (AtMostOnce request) service left → On.ResponseStepped s stepped future answer new → RunsInOneshot (NotReady service request) new
+    flown service left request future (Ready x) new run h = subst (λ v. RunsInOneshot (NotReady service request) v) (sym h.2) (left, run)
+    flown service left request future Pending new run h = subst (λ v. RunsInOneshot (NotReady service request) v) (sym h.2) (left, run)
+
+    asked : (service left : S) (request : Q) (readiness : Poll (Result (Unit {0}) E)) (answer : Poll (Result A E)) (new : OneshotState S Q F)
+        → s.polled service readiness left → On.ReadinessPolled s stepped left request readiness answer new → RunsInOneshot (NotReady service request) new
+    asked service left request Pending answer new polled h =
+        subst (λ v. RunsInOneshot (NotReady service request) v) (sym h.1) (one_poll (relations s) service left Pending polled refl, refl)
+    asked service left request (Ready (Err e)) answer new polled h =
+        subst (λ v. RunsInOneshot (NotReady service request) v) (sym h.1) (left, one_poll (relations s) service left (Ready (Err e)) polled (inr refl))
+    asked service left request (Ready (Ok x)) answer new polled h =
+        flown service h.1.1 request h.1.0 answer new (record {
+          transitions = record { action = Action.poll (Ready (Ok x)); left = left } ∷ record { action = Action.call request h.1.0; left = h.1.1 } ∷ [];
+          run = (polled, ((h.0, h.1.2), refl));
+          has = inl refl;
+        }) h.1.3
+
+    in_flight : (future : F) (answer : Poll (Result A E)) (new : OneshotState S Q F) → On.ResponseStepped s stepped future answer new → RunsInOneshot (InFlight future) new
+    in_flight future (Ready x) new h = subst (λ v. RunsInOneshot (InFlight future) v) (sym h.2) tt
+    in_flight future Pending new h = subst (λ v. RunsInOneshot (InFlight future) v) (sym h.2) tt
+
+    pub oneshot : (old : OneshotState S Q F) (answer : Poll (Result A E)) (new : OneshotState S Q F) → On.Stepped s stepped old answer new → RunsInOneshot old new
+    oneshot (NotReady service request) answer new step = asked service step.1 request step.0 answer new step.2 step.3
+    oneshot (InFlight future) answer new step = in_flight future answer new step
+    oneshot Done answer new step = absurd step
 
 -- `Shared`
 module _ {S T Q A E F : Type 0} (is_clone : S → S → Type 0) (s : ServiceOf S Q A E F) where

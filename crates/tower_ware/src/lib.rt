@@ -1,4 +1,4 @@
-//! Middleware that shares nothing, one call of a service, and streams of calls.
+//! Middleware that shares nothing, and streams of calls.
 #![tactic(auto)]
 
 pub mod filter;

@@ -1,7 +1,5 @@
-//! One call of a service, and streams of calls: a part of the Rust's `tower::util`.
+//! Streams of calls: a part of the Rust's `tower::util`.
 
 pub mod call_all;
-mod oneshot;
 
 pub use call_all::{CallAll, CallAllUnordered};
-pub use oneshot::Oneshot;

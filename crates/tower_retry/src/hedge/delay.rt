@@ -15,7 +15,7 @@ pub use policy::Policy;
 use state::State;
 use std::marker::Model;
 use tower_base::service::{Clock, Service, Sleep};
-use tower_ware::util::Oneshot;
+use tower_util::util::Oneshot;
 
 /// Makes each call later, by a clone of its service: the Rust's `tower::hedge::delay::Delay`.
 ///

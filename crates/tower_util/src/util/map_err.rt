@@ -4,8 +4,6 @@ ghost use Rattle.tower_base.specs.Gives.{IsStep, MayGive};
 ghost use Rattle.tower_util.specs.Fuse.{CanPoll, needs_of};
 ghost use Rattle.tower_util.specs.Maps.{MapView, MapLayerView, Polled, Called, MapErrStepped};
 ghost use Rattle.tower_util.specs.MapsReady.{polled_ready};
-ghost use Rattle.tower_base.specs.ProjectionLemmas.{composed_once};
-ghost use Rattle.tower_util.specs.Projections.{map as map_projects};
 
 use crate::util::fuse::Fuse;
 use futures::future::Future;
@@ -14,7 +12,6 @@ use futures::task::{Context, Poll};
 use std::alloc::AllocError;
 use std::marker::Model;
 use tower_base::layer::Layer;
-use tower_base::run::Contains;
 use tower_base::service::{Service, Steps};
 
 /// Changes each error by a closure, that of readiness too: the Rust's `tower::util::MapErr`.
@@ -81,21 +78,6 @@ where
             f: self.f,
         }
     }
-}
-
-/// What its inner service contains.
-impl<S, F, Q, V, Passed, L> Contains<Q, Passed, L> for MapErr<S, F>
-where
-    L: Service<Passed>,
-    S: Contains<Q, Passed, L>,
-    F: Fn(S::Error) -> V + Copy,
-    V: Drop,
-{
-    ghost inside = { λ m. S.inside m.inner };
-
-    ghost goes = { S.goes };
-
-    ghost projects = { composed_once _ _ _ (λ m. m.inner) S.inside S.goes (map_projects S.Service F.post) S.projects };
 }
 
 /// The response of a `MapErr`: the Rust's `tower::util::future::MapErrFuture`.

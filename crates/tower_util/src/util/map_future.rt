@@ -2,15 +2,12 @@
 ghost use Rattle.std.specs.Prelude.{◌≡◌};
 ghost use Rattle.tower_util.specs.Maps.{MapView, MapLayerView, Polled};
 ghost use Rattle.tower_util.specs.MapsReady.{polled_ready};
-ghost use Rattle.tower_base.specs.ProjectionLemmas.{composed_once};
-ghost use Rattle.tower_util.specs.Projections.{map_future as map_future_projects};
 
 use futures::ready;
 use futures::task::{Context, Poll};
 use std::alloc::AllocError;
 use std::marker::Model;
 use tower_base::layer::Layer;
-use tower_base::run::Contains;
 use tower_base::service::{Service, Steps};
 
 /// Changes each future by a closure. An error of readiness is only converted: the Rust's `tower::util::MapFuture`.
@@ -80,23 +77,6 @@ where
         let future = self.inner.call(request);
         (self.f)(future)
     }
-}
-
-/// What its inner service contains.
-impl<Q, S, F, X, V, G, Passed, L> Contains<Q, Passed, L> for MapFuture<S, F>
-where
-    L: Service<Passed>,
-    S: Contains<Q, Passed, L>,
-    F: FnMut(S::Future) -> G + Drop,
-    V: From<S::Error> + Drop,
-    G: Steps<Output = Result<X, V>>,
-    X: Drop,
-{
-    ghost inside = { λ m. S.inside m.inner };
-
-    ghost goes = { S.goes };
-
-    ghost projects = { composed_once _ _ _ (λ m. m.inner) S.inside S.goes (map_future_projects S.Service (λ _. V.from_gives) F.step) S.projects };
 }
 
 impl<S, F> MapFuture<S, F> {

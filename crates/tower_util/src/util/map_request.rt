@@ -1,15 +1,11 @@
 //! A closure over the requests.
 ghost use Rattle.std.specs.Prelude.{◌≡◌};
 ghost use Rattle.tower_util.specs.Maps.{MapView, MapLayerView};
-ghost use Rattle.tower_base.specs.Projection.{Mapped, Through};
-ghost use Rattle.tower_base.specs.ProjectionLemmas.{composed};
-ghost use Rattle.tower_util.specs.Projections.{ClosureMakes, map_request as map_request_projects};
 
 use futures::task::{Context, Poll};
 use std::alloc::AllocError;
 use std::marker::Model;
 use tower_base::layer::Layer;
-use tower_base::run::Contains;
 use tower_base::service::Service;
 
 /// Changes each request by a closure: the Rust's `tower::util::MapRequest`.
@@ -67,20 +63,6 @@ impl<S: Service<R2>, F: FnMut(R1) -> R2 + Drop, R1, R2> Service<R1> for MapReque
         let request = (self.f)(request);
         self.inner.call(request)
     }
-}
-
-/// What its inner service contains.
-impl<S, F, Q, P, Passed, L> Contains<Q, Passed, L> for MapRequest<S, F>
-where
-    L: Service<Passed>,
-    S: Contains<P, Passed, L>,
-    F: FnMut(Q) -> P + Drop,
-{
-    ghost inside = { λ m. S.inside m.inner };
-
-    ghost goes = { Through (Mapped (ClosureMakes F.step)) S.goes };
-
-    ghost projects = { composed _ _ _ (λ m. m.inner) S.inside _ S.goes (map_request_projects S.Service F.step) S.projects };
 }
 
 /// Makes a `MapRequest` of a service: the Rust's `tower::util::MapRequestLayer`.

@@ -3,8 +3,6 @@ ghost use Rattle.std.specs.Prelude.{◌≡◌, Option};
 ghost use Rattle.tower_base.specs.Gives.{IsStep, MayGive};
 ghost use Rattle.tower_util.specs.Fuse.{CanPoll, needs_of};
 ghost use Rattle.tower_util.specs.Maps.{MapView, MapLayerView, Called, MapResponseStepped};
-ghost use Rattle.tower_base.specs.ProjectionLemmas.{composed_once};
-ghost use Rattle.tower_util.specs.Projections.{map_response as map_response_projects};
 
 use crate::util::fuse::Fuse;
 use futures::future::Future;
@@ -13,7 +11,6 @@ use futures::task::{Context, Poll};
 use std::alloc::AllocError;
 use std::marker::Model;
 use tower_base::layer::Layer;
-use tower_base::run::Contains;
 use tower_base::service::{Service, Steps};
 
 /// Changes each response by a closure: the Rust's `tower::util::MapResponse`.
@@ -77,21 +74,6 @@ where
             f: self.f,
         }
     }
-}
-
-/// What its inner service contains.
-impl<S, F, Q, X, Passed, L> Contains<Q, Passed, L> for MapResponse<S, F>
-where
-    L: Service<Passed>,
-    S: Contains<Q, Passed, L>,
-    F: Fn(S::Response) -> X + Copy,
-    X: Drop,
-{
-    ghost inside = { λ m. S.inside m.inner };
-
-    ghost goes = { S.goes };
-
-    ghost projects = { composed_once _ _ _ (λ m. m.inner) S.inside S.goes (map_response_projects S.Service) S.projects };
 }
 
 /// The response of a `MapResponse`: the Rust's `tower::util::future::MapResponseFuture`.

@@ -4,8 +4,6 @@ ghost use Rattle.tower_base.specs.Gives.{IsStep, MayGive};
 ghost use Rattle.tower_util.specs.Fuse.{CanPoll, needs_of};
 ghost use Rattle.tower_util.specs.Maps.{MapView, MapLayerView, Polled, Called, MapResultStepped};
 ghost use Rattle.tower_util.specs.MapsReady.{polled_ready};
-ghost use Rattle.tower_base.specs.ProjectionLemmas.{composed_once};
-ghost use Rattle.tower_util.specs.Projections.{map as map_projects};
 
 use crate::util::fuse::Fuse;
 use futures::future::Future;
@@ -14,7 +12,6 @@ use futures::task::{Context, Poll};
 use std::alloc::AllocError;
 use std::marker::Model;
 use tower_base::layer::Layer;
-use tower_base::run::Contains;
 use tower_base::service::{Service, Steps};
 
 /// Changes each result by a closure. An error of readiness is only converted: the Rust's `tower::util::MapResult`.
@@ -82,22 +79,6 @@ where
             f: self.f,
         }
     }
-}
-
-/// What its inner service contains.
-impl<S, F, Q, X, V, Passed, L> Contains<Q, Passed, L> for MapResult<S, F>
-where
-    L: Service<Passed>,
-    S: Contains<Q, Passed, L>,
-    F: Fn(Result<S::Response, S::Error>) -> Result<X, V> + Copy,
-    X: Drop,
-    V: From<S::Error> + Drop,
-{
-    ghost inside = { λ m. S.inside m.inner };
-
-    ghost goes = { S.goes };
-
-    ghost projects = { composed_once _ _ _ (λ m. m.inner) S.inside S.goes (map_projects S.Service (λ _. V.from_gives)) S.projects };
 }
 
 /// The response of a `MapResult`: the Rust's `tower::util::future::MapResultFuture`.

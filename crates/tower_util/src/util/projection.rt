@@ -1,10 +1,10 @@
 //! What goes inside of what each service here is asked: laws. The Rust has no such module.
 ghost use Rattle.tower_base.specs.ServiceRun.{Takes, relations};
 ghost use Rattle.tower_base.specs.Projection.{Mapped, Once, Projects};
-ghost use Rattle.tower_util.specs.Projections.{ClosureMakes, RunsOfOptional, RunsOfSide, RunsOnceThere};
+ghost use Rattle.tower_util.specs.Projections.{ClosureMakes, RunsInOneshot, RunsOfOptional, RunsOfSide, RunsOnceThere};
 
 use crate::util::{
-    AndThen, Either, FutureService, MapErr, MapFuture, MapRequest, MapResponse, MapResult,
+    AndThen, Either, FutureService, MapErr, MapFuture, MapRequest, MapResponse, MapResult, Oneshot,
     Optional, Sealed, Then,
 };
 use tower_base::service::{Service, Steps};
@@ -90,6 +90,11 @@ where
     F: Steps<Output = Result<S, S::Error>>,
     S: Service<R>,
     ensures { (old : _) (action : _) (new : _) → Takes (relations ⟦<FutureService<F, S> as Service<R>>⟧) old action new → RunsOnceThere S.Service F.stepped old action new }
+{}
+
+/// Each poll of the future polls its service, until that is called with the request, once, or fails.
+pub fn oneshot<S: Service<Request>, Request: Drop>()
+    ensures { (old : _) (answer : _) (new : _) → ⟦<Oneshot<S, Request> as Steps>⟧.stepped old answer new → RunsInOneshot S.Service old.state new.state }
 {}
 
 /// Each call goes inside, once.

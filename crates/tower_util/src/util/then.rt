@@ -6,8 +6,6 @@ ghost use Rattle.tower_util.specs.Maps.{MapView, MapLayerView, Polled};
 ghost use Rattle.tower_util.specs.MapsReady.{polled_ready};
 ghost use Rattle.tower_util.specs.declared.util.chain.Chain.{Chain as Stages};
 ghost use Rattle.tower_util.specs.declared.util.chain.Chain.TheVariants.{First, Second, Done};
-ghost use Rattle.tower_base.specs.ProjectionLemmas.{composed_once};
-ghost use Rattle.tower_util.specs.Projections.{chain as chain_projects};
 
 use crate::util::chain::Chain;
 use futures::future::Future;
@@ -16,7 +14,6 @@ use futures::task::{Context, Poll};
 use std::alloc::AllocError;
 use std::marker::Model;
 use tower_base::layer::Layer;
-use tower_base::run::Contains;
 use tower_base::service::{Service, Steps};
 
 /// Goes on from each result with a future that a closure makes of it. An error of readiness is only converted: the Rust's `tower::util::Then`.
@@ -85,23 +82,6 @@ where
             state: Chain::First(self.inner.call(request), self.f),
         }
     }
-}
-
-/// What its inner service contains.
-impl<S, F, Q, G, X, V, Passed, L> Contains<Q, Passed, L> for Then<S, F>
-where
-    L: Service<Passed>,
-    S: Contains<Q, Passed, L>,
-    F: Fn(Result<S::Response, S::Error>) -> G + Copy,
-    G: Steps<Output = Result<X, V>>,
-    X: Drop,
-    V: From<S::Error> + Drop,
-{
-    ghost inside = { λ m. S.inside m.inner };
-
-    ghost goes = { S.goes };
-
-    ghost projects = { composed_once _ _ _ (λ m. m.inner) S.inside S.goes (chain_projects S.Service (λ _. V.from_gives)) S.projects };
 }
 
 /// The response of a `Then`: the Rust's `tower::util::future::ThenFuture`.

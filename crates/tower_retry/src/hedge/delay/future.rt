@@ -16,7 +16,7 @@ use futures::task::{Context, Poll};
 use std::marker::Model;
 use std::mem;
 use tower_base::service::{Clock, Service, Sleep, Steps};
-use tower_ware::util::Oneshot;
+use tower_util::util::Oneshot;
 
 /// A response that is asked for after a delay: the Rust's `tower::hedge::delay::ResponseFuture`.
 ///

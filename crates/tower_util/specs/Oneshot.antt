@@ -3,8 +3,8 @@ use Rattle.std.specs.Prelude.{◌≡◌, Result, Ok, Err}
 use Rattle.futures.specs.declared.task.Poll.{Poll}
 use Rattle.futures.specs.declared.task.Poll.TheVariants.{Ready, Pending}
 use Rattle.tower_base.specs.declared.service.Service.{Ghosts as ServiceOf}
-use Rattle.tower_ware.specs.declared.util.oneshot.State.{State}
-use Rattle.tower_ware.specs.declared.util.oneshot.State.TheVariants.{NotReady, InFlight, Done}
+use Rattle.tower_util.specs.declared.util.oneshot.State.{State}
+use Rattle.tower_util.specs.declared.util.oneshot.State.TheVariants.{NotReady, InFlight, Done}
 
 module _ {S Q A E F : Type 0} (s : ServiceOf S Q A E F) (stepped : F → Poll (Result A E) → F → Type 0) where
   -- a poll of the response

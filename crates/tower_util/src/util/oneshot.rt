@@ -1,8 +1,8 @@
 //! One call of a service, from its readiness to its response.
 ghost use Rattle.std.specs.Prelude.{◌≡◌};
 ghost use Rattle.tower_base.specs.Gives.{IsStep, MayGive};
-ghost use Rattle.tower_ware.specs.Oneshot.{Stepped};
-ghost use Rattle.tower_ware.specs.declared.util.oneshot.State.TheVariants.{NotReady, InFlight, Done};
+ghost use Rattle.tower_util.specs.Oneshot.{Stepped};
+ghost use Rattle.tower_util.specs.declared.util.oneshot.State.TheVariants.{NotReady, InFlight, Done};
 
 use futures::future::Future;
 use futures::task::{Context, Poll};
