@@ -1,6 +1,7 @@
 pub mod Balance
 pub mod BalanceReady
 pub mod MakeBalance
+pub mod Projections
 pub mod Slot
 pub mod SlotLaws
 pub mod SpawnReady

@@ -188,7 +188,7 @@ module _ {S T Q A E F : Type 0} (is_clone : S → S → Type 0) (s : ServiceOf S
 abbrev pub EitherGoes : {Q R : Type 0} → (Q → List R → Type 0) → (Q → List R → Type 0) → Q → List R → Type 0
 EitherGoes left right request inside = left request inside ⊎ right request inside
 
-module _ {A B Q O E F G : Type 0} (a : ServiceOf A Q O E F) (b : ServiceOf B Q O E G) where
+module _ {A B Q E F G : Type 0} (a : Relations A Q E F) (b : Relations B Q E G) where
   abbrev either_of : Relations (Either A B) Q E (EitherResponseFuture F G)
   either_of = record {
     ready = elim [ Left x ↦ a.ready x | Right y ↦ b.ready y ];
@@ -204,20 +204,20 @@ module _ {A B Q O E F G : Type 0} (a : ServiceOf A Q O E F) (b : ServiceOf B Q O
 
   -- The side that is there stays so, and gets just this action.
   abbrev pub RunsOfSide : Either A B → Action Q E (EitherResponseFuture F G) → Either A B → Type 0
-  RunsOfSide (Left old) action (Left new) = RunInside (relations a) (ByAction Once action) old new
-  RunsOfSide (Right old) action (Right new) = RunInside (relations b) (ByAction Once action) old new
+  RunsOfSide (Left old) action (Left new) = RunInside a (ByAction Once action) old new
+  RunsOfSide (Right old) action (Right new) = RunInside b (ByAction Once action) old new
   RunsOfSide (Left old) action (Right new) = ⊥
   RunsOfSide (Right old) action (Left new) = ⊥
 
   pub sides : (old : Either A B) (action : Action Q E (EitherResponseFuture F G)) (new : Either A B) → Takes either_of old action new → RunsOfSide old action new
   sides (Left old) (Action.poll answer) new takes =
-      subst (λ v. RunsOfSide (Left old) (Action.poll answer) v) (sym takes.2) (one_poll (relations a) old takes.0 answer takes.1 refl)
+      subst (λ v. RunsOfSide (Left old) (Action.poll answer) v) (sym takes.2) (one_poll a old takes.0 answer takes.1 refl)
   sides (Right old) (Action.poll answer) new takes =
-      subst (λ v. RunsOfSide (Right old) (Action.poll answer) v) (sym takes.2) (one_poll (relations b) old takes.0 answer takes.1 refl)
+      subst (λ v. RunsOfSide (Right old) (Action.poll answer) v) (sym takes.2) (one_poll b old takes.0 answer takes.1 refl)
   sides (Left old) (Action.call request future) new takes =
-      let c = takes.1 in subst (λ v. RunsOfSide (Left old) (Action.call request future) v) (sym c.5) (one_call (relations a) old c.0 request c.1 c.2 c.3 refl)
+      let c = takes.1 in subst (λ v. RunsOfSide (Left old) (Action.call request future) v) (sym c.5) (one_call a old c.0 request c.1 c.2 c.3 refl)
   sides (Right old) (Action.call request future) new takes =
-      let c = takes.1 in subst (λ v. RunsOfSide (Right old) (Action.call request future) v) (sym c.5) (one_call (relations b) old c.0 request c.1 c.2 c.3 refl)
+      let c = takes.1 in subst (λ v. RunsOfSide (Right old) (Action.call request future) v) (sym c.5) (one_call b old c.0 request c.1 c.2 c.3 refl)
 
   -- what both sides contain
   module _ {X R D H : Type 0} (inner : Relations X R D H) (left : A → X) (right : B → X) (goes_left goes_right : Q → List R → Type 0) where
@@ -227,7 +227,7 @@ module _ {A B Q O E F G : Type 0} (a : ServiceOf A Q O E F) (b : ServiceOf B Q O
     widened : {Has More : List R → Type 0} (old new : X) → ((requests : List R) → Has requests → More requests) → RunInside inner Has old new → RunInside inner More old new
     widened old new more here = record { transitions = here.transitions; run = here.run; has = more (requests here.transitions) here.has }
 
-    pub either : Projects (relations a) inner left goes_left → Projects (relations b) inner right goes_right → Projects either_of inner inside (EitherGoes goes_left goes_right)
+    pub either : Projects a inner left goes_left → Projects b inner right goes_right → Projects either_of inner inside (EitherGoes goes_left goes_right)
     either first second (Left old) (Action.poll answer) new takes =
         subst (λ v. RunInside inner (λ x. x ≡ []) (left old) (inside v)) (sym takes.2) (first old (Action.poll answer) takes.0 takes.1)
     either first second (Right old) (Action.poll answer) new takes =

@@ -79,7 +79,7 @@ where
 
     ghost goes = { EitherGoes A.goes B.goes };
 
-    ghost projects = { either_projects A.Service B.Service _ A.inside B.inside A.goes B.goes A.projects B.projects };
+    ghost projects = { either_projects _ _ _ A.inside B.inside A.goes B.goes A.projects B.projects };
 }
 
 impl<S, A: Layer<S>, B: Layer<S>> Layer<S> for Either<A, B> {

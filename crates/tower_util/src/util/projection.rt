@@ -76,7 +76,7 @@ pub fn either<R, A, B>()
 where
     A: Service<R>,
     B: Service<R, Response = A::Response, Error = A::Error>,
-    ensures { (old : _) (action : _) (new : _) → Takes (relations ⟦<Either<A, B> as Service<R>>⟧) old action new → RunsOfSide A.Service B.Service old action new }
+    ensures { (old : _) (action : _) (new : _) → Takes (relations ⟦<Either<A, B> as Service<R>>⟧) old action new → RunsOfSide (relations A.Service) (relations B.Service) old action new }
 {}
 
 /// If there is a service, it gets each poll and each call. There is one later if and only if there is one now.
