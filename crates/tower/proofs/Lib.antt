@@ -4,3 +4,4 @@ pub mod MakeLemmas
 pub mod SlotRuns
 pub mod SpawnReadyRuns
 pub mod WaitsLemmas
+pub mod WorkerRuns

@@ -1,5 +1,6 @@
--- What goes inside of what a `Select`, a `Delay`, a `Hedge`, a `SpawnReady` and a `Balance` are asked.
+-- What goes inside of what hedges, a `SpawnReady` and a `Balance` are asked, and of what a buffer's worker does.
 use Rattle.std.proofs.Common.{◌≡◌, ◌⊎◌, ⊤, ℕ, true, inl, inr, refl, ap, subst, sym, Option, Some, None, Result, Ok, Err, List, []}
+use Rattle.std.specs.List.{AllByRecursion}
 use Rattle.std.specs.declared.clone.Clone.{Ghosts as CloneOf}
 use Rattle.std.specs.declared.convert.Infallible.{Infallible}
 use Rattle.futures.specs.declared.task.Poll.{Poll}
@@ -28,6 +29,11 @@ use Rattle.tower_util.specs.declared.util.oneshot.Oneshot.{Oneshot}
 use Rattle.tower_util.specs.declared.util.oneshot.State.TheVariants.{NotReady}
 use Rattle.tower_ware.specs.declared.filter.error.Error.{Error as FilterError}
 use Rattle.tower_limit.specs.Discover.{Found}
+use Rattle.tower_pool.specs.Worker.{WorkerView}
+use Rattle.tower_pool.specs.declared.buffer.mail.MailStep.{MailStep}
+use Rattle.tower_pool.specs.declared.buffer.mail.MailStep.TheVariants.{Take}
+use Rattle.tower_pool.specs.declared.buffer.mail.MailReply.{MailReply}
+use Rattle.tower_pool.specs.declared.buffer.mail.MailReply.TheVariants.{Message}
 use Rattle.tower.specs.Balance.{BalanceView, Sound as BalanceSound}
 use Rattle.tower.specs.SpawnReady as Sp
 use Rattle.tower.specs.declared.spawn_ready.error.Error.{Error as SpawnError}
@@ -134,3 +140,12 @@ module _ {S Q A E F : Type 0} (s : ServiceOf S Q A E F) where
 -- P holds of each endpoint of a balancer that isn't cancelled, and of whatever its discovery may insert
 abbrev pub EachEndpoint : {D R K S X : Type 0} → (D → Found K S X → D → Type 0) → (S → Type 0) → BalanceView D R K S → Type 0
 EachEndpoint discovered P v = BalanceSound (λ d. Unit {0}) discovered P v
+
+module _ {L S Q A E F : Type 0} (gave : L → MailStep Q F E → MailReply Q F E → Type 0) (s : ServiceOf S Q A E F) where
+  -- the request is of the message that the worker keeps, or of one that the mail gave it
+  abbrev pub IsMessage : WorkerView L S Q → Q → Type 0
+  IsMessage worker request = ((id : ℕ) × (worker.message ≡ Some (id, request))) ⊎ ((id : ℕ) × gave worker.latch Take (Message id request))
+
+  -- a poll of a buffer's worker is a run of its service, with the requests of messages alone
+  abbrev pub RunsInWorker : WorkerView L S Q → WorkerView L S Q → Type 0
+  RunsInWorker old new = RunInside (relations s) (AllByRecursion (IsMessage old)) old.service new.service

@@ -4,6 +4,7 @@
 pub mod balance;
 pub mod builder;
 pub mod layer;
+pub mod projection;
 pub mod spawn_ready;
 pub mod util;
 
