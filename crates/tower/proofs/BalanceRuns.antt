@@ -1,10 +1,10 @@
 -- What a `Balance` is asked leads to each of its endpoints by a run, from one that was there or came since.
-use Rattle.std.proofs.Common.{All, ℕ, zero, suc, ◌-◌, ◌≡◌, arith, Bool, true, false, List, [], ◌∷◌, ◌++◌, ◌⊎◌, inl, inr, ⊎_elim, Option, Some, None, IfSome, Result, Ok, Err, length, slice_get, slice_index_or, slice_set, position, if◌then◌else◌, refl, sym, subst}
+use Rattle.std.proofs.Common.{All, Contains, ℕ, zero, suc, ◌-◌, ◌≡◌, arith, Bool, true, false, List, [], ◌∷◌, ◌++◌, ◌⊎◌, inl, inr, ⊎_elim, Option, Some, None, IfSome, Result, Ok, Err, length, slice_get, slice_index_or, slice_set, position, if◌then◌else◌, refl, sym, subst}
 use Rattle.std.specs.List.{swap_remove}
 use Rattle.std.specs.Map.{keys_of}
 use Rattle.std.specs.Option.{MatchOption, option_map_or}
 use Rattle.std.specs.declared.cmp.Ordering.{Ordering}
-use Rattle.std.proofs.lemmas.List.Elements.{All-append, All-cons, All-get_or, All-head, All-nil, All-set, All-tail, All-take, All-weaker}
+use Rattle.std.proofs.lemmas.List.Elements.{All-append, All-cons, All-contains_itself, All-get_or, All-head, All-nil, All-set, All-tail, All-take, All-weaker}
 use Rattle.std.proofs.lemmas.Option.{get_or_from_slice_get, slice_get_within}
 use Rattle.futures.specs.declared.task.Poll.{Poll}
 use Rattle.futures.specs.declared.task.Poll.TheVariants.{Ready, Pending}
@@ -26,7 +26,7 @@ use Rattle.tower_pool.specs.declared.ready_cache.error.Error.TheVariants.{Failed
 use Rattle.tower_ware.proofs.RunsLemmas.{after}
 use Rattle.tower.proofs.BalanceLemmas.{inserts_less, inserted_now}
 use Rattle.tower.specs.Balance.{AfterChanges, AfterCheck, AfterFound, AfterPromotion, BalanceView, Called, Changed, ChangedAt, Chooses, Chosen, CountedPass, Inserted, IsReady, Pass, PassAt, Polled, PromotesAfter, Reads, ReadsAll, pushed}
-use Rattle.tower.specs.Projections.{EachEndpoint, LedTo}
+use Rattle.tower.specs.Projections.{EachEndpoint, LedTo, MayBeEndpoint}
 use Rattle.tower.specs.declared.balance.error.Error.{Error}
 
 module _ {K S : Type 0} (P : S → Type 0) where
@@ -247,7 +247,7 @@ module _ {D K S Q A E G R X : Type 0} (eq : K → K → Bool) (s : ServiceOf S Q
         discover = tt;
         services = record {
           ready = All-weaker (λ e. P e.1) (λ e. Led Has e.1) (λ e p. still e.1 p) v.services.ready c.services.ready;
-          pending = All-weaker (Askable P) (Askable (Led Has)) (λ q p open. still q.service (p open)) v.services.pending c.services.pending;
+          pending = All-weaker (Askable P) (Askable (Led Has)) (λ q p asks. still q.service (p asks)) v.services.pending c.services.pending;
         };
         change = kept v.change c.change;
         inserts = λ key service may. still service (c.inserts key service may);
@@ -283,6 +283,29 @@ module _ {D K S Q A E G R X : Type 0} (eq : K → K → Bool) (s : ServiceOf S Q
       by (Some i) h = subst (λ v. EachEndpoint discovered (Led (AtMostOnce request)) v) (sym h.3)
           (record { discover = tt; services = cached i h.0 new.services h.1; change = led.change; inserts = led.inserts })
 
+  module _ {M : Type 0} (loaded : S → M → Type 0) (cmp : M → M → Option Ordering) (drew : R → ℕ → R → Type 0) where
+    polled : (old : BalanceView D R K S) (answer : Poll (Result (Unit {0}) (Error E X))) (new : BalanceView D R K S) → Polled eq s loaded cmp drew discovered old answer new
+        → EachEndpoint discovered P old → EachEndpoint discovered (Led (λ x. x ≡ [])) new
+    polled old answer new h c = polls eq s (Led (λ x. x ≡ [])) closes discovered loaded cmp drew old answer new h (weaker (λ x. x ≡ []) refl old c)
+
+module _ {D K S Q A E G R X : Type 0} (eq : K → K → Bool) (s : ServiceOf S Q A E G) (discovered : D → Found K S X → D → Type 0) where
+  -- each endpoint is one
+  each : (v : BalanceView D R K S) → EachEndpoint discovered (MayBeEndpoint discovered v) v
+  each v = record {
+      discover = tt;
+      services = record {
+        ready = All-weaker (Contains v.services.ready) (λ e. MayBeEndpoint discovered v e.1) (λ e h. inl (e.0, h)) v.services.ready (All-contains_itself v.services.ready);
+        pending = All-weaker (Contains v.services.pending) (Askable (MayBeEndpoint discovered v)) (λ q h asks. inr (inl (q, h, refl))) v.services.pending
+            (All-contains_itself v.services.pending);
+      };
+      change = kept v.change refl;
+      inserts = λ key service may. inr (inr (inr (key, may)));
+    }
+    where
+      kept : (change : Option (K × S)) → v.change ≡ change → IfSome change (λ e. MayBeEndpoint discovered v e.1)
+      kept None e = tt
+      kept (Some change) e = inr (inr (inl (change.0, e)))
+
   module _ {B M : Type 0} (view : B → BalanceView D R K S) (loaded : S → M → Type 0) (cmp : M → M → Option Ordering) (drew : R → ℕ → R → Type 0) where
     abbrev balance_of : Relations B Q (Error E X) (Option G)
     balance_of = record {
@@ -291,8 +314,9 @@ module _ {D K S Q A E G R X : Type 0} (eq : K → K → Bool) (s : ServiceOf S Q
       called = λ old request future new. Called eq s (view old) request future (view new);
     }
 
-    pub balance : (old : B) (action : Action Q (Error E X) (Option G)) (new : B) → Takes balance_of old action new → EachEndpoint discovered P (view old)
-        → EachEndpoint discovered (Led (ByAction AtMostOnce action)) (view new)
-    balance old (Action.poll answer) new takes c =
-        polls eq s (Led (λ x. x ≡ [])) closes discovered loaded cmp drew (view old) answer (view new) takes (weaker (λ x. x ≡ []) refl (view old) c)
-    balance old (Action.call request future) new takes c = called (view old) request future (view new) takes.1 c
+    pub balance : (old : B) (action : Action Q (Error E X) (Option G)) (new : B) → Takes balance_of old action new
+        → EachEndpoint discovered (LedTo s (MayBeEndpoint discovered (view old)) (ByAction AtMostOnce action)) (view new)
+    balance old (Action.poll answer) new takes =
+        polled eq s discovered (MayBeEndpoint discovered (view old)) loaded cmp drew (view old) answer (view new) takes (each (view old))
+    balance old (Action.call request future) new takes =
+        called eq s discovered (MayBeEndpoint discovered (view old)) (view old) request future (view new) takes.1 (each (view old))

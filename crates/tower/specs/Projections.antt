@@ -1,5 +1,6 @@
 -- What goes inside of what hedges, a `SpawnReady` and a `Balance` are asked, and of what a buffer's worker does.
-use Rattle.std.proofs.Common.{◌≡◌, ◌⊎◌, ⊤, ℕ, true, inl, inr, refl, ap, subst, sym, Option, Some, None, Result, Ok, Err, List, []}
+use Rattle.std.proofs.Common.{◌≡◌, ◌⊎◌, ℕ, true, Contains, inl, inr, refl, ap, subst, sym, Option, Some, None, Result, Ok, Err, List, []}
+use Rattle.std.specs.Bool.{⊤}
 use Rattle.std.specs.List.{AllByRecursion}
 use Rattle.std.specs.declared.clone.Clone.{Ghosts as CloneOf}
 use Rattle.std.specs.declared.convert.Infallible.{Infallible}
@@ -7,15 +8,13 @@ use Rattle.futures.specs.declared.task.Poll.{Poll}
 use Rattle.futures.specs.declared.task.Poll.TheVariants.{Ready, Pending}
 use Rattle.tower_base.specs.ServiceRun.{Relations, relations, Action, Takes}
 use Rattle.tower_base.specs.Projection.{Once, MappedOrNone, Never, Projects, RunInside}
-use Rattle.tower_base.specs.ProjectionLemmas.{composed_once, forwards, no_action, one_poll, one_call}
+use Rattle.tower_base.specs.ProjectionLemmas.{forwards, no_action, one_poll, one_call}
 use Rattle.tower_base.specs.Sleep.{SleepView}
 use Rattle.tower_base.specs.declared.latch.Latch.{Ghosts as LatchOf}
 use Rattle.tower_base.specs.declared.service.Clock.{Ghosts as ClockOf}
 use Rattle.tower_base.specs.declared.service.Service.{Ghosts as ServiceOf}
 use Rattle.tower_retry.specs.Delay as De
 use Rattle.tower_retry.specs.Hedge as He
-use Rattle.tower_retry.specs.Latency as La
-use Rattle.tower_retry.specs.Projections.{latency_of, latency}
 use Rattle.tower_retry.specs.Select as Se
 use Rattle.tower_retry.specs.declared.hedge.delay.error.Error.{Error as DelayError}
 use Rattle.tower_retry.specs.declared.hedge.delay.policy.Policy.{Ghosts as DelayPolicyOf}
@@ -28,7 +27,8 @@ use Rattle.tower_util.specs.Projections.{RunsInOneshot, oneshot}
 use Rattle.tower_util.specs.declared.util.oneshot.Oneshot.{Oneshot}
 use Rattle.tower_util.specs.declared.util.oneshot.State.TheVariants.{NotReady}
 use Rattle.tower_ware.specs.declared.filter.error.Error.{Error as FilterError}
-use Rattle.tower_limit.specs.Discover.{Found}
+use Rattle.tower_limit.specs.Discover.{Found, MayInsert}
+use Rattle.tower_pool.specs.ReadyCache.{PendingView}
 use Rattle.tower_pool.specs.Worker.{WorkerView}
 use Rattle.tower_pool.specs.declared.buffer.mail.MailStep.{MailStep}
 use Rattle.tower_pool.specs.declared.buffer.mail.MailStep.TheVariants.{Take}
@@ -136,6 +136,12 @@ module _ {S Q A E F : Type 0} (s : ServiceOf S Q A E F) where
   -- a run whose requests have this leads to the service from one that has P
   abbrev pub LedTo : (S → Type 0) → (List Q → Type 0) → S → Type 0
   LedTo P Has left = (first : S) × P first × RunInside (relations s) Has first left
+
+-- the service is that of an endpoint of the balancer, or one that its discovery may insert
+abbrev pub MayBeEndpoint : {D R K S X : Type 0} → (D → Found K S X → D → Type 0) → BalanceView D R K S → S → Type 0
+MayBeEndpoint {K = K} {S = S} discovered v service = ((key : K) × Contains v.services.ready (key, service))
+    ⊎ ((pending : PendingView K S) × Contains v.services.pending pending × (pending.service ≡ service))
+    ⊎ ((key : K) × (v.change ≡ Some (key, service))) ⊎ ((key : K) × MayInsert discovered v.discover key service)
 
 -- P holds of each endpoint of a balancer that isn't cancelled, and of whatever its discovery may insert
 abbrev pub EachEndpoint : {D R K S X : Type 0} → (D → Found K S X → D → Type 0) → (S → Type 0) → BalanceView D R K S → Type 0

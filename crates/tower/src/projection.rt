@@ -5,7 +5,7 @@ ghost use Rattle.tower_base.specs.Projection.{AtMostOnce, ByAction, MappedOrNone
 ghost use Rattle.tower_retry.specs.Delay.{Stepped as DelayStepped};
 ghost use Rattle.tower_pool.specs.Worker.{Stepped as WorkerStepped};
 ghost use Rattle.tower.specs.Balance.{view_of as view_of_balance};
-ghost use Rattle.tower.specs.Projections.{Copies, EachEndpoint, LedTo, RunsHere, RunsInDelay, RunsInTask, RunsInWorker};
+ghost use Rattle.tower.specs.Projections.{Copies, EachEndpoint, LedTo, MayBeEndpoint, RunsHere, RunsInDelay, RunsInTask, RunsInWorker};
 ghost use Rattle.tower.specs.SpawnReady.{TaskStepped, view_of};
 
 use crate::balance::p2c::Balance;
@@ -83,6 +83,6 @@ where
     X: Drop,
     D: Discover<Key = K, Service = S, Error = X>,
     R: Rng,
-    ensures { (P : S → Type 0) (old : _) (action : _) (new : _) → Takes (relations ⟦<Balance<D, R, Q> as Service<Q>>⟧) old action new → EachEndpoint D.discovered P (view_of_balance old)
-        → EachEndpoint D.discovered (LedTo S.Service P (ByAction AtMostOnce action)) (view_of_balance new) }
+    ensures { (old : _) (action : _) (new : _) → Takes (relations ⟦<Balance<D, R, Q> as Service<Q>>⟧) old action new
+        → EachEndpoint D.discovered (LedTo S.Service (MayBeEndpoint D.discovered (view_of_balance old)) (ByAction AtMostOnce action)) (view_of_balance new) }
 {}
