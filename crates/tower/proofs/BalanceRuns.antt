@@ -137,13 +137,10 @@ module _ {K S Q A E G : Type 0} (eq : K → K → Bool) (s : ServiceOf S Q A E G
           settled old index e h.1 h.0 answer new was (closed e.1 h.0 h.1 was h.2) h.3 c
 
   module _ {D R X : Type 0} (discovered : D → Found K S X → D → Type 0) where
-    abbrev View : Type 0
-    View = BalanceView D R K S
-
-    abbrev Has : View → Type 0
+    abbrev Has : BalanceView D R K S → Type 0
     Has v = EachEndpoint discovered P v
 
-    pushes : (old : View) (key : K) (service : S) → P service → Has old → Has (record old { services = pushed eq old.services key service })
+    pushes : (old : BalanceView D R K S) (key : K) (service : S) → P service → Has old → Has (record old { services = pushed eq old.services key service })
     pushes old key service here c = record {
       discover = tt;
       services = record { ready = c.services.ready; pending = All-new eq key P service old.services.pending here c.services.pending };
@@ -151,7 +148,7 @@ module _ {K S Q A E G : Type 0} (eq : K → K → Bool) (s : ServiceOf S Q A E G
       inserts = c.inserts;
     }
 
-    found_kept : (was : D) (old : View) (found : Found K S X) (answer : Option (Result (Unit {0}) (Error E X))) (new : View) → discovered was found old.discover
+    found_kept : (was : D) (old : BalanceView D R K S) (found : Found K S X) (answer : Option (Result (Unit {0}) (Error E X))) (new : BalanceView D R K S) → discovered was found old.discover
         → ((key : K) (service : S) → MayInsert discovered was key service → P service) → AfterFound discovered eq old found answer new → Has old → Has new
     found_kept was old (Ready (Some (Ok (Insert key service)))) answer new step all h c =
         let here = inserted_now discovered P was old.discover key service step all in
@@ -168,7 +165,7 @@ module _ {K S Q A E G : Type 0} (eq : K → K → Bool) (s : ServiceOf S Q A E G
         subst Has (sym h.1) (record { discover = tt; services = c.services; change = c.change; inserts = c.inserts })
     found_kept was old Pending answer new step all h c = subst Has (sym h.1) c
 
-    read : (old : View) (answer : Option (Result (Unit {0}) (Error E X))) (new : View) → Reads discovered eq old answer new → Has old → Has new
+    read : (old : BalanceView D R K S) (answer : Option (Result (Unit {0}) (Error E X))) (new : BalanceView D R K S) → Reads discovered eq old answer new → Has old → Has new
     read old answer new h c = found_kept old.discover (record old { discover = h.1 }) h.0 answer new h.2 c.inserts h.3 (record {
       discover = tt;
       services = c.services;
@@ -176,12 +173,12 @@ module _ {K S Q A E G : Type 0} (eq : K → K → Bool) (s : ServiceOf S Q A E G
       inserts = inserts_less discovered P old.discover h.1 h.0 h.2 c.inserts;
     })
 
-    went_reading : (n : ℕ) (old new : View) → Goes (Reads discovered eq {E = E}) n old new → Has old → Has new
+    went_reading : (n : ℕ) (old new : BalanceView D R K S) → Goes (Reads discovered eq {E = E}) n old new → Has old → Has new
     unfolding Goes
     went_reading zero old new h c = subst Has (sym h) c
     went_reading (suc n) old new h c = read h.0 None new h.2 (went_reading n old h.0 h.1 c)
 
-    all_read : (old : View) (answer : Result (Unit {0}) (Error E X)) (new : View) → ReadsAll discovered eq old answer new → Has old → Has new
+    all_read : (old : BalanceView D R K S) (answer : Result (Unit {0}) (Error E X)) (new : BalanceView D R K S) → ReadsAll discovered eq old answer new → Has old → Has new
     all_read old answer new h c = by old.is_over h
       where
         by : (over : Bool) → ByTest over ((answer ≡ Ok tt) × (new ≡ old)) (Passes (Reads discovered eq) (Ok tt) old answer new) → Has new
@@ -190,7 +187,7 @@ module _ {K S Q A E G : Type 0} (eq : K → K → Bool) (s : ServiceOf S Q A E G
             let so_far = went_reading h.count old h.last h.went c in
             ⊎_elim {C = Has new} (λ ends. read h.last (Some answer) new ends.1 so_far) (λ tired. subst Has (sym tired.2) so_far) h.ends
 
-    changes : (change : Option (K × S)) (old : View) (answer : Result (Unit {0}) (Error E X)) (new : View) → old.change ≡ change
+    changes : (change : Option (K × S)) (old : BalanceView D R K S) (answer : Result (Unit {0}) (Error E X)) (new : BalanceView D R K S) → old.change ≡ change
         → ChangedAt discovered eq change old answer new → Has old → Has new
     changes None old answer new e h c = all_read old answer new h c
     changes (Some (key, service)) old answer new e h c =
@@ -201,92 +198,91 @@ module _ {K S Q A E G : Type 0} (eq : K → K → Bool) (s : ServiceOf S Q A E G
         (record { discover = tt; services = pushed_in.services; change = tt; inserts = c.inserts })) h
 
     module _ {M : Type 0} (loaded : S → M → Type 0) (cmp : M → M → Option Ordering) (drew : R → ℕ → R → Type 0) where
-      chooses : (old : View) (answer : Option (Poll (Result (Unit {0}) (Error E X)))) (new : View) → Chooses eq s loaded cmp drew old answer new → Has old → Has new
+      chooses : (old : BalanceView D R K S) (answer : Option (Poll (Result (Unit {0}) (Error E X)))) (new : BalanceView D R K S) → Chooses eq s loaded cmp drew old answer new → Has old → Has new
       chooses old answer new h c = subst Has (sym h.4) (record { discover = tt; services = c.services; change = c.change; inserts = c.inserts })
 
-      after_check : (old : View) (i : ℕ) (inner : Result Bool (Failed K E)) (answer : Option (Poll (Result (Unit {0}) (Error E X)))) (new : View)
+      after_check : (old : BalanceView D R K S) (i : ℕ) (inner : Result Bool (Failed K E)) (answer : Option (Poll (Result (Unit {0}) (Error E X)))) (new : BalanceView D R K S)
           → AfterCheck eq s loaded cmp drew old i inner answer new → Has old → Has new
       after_check old i (Ok true) answer new h c = subst Has (sym h.2) c
       after_check old i (Ok false) answer new h c = chooses old answer new h c
       after_check old i (Err x) answer new h c = chooses old answer new h c
 
-      passed : (kept : Option ℕ) (old : View) (answer : Option (Poll (Result (Unit {0}) (Error E X)))) (new : View) → PassAt eq s loaded cmp drew kept old answer new
+      passed : (kept : Option ℕ) (old : BalanceView D R K S) (answer : Option (Poll (Result (Unit {0}) (Error E X)))) (new : BalanceView D R K S) → PassAt eq s loaded cmp drew kept old answer new
           → Has old → Has new
       passed None old answer new h c = chooses old answer new h c
       passed (Some i) old answer new h c = after_check (record old { services = h.1 }) i h.0 answer new h.3
           (record { discover = tt; services = checked old.services i h.0 h.1 h.2 c.services; change = c.change; inserts = c.inserts })
 
-      went_choosing : (n : ℕ) (old new : View × List (K × S)) → Goes (CountedPass eq s loaded cmp drew {X = X}) n old new → Has old.0 → Has new.0
+      went_choosing : (n : ℕ) (old new : BalanceView D R K S × List (K × S)) → Goes (CountedPass {X = X} eq s loaded cmp drew) n old new → Has old.0 → Has new.0
       unfolding Goes
       went_choosing zero old new h c = subst (λ v. Has v.0) (sym h) c
       went_choosing (suc n) old new h c = passed h.0.0.kept h.0.0 None new.0 h.2.0 (went_choosing n old h.0 h.1 c)
 
-      after_promotion : (inner : Result (Unit {0}) (Error E X)) (old : View) (answer : Poll (Result (Unit {0}) (Error E X))) (new : View)
+      after_promotion : (inner : Result (Unit {0}) (Error E X)) (old : BalanceView D R K S) (answer : Poll (Result (Unit {0}) (Error E X))) (new : BalanceView D R K S)
           → AfterPromotion eq s loaded cmp drew inner old answer new → Has old → Has new
       after_promotion (Err e) old answer new h c = subst Has (sym h.1) c
       after_promotion (Ok u) old answer new h c = passed h.last.kept h.last (Some answer) new h.ends (went_choosing h.count (old, []) (h.last, h.asked) h.went c)
 
-      after_changes : (inner : Result (Unit {0}) (Error E X)) (old : View) (answer : Poll (Result (Unit {0}) (Error E X))) (new : View)
+      after_changes : (inner : Result (Unit {0}) (Error E X)) (old : BalanceView D R K S) (answer : Poll (Result (Unit {0}) (Error E X))) (new : BalanceView D R K S)
           → AfterChanges eq s loaded cmp drew inner old answer new → Has old → Has new
       after_changes (Err e) old answer new h c = subst Has (sym h.1) c
       after_changes (Ok u) old answer new h c = after_promotion h.0 h.1 answer new h.3 (subst Has (sym h.2.1)
           (record { discover = tt; services = promoted h.2.0.0 old.services h.0 h.1.services h.2.0.1 c.services; change = c.change; inserts = c.inserts }))
 
-      polls : (old : View) (answer : Poll (Result (Unit {0}) (Error E X))) (new : View) → Polled eq s loaded cmp drew discovered old answer new → Has old → Has new
+      polls : (old : BalanceView D R K S) (answer : Poll (Result (Unit {0}) (Error E X))) (new : BalanceView D R K S) → Polled eq s loaded cmp drew discovered old answer new → Has old → Has new
       polls old answer new h c = after_changes h.inner h.mid answer new h.goes (changes old.change old h.inner h.mid refl h.changed c)
 
-module _ {D K S Q A E G R X : Type 0} (eq : K → K → Bool) (s : ServiceOf S Q A E G) (discovered : D → Found K S X → D → Type 0) (P : S → Type 0) where
-  abbrev Led : (List Q → Type 0) → S → Type 0
-  Led Has = LedTo s P Has
+module _ {S Q A E G : Type 0} (s : ServiceOf S Q A E G) (P : S → Type 0) where
+  -- a poll leads on
+  closes : (old : S) (answer : Poll (Result (Unit {0}) E)) (new : S) → LedTo s P (λ x. x ≡ []) old → s.polled old answer new → LedTo s P (λ x. x ≡ []) new
+  closes old answer new h polled = (h.0, h.1, after (relations s) h.0 old new h.2 (one_poll (relations s) old new answer polled refl))
 
+module _ {D K S Q A E G R X : Type 0} (eq : K → K → Bool) (s : ServiceOf S Q A E G) (discovered : D → Found K S X → D → Type 0) (P : S → Type 0) where
   -- what holds at first holds after no action
-  weaker : (Has : List Q → Type 0) → Has [] → (v : BalanceView D R K S) → EachEndpoint discovered P v → EachEndpoint discovered (Led Has) v
-  weaker Has none v c =
-      let still : (x : S) → P x → Led Has x = λ x p. (x, p, no_action (relations s) x x refl none) in
+  weaker : (Requests : List Q → Type 0) → Requests [] → (v : BalanceView D R K S) → EachEndpoint discovered P v → EachEndpoint discovered (LedTo s P Requests) v
+  weaker Requests none v c =
+      let still : (x : S) → P x → LedTo s P Requests x = λ x p. (x, p, no_action (relations s) x x refl none) in
       record {
         discover = tt;
         services = record {
-          ready = All-weaker (λ e. P e.1) (λ e. Led Has e.1) (λ e p. still e.1 p) v.services.ready c.services.ready;
-          pending = All-weaker (Askable P) (Askable (Led Has)) (λ q p asks. still q.service (p asks)) v.services.pending c.services.pending;
+          ready = All-weaker (λ e. P e.1) (λ e. LedTo s P Requests e.1) (λ e p. still e.1 p) v.services.ready c.services.ready;
+          pending = All-weaker (Askable P) (Askable (LedTo s P Requests)) (λ q p asks. still q.service (p asks)) v.services.pending c.services.pending;
         };
         change = kept v.change c.change;
         inserts = λ key service may. still service (c.inserts key service may);
       }
     where
-      kept : (change : Option (K × S)) → IfSome change (λ e. P e.1) → IfSome change (λ e. Led Has e.1)
+      kept : (change : Option (K × S)) → IfSome change (λ e. P e.1) → IfSome change (λ e. LedTo s P Requests e.1)
       kept None h = tt
       kept (Some e) h = (e.1, h, no_action (relations s) e.1 e.1 refl none)
 
-  closes : (old : S) (answer : Poll (Result (Unit {0}) E)) (new : S) → Led (λ x. x ≡ []) old → s.polled old answer new → Led (λ x. x ≡ []) new
-  closes old answer new h polled = (h.0, h.1, after (relations s) h.0 old new h.2 (one_poll (relations s) old new answer polled refl))
-
   called : (old : BalanceView D R K S) (request : Q) (future : Option G) (new : BalanceView D R K S) → Called eq s old request future new → EachEndpoint discovered P old
-      → EachEndpoint discovered (Led (AtMostOnce request)) new
+      → EachEndpoint discovered (LedTo s P (AtMostOnce request)) new
   called old request future new h c = by old.kept h
     where
-      led : EachEndpoint discovered (Led (AtMostOnce request)) old
+      led : EachEndpoint discovered (LedTo s P (AtMostOnce request)) old
       led = weaker (AtMostOnce request) (inr refl) old c
 
-      cached : (index : ℕ) (inner : G) (services : ReadyCacheView K S) → CacheCalled eq s old.services index request inner services → CacheSound (Led (AtMostOnce request)) services
+      cached : (index : ℕ) (inner : G) (services : ReadyCacheView K S) → CacheCalled eq s old.services index request inner services → CacheSound (LedTo s P (AtMostOnce request)) services
       cached index inner services h =
           let was : P h.service = at_index P old.services.ready index (h.key, h.service) h.there c.services.ready in
-          subst (CacheSound (Led (AtMostOnce request))) (sym h.same) (record {
-            ready = removed (Led (AtMostOnce request)) old.services.ready index (h.key, h.service)
+          subst (CacheSound (LedTo s P (AtMostOnce request))) (sym h.same) (record {
+            ready = removed (LedTo s P (AtMostOnce request)) old.services.ready index (h.key, h.service)
                 (h.service, was, no_action (relations s) h.service h.service refl (inr refl)) led.services.ready;
-            pending = put_back_in eq (Led (AtMostOnce request)) h.key h.left old.services.pending
+            pending = put_back_in eq (LedTo s P (AtMostOnce request)) h.key h.left old.services.pending
                 (h.service, was, one_call (relations s) h.service h.left request inner h.ready h.called (inl refl)) led.services.pending;
           })
 
       by : (kept : Option ℕ) → MatchOption kept ⊥ (λ i. (inner : G) × CacheCalled eq s old.services i request inner new.services
-          × (future ≡ Some inner) × (new ≡ record old { services = new.services; kept = None })) → EachEndpoint discovered (Led (AtMostOnce request)) new
+          × (future ≡ Some inner) × (new ≡ record old { services = new.services; kept = None })) → EachEndpoint discovered (LedTo s P (AtMostOnce request)) new
       by None h = absurd h
-      by (Some i) h = subst (λ v. EachEndpoint discovered (Led (AtMostOnce request)) v) (sym h.3)
+      by (Some i) h = subst (λ v. EachEndpoint discovered (LedTo s P (AtMostOnce request)) v) (sym h.3)
           (record { discover = tt; services = cached i h.0 new.services h.1; change = led.change; inserts = led.inserts })
 
   module _ {M : Type 0} (loaded : S → M → Type 0) (cmp : M → M → Option Ordering) (drew : R → ℕ → R → Type 0) where
     polled : (old : BalanceView D R K S) (answer : Poll (Result (Unit {0}) (Error E X))) (new : BalanceView D R K S) → Polled eq s loaded cmp drew discovered old answer new
-        → EachEndpoint discovered P old → EachEndpoint discovered (Led (λ x. x ≡ [])) new
-    polled old answer new h c = polls eq s (Led (λ x. x ≡ [])) closes discovered loaded cmp drew old answer new h (weaker (λ x. x ≡ []) refl old c)
+        → EachEndpoint discovered P old → EachEndpoint discovered (LedTo s P (λ x. x ≡ [])) new
+    polled old answer new h c = polls eq s (LedTo s P (λ x. x ≡ [])) (closes s P) discovered loaded cmp drew old answer new h (weaker (λ x. x ≡ []) refl old c)
 
 module _ {D K S Q A E G R X : Type 0} (eq : K → K → Bool) (s : ServiceOf S Q A E G) (discovered : D → Found K S X → D → Type 0) where
   -- each endpoint is one
