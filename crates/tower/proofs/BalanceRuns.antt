@@ -288,15 +288,15 @@ module _ {D K S Q A E G R X : Type 0} (eq : K → K → Bool) (s : ServiceOf S Q
   -- each endpoint is one
   each : (v : BalanceView D R K S) → EachEndpoint discovered (MayBeEndpoint discovered v) v
   each v = record {
-      discover = tt;
-      services = record {
-        ready = All-weaker (Contains v.services.ready) (λ e. MayBeEndpoint discovered v e.1) (λ e h. inl (e.0, h)) v.services.ready (All-contains_itself v.services.ready);
-        pending = All-weaker (Contains v.services.pending) (Askable (MayBeEndpoint discovered v)) (λ q h asks. inr (inl (q, h, refl))) v.services.pending
-            (All-contains_itself v.services.pending);
-      };
-      change = kept v.change refl;
-      inserts = λ key service may. inr (inr (inr (key, may)));
-    }
+    discover = tt;
+    services = record {
+      ready = All-weaker (Contains v.services.ready) (λ e. MayBeEndpoint discovered v e.1) (λ e h. inl (e.0, h)) v.services.ready (All-contains_itself v.services.ready);
+      pending = All-weaker (Contains v.services.pending) (Askable (MayBeEndpoint discovered v)) (λ q h asks. inr (inl (q, h, refl))) v.services.pending
+          (All-contains_itself v.services.pending);
+    };
+    change = kept v.change refl;
+    inserts = λ key service may. inr (inr (inr (key, may)));
+  }
     where
       kept : (change : Option (K × S)) → v.change ≡ change → IfSome change (λ e. MayBeEndpoint discovered v e.1)
       kept None e = tt

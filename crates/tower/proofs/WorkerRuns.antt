@@ -55,11 +55,14 @@ module _ {L S Q A E F : Type 0} (gave : L → MailStep Q F E → MailReply Q F E
       subst (λ v. Leads old v) (sym h.2) ((keeps.0, tt), one_poll (relations s) old.service left (Ready (Err e)) polled tt)
   after_poll old left id request (Ready (Ok u)) answer new keeps is polled h =
       let c = h.1.1 in
-      subst (λ v. Leads old v) (sym c.4) (keeps, record {
-        transitions = record { action = Action.poll (Ready (Ok u)); left = left } ∷ record { action = Action.call request c.0; left = c.1 } ∷ [];
-        run = (polled, ((h.1.0, c.2), refl));
-        has = (is, tt);
-      })
+      subst (λ v. Leads old v) (sym c.4) (
+        keeps,
+        record {
+          transitions = record { action = Action.poll (Ready (Ok u)); left = left } ∷ record { action = Action.call request c.0; left = c.1 } ∷ [];
+          run = (polled, ((h.1.0, c.2), refl));
+          has = (is, tt);
+        },
+      )
 
   served : (old : View) (id : ℕ) (request : Q) (answer : Option (Poll (Unit {0}))) (new : View) → Keeps old → Is request → Serves gave s old id request answer new → Leads old new
   served old id request answer new keeps is h = after_poll old h.1 id request h.0 answer new keeps is h.2 h.3

@@ -81,11 +81,8 @@ where
 }
 
 /// What its service contains.
-impl<Q, P, R: Record + Clone, S: Contains<Q, P, L>, C: Clock, L: Service<P>> Contains<
-    Q,
-    P,
-    L,
-> for Latency<R, S, C> {
+impl<Q, P, R: Record + Clone, S: Contains<Q, P, L>, C: Clock, L: Service<P>> Contains<Q, P, L>
+    for Latency<R, S, C> {
     ghost inside = { λ l. S.inside l.service };
 
     ghost goes = { S.goes };
