@@ -1,4 +1,4 @@
-use Rattle.tower_util.proofs.util.waits.block_on.Given as goal
+use Rattle.tower.proofs.util.waits.block_on.Given as goal
 
 abbrev pub invariant-loop : goal.invariant-loop
 invariant-loop g l = record {

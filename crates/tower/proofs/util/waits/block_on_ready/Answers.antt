@@ -1,6 +1,6 @@
 use Rattle.std.proofs.Common.{rules}
-use Rattle.tower_util.proofs.WaitsLemmas.{pended_start, pended_more, readied}
-use Rattle.tower_util.proofs.util.waits.block_on_ready.Goals as goal
+use Rattle.tower.proofs.WaitsLemmas.{pended_start, pended_more, readied}
+use Rattle.tower.proofs.util.waits.block_on_ready.Goals as goal
 
 pub loop-init : goal.loop-init
 loop-init g c = record {

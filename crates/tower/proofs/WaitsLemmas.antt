@@ -5,7 +5,7 @@ use Rattle.futures.specs.Poll.{IfReady}
 use Rattle.futures.specs.declared.task.Poll.{Poll}
 use Rattle.futures.specs.declared.task.Poll.TheVariants.{Ready, Pending}
 use Rattle.tower_base.specs.declared.service.Service.{Ghosts as ServiceOf}
-use Rattle.tower_util.specs.Waits.{Pended, Answered, Each}
+use Rattle.tower.specs.Waits.{Pended, Answered, Each}
 
 module _ {S A : Type 0} (polled : S → Poll A → S → Type 0) where
   -- no poll yet

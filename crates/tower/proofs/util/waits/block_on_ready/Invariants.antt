@@ -1,5 +1,5 @@
-use Rattle.tower_util.specs.Waits.{Pended}
-use Rattle.tower_util.proofs.util.waits.block_on_ready.Given as goal
+use Rattle.tower.specs.Waits.{Pended}
+use Rattle.tower.proofs.util.waits.block_on_ready.Given as goal
 
 abbrev pub invariant-loop : goal.invariant-loop
 invariant-loop g l = record {

@@ -3,8 +3,8 @@ use Rattle.std.proofs.Common.{rules, refl, ◌∙◌, sym}
 use Rattle.std.proofs.lemmas.Iterator.Consumers.{YieldsList-end}
 use Rattle.std.proofs.lemmas.Iterator.Adapters.{YieldsList-from_vec}
 use Rattle.std.proofs.lemmas.List.{map-id}
-use Rattle.tower_util.proofs.WaitsLemmas.{each_more}
-use Rattle.tower_util.proofs.util.waits.block_on_each.Goals as goal
+use Rattle.tower.proofs.WaitsLemmas.{each_more}
+use Rattle.tower.proofs.util.waits.block_on_each.Goals as goal
 
 pub returns-clause-told : goal.returns-clause-told
 returns-clause-told g c =

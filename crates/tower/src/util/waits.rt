@@ -4,7 +4,7 @@
 //! before it polls such a task again the thread sleeps 50 microseconds at first, twice as long each time, and
 //! 1 millisecond at most. So long another thread's wake may wait meanwhile.
 ghost use Rattle.std.specs.Prelude.{IfOk, OnOk};
-ghost use Rattle.tower_util.specs.Waits.{Waited, Answered, Each};
+ghost use Rattle.tower.specs.Waits.{Waited, Answered, Each};
 
 use futures::future::Future;
 use futures::task::{Doorbell, Poll, Queue};

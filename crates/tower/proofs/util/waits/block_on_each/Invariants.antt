@@ -1,5 +1,5 @@
-use Rattle.tower_util.specs.Waits.{Each}
-use Rattle.tower_util.proofs.util.waits.block_on_each.Given as goal
+use Rattle.tower.specs.Waits.{Each}
+use Rattle.tower.proofs.util.waits.block_on_each.Given as goal
 
 abbrev pub invariant-loop-request : goal.invariant-loop-request
 invariant-loop-request g l = record {
