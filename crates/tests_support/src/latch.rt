@@ -6,7 +6,7 @@ use futures::task::Context;
 use std::alloc::AllocError;
 use std::cell::Cell;
 use std::fmt::Debug;
-use tower_base::latch::{Core, Latch};
+use tower_latch::{Core, Latch};
 
 /// A latch over another. It notes its steps, shares and drop, and its shares may be refused.
 pub struct Noting<'a, L: Drop> {

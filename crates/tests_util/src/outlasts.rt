@@ -14,7 +14,7 @@ use std::{io, thread};
 use tests_support::checks::Checks;
 use tests_support::run::task;
 use tower::util::block_on_each;
-use tower_base::latch::Latch;
+use tower_latch::Latch;
 use tower_base::service::{Service, Steps};
 use tower_limit::limit::concurrency::{LineCore, Permit, PollSemaphore, Semaphore};
 

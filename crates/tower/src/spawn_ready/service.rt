@@ -15,8 +15,8 @@ use futures::task::{Context, Poll};
 use std::alloc::{AllocError, Global};
 use std::marker::PhantomData;
 use std::sync::Wait;
-use tower_base::latch::held::Viewed;
-use tower_base::latch::{Guarded, Latch};
+use tower_latch::held::Viewed;
+use tower_latch::{Guarded, Latch};
 use tower_base::passes::TURNS;
 use tower_base::service::{Executor, Service};
 

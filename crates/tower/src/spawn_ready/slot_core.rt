@@ -4,7 +4,7 @@ ghost use Rattle.tower.specs.Slot.{SlotSteps, is_waiting, slot_step};
 
 use std::marker::Model;
 use std::mem;
-use tower_base::latch::Core;
+use tower_latch::Core;
 
 /// What may be asked of a slot.
 #[derive(Clone, Copy, Debug, Drop, PartialEq, Eq)]

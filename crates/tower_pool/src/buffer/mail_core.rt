@@ -5,7 +5,7 @@ use crate::buffer::mail::{MailReply, MailStep};
 use crate::buffer::mailbox::Mailbox;
 use std::alloc::Global;
 use std::marker::Model;
-use tower_base::latch::Core;
+use tower_latch::Core;
 
 /// Messages on their way to a worker, the places for them, and those who wait for places.
 ///
@@ -55,7 +55,7 @@ impl<Request: Drop, F: Drop, E: Clone> Core for MailCore<Request, F, E> {
 
     type Reply = MailReply<Request, F, E>;
 
-    ghost use Rattle.tower_base.specs.Latch.{StepsAs};
+    ghost use Rattle.tower_latch.specs.Latch.{StepsAs};
     ghost use Rattle.tower_pool.specs.Mail.{MailSteps, is_waiting};
     ghost use Rattle.std.specs.Prelude.{false};
     ghost use Rattle.tower_pool.specs.Mailbox.{Few, HasRoom, Opens, StandsFor};

@@ -4,7 +4,7 @@ ghost use Rattle.tower_limit.specs.WaitQueue.{granted, waiting};
 
 use crate::wait_queue::{Turn, WaitQueue};
 use std::alloc::{AllocError, Global};
-use tower_base::latch::Core;
+use tower_latch::Core;
 
 /// What may be asked of the line of permits.
 #[derive(Clone, Copy, Debug, PartialEq, Eq)]
@@ -127,7 +127,7 @@ impl Core for LineCore {
 
     type Reply = LineReply;
 
-    ghost use Rattle.tower_base.specs.Latch.{StepsAs};
+    ghost use Rattle.tower_latch.specs.Latch.{StepsAs};
     ghost use Rattle.tower_limit.specs.Line.{LineSteps, is_waiting};
     ghost use Rattle.tower_limit.specs.LineCore.{Opens, StandsFor, touches};
 

@@ -9,7 +9,7 @@ use futures::task::{Context, Poll};
 use std::alloc::{AllocError, Global};
 use std::marker::Model;
 use std::sync::Wait;
-use tower_base::latch::{Guarded, Latch};
+use tower_latch::{Guarded, Latch};
 
 /// A share of a line of permits: what the Rust has `tokio::sync::Semaphore` for.
 #[derive(Drop)]

@@ -1,10 +1,10 @@
 //! The core of a count.
 ghost use Rattle.std.specs.Prelude.{false};
-ghost use Rattle.tower_base.specs.Latch.{FollowsMachine, StepsAs};
+ghost use Rattle.tower_latch.specs.Latch.{FollowsMachine, StepsAs};
 ghost use Rattle.tower_limit.specs.Holders.{HolderSteps};
 ghost use Rattle.tower_limit.specs.CountCore.{Opens, StandsFor};
 
-use tower_base::latch::Core;
+use tower_latch::Core;
 
 /// What may be asked of a count.
 #[derive(Clone, Copy, Debug, PartialEq, Eq)]

@@ -6,7 +6,7 @@ ghost use Rattle.tower_retry.specs.Slots.{kept_sum, slot};
 use crate::retry::budget::slots::Slots;
 use crate::retry::budget::steps::{BudgetReply, BudgetStep, Terms};
 use std::alloc::{AllocError, Global};
-use tower_base::latch::Core;
+use tower_latch::Core;
 use tower_base::service::Fraction;
 
 /// The amount of the present generation, and those of the ten before it.
@@ -169,7 +169,7 @@ impl Core for BudgetCore {
     type Reply = BudgetReply;
 
     ghost use Rattle.std.specs.Prelude.{false};
-    ghost use Rattle.tower_base.specs.Latch.{StepsAs};
+    ghost use Rattle.tower_latch.specs.Latch.{StepsAs};
     ghost use Rattle.tower_retry.specs.Budget.{Steps};
     ghost use Rattle.tower_retry.specs.BudgetCore.{Opens, StandsFor, writes};
 
