@@ -16,6 +16,8 @@ pub struct MailCore<Request, F, E: Clone> {
 }
 
 impl<Request, F, E: Clone> Model for MailCore<Request, F, E> {
+    ghost use Rattle.tower_latch.specs.LatchLemmas.{none_held, no_tokens};
+
     ghost use Rattle.std.specs.Prelude.{◌≡◌};
     ghost use Rattle.tower_pool.specs.declared.buffer.mailbox.Mailbox.{Mailbox};
 
@@ -66,6 +68,10 @@ impl<Request: Drop, F: Drop, E: Clone> Core for MailCore<Request, F, E> {
 
     ghost is_wait = { is_waiting };
 
+    ghost starts = { none_held };
+
+    ghost counts = { no_tokens };
+
     /// Open mail answers `Memory` to `Reserve` only where room was missing. `Take` reaches at most six entries,
     /// of the messages and of those who wait, for each message that leaves the queue, and any other step
     /// six, whatever is stored. Closing isn't counted: `WorkerGone` reaches every message, and `Fail` drops
@@ -97,5 +103,9 @@ impl<Request: Drop, F: Drop, E: Clone> Core for MailCore<Request, F, E> {
 
     fn waits(reply: &MailReply<Request, F, E>) -> bool {
         matches!(reply, MailReply::Waiting(_) | MailReply::Empty)
+    }
+
+    fn capacity(&self) -> usize {
+        0
     }
 }

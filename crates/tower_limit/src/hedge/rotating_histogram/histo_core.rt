@@ -20,6 +20,8 @@ pub struct HistoCore {
 }
 
 impl HistoCore {
+    ghost use Rattle.tower_latch.specs.LatchLemmas.{none_held, no_tokens};
+
     ghost use Rattle.std.specs.Prelude.{◌≡◌, ◌<◌, IsTrue, ◌↔◌};
     ghost use Rattle.tower_latch.specs.Latch.{FollowsMachine};
     ghost use Rattle.tower_limit.specs.Histogram.{Steps, blank, rotated};
@@ -123,6 +125,10 @@ impl Core for HistoCore {
 
     ghost is_wait = { λ _. false };
 
+    ghost starts = { none_held };
+
+    ghost counts = { no_tokens };
+
     #[inline(always)]
     fn step(&mut self, step: HistoStep) -> HistoReply {
         match step {
@@ -135,5 +141,9 @@ impl Core for HistoCore {
 
     fn waits(_reply: &HistoReply) -> bool {
         false
+    }
+
+    fn capacity(&self) -> usize {
+        0
     }
 }

@@ -31,6 +31,8 @@ pub struct BudgetCore {
 }
 
 impl BudgetCore {
+    ghost use Rattle.tower_latch.specs.LatchLemmas.{none_held, no_tokens};
+
     ghost use Rattle.std.specs.Prelude.{int_le, pos, ◌↔◌};
     ghost use Rattle.tower_retry.specs.Budget.{Fits, Ledger, Withdraws, added, advanced, blank, terms_of};
     ghost use Rattle.tower_retry.specs.BudgetCore.{Changes, Opens, StandsFor, kept_balance, writes};
@@ -179,6 +181,10 @@ impl Core for BudgetCore {
 
     ghost is_wait = { λ _. false };
 
+    ghost starts = { none_held };
+
+    ghost counts = { no_tokens };
+
     // It writes eleven slots at most.
     fn step(&mut self, step: BudgetStep) -> BudgetReply
         ensures steps { StepsAs StandsFor Steps self.old step result self.new }
@@ -195,5 +201,9 @@ impl Core for BudgetCore {
 
     fn waits(_reply: &BudgetReply) -> bool {
         false
+    }
+
+    fn capacity(&self) -> usize {
+        0
     }
 }
