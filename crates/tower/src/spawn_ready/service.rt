@@ -186,7 +186,8 @@ where
         ensures armed { IfSome result (λ answer. OnPending answer (IsArmed cx.new)) }
         ensures kept { Keeps cx.old cx.new }
     {
-        match self.latch.wait(SlotStep::Look, cx) {
+        let (reply, _) = self.latch.wait(SlotStep::Look, cx);
+        match reply {
             SlotReply::Waiting => Some(Poll::Pending),
             SlotReply::Unknown => Some(cx.yield_now()),
             SlotReply::Service(viewed) => {

@@ -69,7 +69,8 @@ where
         ensures armed { result ≡ false → IsArmed cx.new }
         ensures kept { Keeps cx.old cx.new }
     {
-        match latch.wait(SlotStep::Aborted, cx) {
+        let (reply, _) = latch.wait(SlotStep::Aborted, cx);
+        match reply {
             SlotReply::Truth(true) => true,
             SlotReply::Truth(false) => false,
             _ => {

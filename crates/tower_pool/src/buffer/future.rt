@@ -123,7 +123,8 @@ where
             ResponseState::Polls(future) => return carry(future, cx),
             ResponseState::Sent(latch, id) => (latch, *id),
         };
-        match latch.wait(MailStep::Outcome(id), cx) {
+        let (reply, _) = latch.wait(MailStep::Outcome(id), cx);
+        match reply {
             MailReply::Waiting(_) => Poll::Pending,
             MailReply::Unknown => cx.yield_now(),
             MailReply::Memory => Poll::Ready(Err(Error::Memory)),

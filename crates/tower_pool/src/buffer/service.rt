@@ -106,7 +106,8 @@ where
             Seat::Asking(key) => MailStep::Look(key),
             _ => MailStep::Reserve,
         };
-        match self.latch.wait(step, cx) {
+        let (reply, _) = self.latch.wait(step, cx);
+        match reply {
             MailReply::Place => {
                 self.seat = Seat::Reserved;
                 Poll::Ready(Ok(()))

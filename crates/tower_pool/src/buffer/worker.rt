@@ -112,7 +112,8 @@ where
         ensures armed { result ≡ Some Pending → IsArmed cx.new }
         ensures kept { Keeps cx.old cx.new }
     {
-        match self.latch.wait(MailStep::Take, cx) {
+        let (reply, _) = self.latch.wait(MailStep::Take, cx);
+        match reply {
             MailReply::Message(id, request) => {
                 if self.has_failed {
                     self.latch.step(MailStep::FailStored(id));
