@@ -1,26 +1,27 @@
-//! Workers in threads of their own.
-ghost use Rattle.std.specs.Prelude.{◌≡◌, IfOk};
+//! Buffers whose workers are tasks of one set, and threads that call.
+ghost use Rattle.std.specs.Prelude.{◌≡◌};
 
-use crate::jobs::{Answer, Job, Unfinished, search};
+use crate::jobs::{Answer, Job, Searcher};
 use crate::policy::GoesOn;
-use futures::executor::block_on;
-use futures::future::{Either, Ready, ready, select};
+use futures::executor::TaskSet;
+use futures::future::Future;
+use futures::task::Doorbell;
 use std::alloc::{AllocError, AllocGlobal, Global};
 use std::fmt::Display;
 use std::io::{self, Eprint};
 use std::random::RandomSource;
-use std::sync::Wait;
 use std::sync::atomic::{AtomicU64, Ordering};
+use std::sync::{Arc, Wait};
 use std::thread;
 use std::thread::Threads;
 use std::time::Clock;
 use tower::buffer::Buffer;
-use tower::latch::held::Pollable;
 use tower::retry::budget::TpsBudget;
-use tower::service::{Polled, Steps, SystemClock};
-use tower::{Service, ServiceBuilder, ServiceExt};
+use tower::service::SystemClock;
+use tower::util::Sealed;
+use tower::{BlockOnExt, Service, ServiceBuilder};
 
-/// The answer of each line, in their order.
+/// The answer of each line, in their order. So many workers run in as many threads, and as many threads call.
 pub fn answers<R>(
     rt: R,
     workers: usize,
@@ -30,21 +31,24 @@ pub fn answers<R>(
 where
     R: Threads + Wait + RandomSource + AllocGlobal + Eprint + Clock + Copy + Send + Sync,
 {
-    let mut answers = Vec::new(rt.alloc());
+    let alloc = rt.alloc();
+    let mut answers = Vec::new(alloc);
     for line in 1..=lines.len() {
         answers.push(Answer::Wrong { line })?;
     }
-    let desk = Desk {
-        lines,
-        taken: AtomicU64::new(0),
-        done: AtomicU64::new(0),
-        shows_progress,
-    };
-    for told in thread::map_indices(&rt, rt.alloc(), workers, &|_| work(rt, &desk))? {
-        for (place, answer) in told? {
-            if let Some(slot) = answers.get_mut(place) {
-                *slot = answer;
-            }
+    let desk = Arc::new(alloc, Desk::new(lines, shows_progress))?;
+    let mut stacks = Vec::new(alloc);
+    for _ in 0..workers {
+        let budget = TpsBudget::with_clock(rt, alloc, SystemClock::new(rt)?)?;
+        let stack = ServiceBuilder::new()
+            .concurrency_limit(rt, alloc, 1)
+            .retry(GoesOn::new(budget))
+            .service(Searcher)?;
+        stacks.push(Sealed::new(stack))?;
+    }
+    for (place, answer) in buffered(rt, &desk, stacks)? {
+        if let Some(slot) = answers.get_mut(place) {
+            *slot = answer;
         }
     }
     if shows_progress {
@@ -53,101 +57,117 @@ where
     Ok(answers)
 }
 
-// What the workers share.
-#[derive(Drop)]
-struct Desk {
-    lines: Vec<Option<Job>>,
-    taken: AtomicU64,
-    done: AtomicU64,
-    shows_progress: bool,
-}
-
-// One worker, and the answers to the jobs that it took, each with its line's place.
-fn work<R>(rt: R, desk: &Desk) -> io::Result<Vec<(usize, Answer)>>
-where
-    R: Wait + RandomSource + AllocGlobal + Eprint + Clock + Copy,
-{
-    let alloc = rt.alloc();
-    let budget = TpsBudget::with_clock(rt, alloc, SystemClock::new(rt)?)?;
-    let stack = ServiceBuilder::new()
-        .concurrency_limit(rt, alloc, 1)
-        .retry(GoesOn::new(budget))
-        .service_fn(|job: Job| -> Ready<Result<u64, Unfinished>> { ready(search(job)) })?;
-    buffered(rt, alloc, desk, stack)
-}
-
-// A buffer of one place before the service.
+// A buffer of one place before each service, whose worker is a task of one set, and a caller for each buffer.
 fn buffered<R, S, E>(
     rt: R,
-    alloc: Global,
-    desk: &Desk,
-    service: S,
+    desk: &Arc<Desk, Global>,
+    services: Vec<Sealed<S, Job>>,
 ) -> io::Result<Vec<(usize, Answer)>>
 where
-    R: Wait + RandomSource + AllocGlobal + Eprint + Copy,
-    S: Service<Job, Response = u64, Error = E>,
-    E: Clone + Display,
-    requires sound { S.sound service }
+    R: Threads + Wait + RandomSource + AllocGlobal + Eprint + Copy + Send + Sync,
+    S: Service<Job, Response = u64, Error = E> + Send,
+    S::Future: Send,
+    E: Clone + Display + Send,
     requires same { (x y : E) → E.is_clone x y → y ≡ x }
 {
-    match Buffer::pair(rt, alloc, service, 1) {
-        Ok((buffer, worker)) => ask(&rt, desk, buffer, worker),
-        Err(AllocError) => Err(AllocError.into()),
+    let workers = services.len();
+    let tasks = TaskSet::new(&rt, Doorbell::parking(), workers)?;
+    let mut callers = Vec::new(rt.alloc());
+    for service in services {
+        let (buffer, worker) = Buffer::pair(rt, rt.alloc(), service, 1)?;
+        tasks.spawn(worker)?;
+        callers.push(Seat {
+            desk: Arc::try_clone(desk)?,
+            buffer: Sealed::new(buffer),
+        })?;
+    }
+    run(&rt, callers, &tasks, workers)
+}
+
+// Each caller has a thread, and so many threads work at the tasks.
+fn run<R, C, W>(
+    rt: &R,
+    callers: Vec<C>,
+    tasks: &TaskSet<W>,
+    workers: usize,
+) -> io::Result<Vec<(usize, Answer)>>
+where
+    R: Threads + Wait + RandomSource + AllocGlobal + Send + Sync,
+    C: Caller<R> + Send,
+    W: Future<Output = ()> + Send + Drop,
+{
+    let (told, _) = thread::join(
+        rt,
+        || call_all(rt, callers),
+        || thread::map_indices(rt, rt.alloc(), workers, &|worker| tasks.work(rt, worker)),
+    );
+    let mut all = Vec::new(rt.alloc());
+    for told in told? {
+        for answer in told? {
+            all.push(answer)?;
+        }
+    }
+    Ok(all)
+}
+
+fn call_all<R, C>(
+    rt: &R,
+    callers: Vec<C>,
+) -> Result<Vec<io::Result<Vec<(usize, Answer)>>>, AllocError>
+where
+    R: Threads + Sync,
+    C: Caller<R> + Send,
+{
+    thread::map_vec(rt, callers, &|caller| caller.ask(rt))
+}
+
+// What a thread does that calls. (A thread's closure calls nothing yet whose type is some service.)
+trait Caller<R>: Drop {
+    // Each line's place with its answer.
+    fn ask(self, rt: &R) -> io::Result<Vec<(usize, Answer)>>;
+}
+
+// A caller at the desk.
+#[derive(Drop)]
+struct Seat<B: Service<Job>> {
+    desk: Arc<Desk, Global>,
+    buffer: Sealed<B, Job>,
+}
+
+impl<R, B> Caller<R> for Seat<B>
+where
+    R: Wait + RandomSource + AllocGlobal + Eprint,
+    B: Service<Job, Response = u64>,
+    B::Error: Display,
+{
+    fn ask(self, rt: &R) -> io::Result<Vec<(usize, Answer)>> {
+        ask(rt, &self.desk, self.buffer)
     }
 }
 
 // Takes one line after another, and calls about it.
-fn ask<R, B, W>(rt: &R, desk: &Desk, buffer: B, worker: W) -> io::Result<Vec<(usize, Answer)>>
+fn ask<R, B>(rt: &R, desk: &Desk, mut buffer: Sealed<B, Job>) -> io::Result<Vec<(usize, Answer)>>
 where
     R: Wait + RandomSource + AllocGlobal + Eprint,
-    B: Service<Job, Response = u64> + Clone,
+    B: Service<Job, Response = u64>,
     B::Error: Display,
-    W: Steps<Output = ()>,
-    requires buffer { B.sound buffer }
-    requires clones { (x y : B) → B.is_clone x y → B.sound x → B.sound y }
-    requires worker { W.can_poll worker }
 {
     let mut told = Vec::new(rt.alloc());
-    let mut at_work = Some(Pollable::new(worker));
     for _ in 0..desk.lines.len() {
         let place = desk.take();
         let Some(line) = desk.lines.get(place) else {
             break;
         };
         if let Some(job) = line {
-            let Some(worker) = at_work.take() else {
-                break;
-            };
-            let (answer, worker) = answered(rt, buffer.clone()?, worker.into_inner(), *job)?;
-            at_work = Some(Pollable::new(worker));
-            told.push((place, answer))?;
+            let answer = buffer.block_on_call(rt, *job)?;
+            told.push((place, answer_of(rt.alloc(), job.number, answer)?))?;
         }
         desk.tell(rt);
     }
     Ok(told)
 }
 
-// Waits for the answer to one job. The worker runs beside the call.
-fn answered<R, B, W>(rt: &R, buffer: B, worker: W, job: Job) -> io::Result<(Answer, W)>
-where
-    R: Wait + RandomSource + AllocGlobal,
-    B: Service<Job, Response = u64>,
-    B::Error: Display,
-    W: Steps<Output = ()>,
-    requires buffer { B.sound buffer }
-    requires worker { W.can_poll worker }
-    ensures { IfOk result (λ answered. W.can_poll answered.1) }
-{
-    match block_on(rt, select(buffer.oneshot(job), Polled::new(worker)))? {
-        Either::Left(both) => {
-            let (answer, worker) = both;
-            Ok((told(rt.alloc(), job.number, answer)?, worker.into_inner()))
-        }
-        Either::Right(_ended) => Err(io::Error::other("a worker is gone")),
-    }
-}
-
-fn told<E: Display + Drop>(
+fn answer_of<E: Display + Drop>(
     alloc: Global,
     number: u64,
     answer: Result<u64, E>,
@@ -161,7 +181,25 @@ fn told<E: Display + Drop>(
     }
 }
 
+// What the callers share.
+#[derive(Drop)]
+struct Desk {
+    lines: Vec<Option<Job>>,
+    taken: AtomicU64,
+    done: AtomicU64,
+    shows_progress: bool,
+}
+
 impl Desk {
+    fn new(lines: Vec<Option<Job>>, shows_progress: bool) -> Desk {
+        Desk {
+            lines,
+            taken: AtomicU64::new(0),
+            done: AtomicU64::new(0),
+            shows_progress,
+        }
+    }
+
     // The next line's place, or one where there is none.
     fn take(&self) -> usize {
         let place = self.taken.fetch_add(1, Ordering::SeqCst);
