@@ -3,12 +3,14 @@
 /// Why there is no sum.
 #[derive(Debug, Drop, thiserror::Error)]
 pub enum Fault {
-    #[error("usage: tower-bench NAME N, or tower-bench sizes")]
+    #[error("usage: tower-bench NAME N, tower-bench threads N, or tower-bench sizes")]
     Usage,
     #[error("out of memory")]
     Memory,
     #[error("cannot write")]
     CannotWrite,
+    #[error("cannot run or time the threads")]
+    CannotRun,
 }
 
 impl Fault {
@@ -18,6 +20,7 @@ impl Fault {
             Fault::Usage => 2,
             Fault::Memory => 1,
             Fault::CannotWrite => 3,
+            Fault::CannotRun => 4,
         }
     }
 }

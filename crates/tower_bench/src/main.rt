@@ -14,6 +14,7 @@ mod retries;
 mod rounds;
 mod sizes;
 mod stacks;
+mod threads;
 
 use fault::Fault;
 use futures::task::{Context, Doorbell, Solo};
@@ -23,8 +24,9 @@ use std::env;
 use std::io::{ErrorKind, Write};
 use std::process::ExitCode;
 use std::random::RandomSource;
-use std::rt::Env;
+use std::rt::{Clock, Env};
 use std::sync::Wait;
+use std::thread::Threads;
 
 fn main(rt: HostRuntime) -> ExitCode {
     match words_of(&rt).and_then(|words| run(rt, &words, rt.stdout())) {
@@ -48,9 +50,14 @@ fn words_of<R: Env + AllocGlobal>(rt: &R) -> Result<Vec<String>, Fault> {
 
 fn run<R, O>(rt: R, words: &[String], mut out: O) -> Result<(), Fault>
 where
-    R: Wait + RandomSource + AllocGlobal + Copy,
+    R: Threads + Wait + RandomSource + AllocGlobal + Clock + Copy + Send + Sync,
     O: Write + Drop,
 {
+    if let [name, number] = words
+        && name.as_str() == "threads"
+    {
+        return threads::write(rt, count_of(number.as_str())?, &mut out);
+    }
     let solo = Solo::new(&rt, Doorbell::spinning()).map_err(|_| Fault::Memory)?;
     let mut cx = solo.begin();
     let ended = match words {
@@ -75,9 +82,11 @@ where
     O: Write,
 {
     let stack = Stack::named(name).ok_or(Fault::Usage)?;
-    let Ok(count) = number.parse::<u64>() else {
-        return Err(Fault::Usage);
-    };
+    let count = count_of(number)?;
     let sum = stack.sum(rt, cx, count).map_err(|_| Fault::Memory)?;
     writeln!(out, "{name} {count} sum {sum}").map_err(|_| Fault::CannotWrite)
+}
+
+fn count_of(number: &str) -> Result<u64, Fault> {
+    number.parse().map_err(|_| Fault::Usage)
 }
