@@ -17,7 +17,7 @@ use std::thread::Threads;
 use std::time::Clock;
 use tower::buffer::Buffer;
 use tower::retry::budget::TpsBudget;
-use tower::service::SystemClock;
+use tower::service::{Steps, SystemClock};
 use tower::util::Sealed;
 use tower::{BlockOnExt, Service, ServiceBuilder};
 
@@ -58,15 +58,15 @@ where
 }
 
 // A buffer of one place before each service, whose worker is a task of one set, and a caller for each buffer.
-fn buffered<R, S, E>(
+fn buffered<R, S, F, E>(
     rt: R,
     desk: &Arc<Desk, Global>,
     services: Vec<Sealed<S, Job>>,
 ) -> io::Result<Vec<(usize, Answer)>>
 where
     R: Threads + Wait + RandomSource + AllocGlobal + Eprint + Copy + Send + Sync,
-    S: Service<Job, Response = u64, Error = E> + Send,
-    S::Future: Send,
+    S: Service<Job, Response = u64, Error = E, Future = F> + Send,
+    F: Steps<Output = Result<u64, E>> + Send + Drop,
     E: Clone + Display + Send,
     requires same { (x y : E) → E.is_clone x y → y ≡ x }
 {
@@ -141,7 +141,8 @@ where
     B::Error: Display,
 {
     fn ask(self, rt: &R) -> io::Result<Vec<(usize, Answer)>> {
-        ask(rt, &self.desk, self.buffer)
+        let Seat { desk, buffer } = self;
+        ask(rt, &desk, buffer)
     }
 }
 

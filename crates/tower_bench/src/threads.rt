@@ -142,11 +142,11 @@ where
     B: Service<u64, Response = u64>,
 {
     fn sum(self, rt: &R) -> io::Result<u64> {
-        calls(rt, self.buffer, self.count)
+        ask(rt, self.buffer, self.count)
     }
 }
 
-fn calls<R, B>(rt: &R, mut buffer: Sealed<B, u64>, count: u64) -> io::Result<u64>
+fn ask<R, B>(rt: &R, mut buffer: Sealed<B, u64>, count: u64) -> io::Result<u64>
 where
     R: Wait + RandomSource + AllocGlobal,
     B: Service<u64, Response = u64>,
