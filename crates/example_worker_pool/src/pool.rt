@@ -66,7 +66,7 @@ fn buffered<R, S, F, E>(
 where
     R: Threads + Wait + RandomSource + AllocGlobal + Eprint + Copy + Send + Sync,
     S: Service<Job, Response = u64, Error = E, Future = F> + Send,
-    F: Steps<Output = Result<u64, E>> + Send + Drop,
+    F: Steps + Send + Drop,
     E: Clone + Display + Send,
     requires same { (x y : E) → E.is_clone x y → y ≡ x }
 {
