@@ -31,17 +31,16 @@ pub fn answers<R>(
 where
     R: Threads + Wait + RandomSource + AllocGlobal + Eprint + Clock + Copy + Send + Sync,
 {
-    let alloc = rt.alloc();
-    let mut answers = Vec::new(alloc);
+    let mut answers = Vec::new(rt.alloc());
     for line in 1..=lines.len() {
         answers.push(Answer::Wrong { line })?;
     }
-    let desk = Arc::new(alloc, Desk::new(lines, shows_progress))?;
-    let mut stacks = Vec::new(alloc);
+    let desk = Arc::new(rt.alloc(), Desk::new(lines, shows_progress))?;
+    let mut stacks = Vec::new(rt.alloc());
     for _ in 0..workers {
-        let budget = TpsBudget::with_clock(rt, alloc, SystemClock::new(rt)?)?;
+        let budget = TpsBudget::with_clock(rt, rt.alloc(), SystemClock::new(rt)?)?;
         let stack = ServiceBuilder::new()
-            .concurrency_limit(rt, alloc, 1)
+            .concurrency_limit(rt, rt.alloc(), 1)
             .retry(GoesOn::new(budget))
             .service(Searcher)?;
         stacks.push(Sealed::new(stack))?;
@@ -68,13 +67,13 @@ where
     S: Service<Job, Response = u64, Error = E, Future = F> + Send,
     F: Steps + Send + Drop,
     E: Clone + Display + Send,
-    requires same { (x y : E) → E.is_clone x y → y ≡ x }
+    requires { (x y : E) → E.is_clone x y → y ≡ x }
 {
     let workers = services.len();
     let tasks = TaskSet::new(&rt, Doorbell::parking(), workers)?;
     let mut callers = Vec::new(rt.alloc());
     for service in services {
-        let (buffer, worker) = Buffer::pair(rt, rt.alloc(), service, 1)?;
+        let (buffer, worker) = Buffer::pair(rt, rt.alloc(), service.into_inner(), 1)?;
         tasks.spawn(worker)?;
         callers.push(Seat {
             desk: Arc::try_clone(desk)?,

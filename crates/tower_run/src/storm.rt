@@ -2,7 +2,6 @@
 
 use crate::fault::Fault;
 use crate::script::read_number;
-use futures::executor::block_on;
 use futures::future::Future;
 use futures::task::{Context, Poll};
 use std::alloc::{AllocError, AllocGlobal};
@@ -10,6 +9,7 @@ use std::random::RandomSource;
 use std::sync::Wait;
 use std::thread;
 use std::thread::{JoinHandle, Threads};
+use tower::util::block_on;
 use tower_base::latch::Latch;
 use tower_limit::limit::concurrency::{LineCore, Permit, PollSemaphore, Semaphore};
 
