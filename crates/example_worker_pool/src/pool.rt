@@ -1,7 +1,6 @@
 //! Buffers whose workers are tasks of one set, and threads that call.
-ghost use Rattle.std.specs.Prelude.{◌≡◌};
 
-use crate::jobs::{Answer, Job, Searcher};
+use crate::jobs::{Answer, Job, Searcher, Unfinished};
 use crate::policy::GoesOn;
 use futures::executor::TaskSet;
 use futures::future::Future;
@@ -10,8 +9,8 @@ use std::alloc::{AllocError, AllocGlobal, Global};
 use std::fmt::Display;
 use std::io::{self, Eprint};
 use std::random::RandomSource;
+use std::sync::Wait;
 use std::sync::atomic::{AtomicU64, Ordering};
-use std::sync::{Arc, Wait};
 use std::thread;
 use std::thread::Threads;
 use std::time::Clock;
@@ -35,7 +34,12 @@ where
     for line in 1..=lines.len() {
         answers.push(Answer::Wrong { line })?;
     }
-    let desk = Arc::new(rt.alloc(), Desk::new(lines, shows_progress))?;
+    let desk = Desk {
+        lines,
+        taken: AtomicU64::new(0),
+        done: AtomicU64::new(0),
+        shows_progress,
+    };
     let mut stacks = Vec::new(rt.alloc());
     for _ in 0..workers {
         let budget = TpsBudget::with_clock(rt, rt.alloc(), SystemClock::new(rt)?)?;
@@ -56,92 +60,119 @@ where
     Ok(answers)
 }
 
-// A buffer of one place before each service, whose worker is a task of one set, and a caller for each buffer.
-fn buffered<R, S, F, E>(
+// What the callers share.
+#[derive(Drop)]
+struct Desk {
+    lines: Vec<Option<Job>>,
+    taken: AtomicU64,
+    done: AtomicU64,
+    shows_progress: bool,
+}
+
+// A buffer of one place before each stack. It moves buffers and workers on and drops none: a drop at a type that has a
+// parameter isn't covered by the check.
+fn buffered<R, S, F>(
     rt: R,
-    desk: &Arc<Desk, Global>,
-    services: Vec<Sealed<S, Job>>,
+    desk: &Desk,
+    stacks: Vec<Sealed<S, Job>>,
 ) -> io::Result<Vec<(usize, Answer)>>
 where
     R: Threads + Wait + RandomSource + AllocGlobal + Eprint + Copy + Send + Sync,
-    S: Service<Job, Response = u64, Error = E, Future = F> + Send,
+    S: Service<Job, Response = u64, Error = Unfinished, Future = F> + Send,
     F: Steps + Send + Drop,
-    E: Clone + Display + Send,
-    requires { (x y : E) → E.is_clone x y → y ≡ x }
 {
-    let workers = services.len();
-    let tasks = TaskSet::new(&rt, Doorbell::parking(), workers)?;
-    let mut callers = Vec::new(rt.alloc());
-    for service in services {
-        let (buffer, worker) = Buffer::pair(rt, rt.alloc(), service.into_inner(), 1)?;
-        tasks.spawn(worker)?;
-        callers.push(Seat {
-            desk: Arc::try_clone(desk)?,
-            buffer: Sealed::new(buffer),
-        })?;
-    }
-    run(&rt, callers, &tasks, workers)
-}
-
-// Each caller has a thread, and so many threads work at the tasks.
-fn run<R, C, W>(
-    rt: &R,
-    callers: Vec<C>,
-    tasks: &TaskSet<W>,
-    workers: usize,
-) -> io::Result<Vec<(usize, Answer)>>
-where
-    R: Threads + Wait + RandomSource + AllocGlobal + Send + Sync,
-    C: Caller<R> + Send,
-    W: Future<Output = ()> + Send + Drop,
-{
-    let (told, _) = thread::join(
-        rt,
-        || call_all(rt, callers),
-        || thread::map_indices(rt, rt.alloc(), workers, &|worker| tasks.work(rt, worker)),
-    );
-    let mut all = Vec::new(rt.alloc());
-    for told in told? {
-        for answer in told? {
-            all.push(answer)?;
+    let mut crew = Crew::new(&rt, stacks.len())?;
+    for stack in stacks {
+        match Buffer::pair(rt, rt.alloc(), stack.into_inner(), 1) {
+            Ok((buffer, worker)) => crew.add(Sealed::new(buffer), worker),
+            Err(AllocError) => crew.lacks_memory = true,
         }
     }
-    Ok(all)
+    crew.run(&rt, desk)
+}
+
+// Who calls, and the set that has the workers of their buffers.
+#[derive(Drop)]
+struct Crew<C, W: Future<Output = ()>> {
+    callers: Vec<C>,
+    workers: TaskSet<W>,
+    lacks_memory: bool,
+}
+
+impl<C: Drop, W: Future<Output = ()> + Drop> Crew<C, W> {
+    fn new<R: RandomSource + AllocGlobal>(rt: &R, threads: usize) -> io::Result<Crew<C, W>> {
+        Ok(Crew {
+            callers: Vec::new(rt.alloc()),
+            workers: TaskSet::new(rt, Doorbell::parking(), threads)?,
+            lacks_memory: false,
+        })
+    }
+
+    fn add(&mut self, caller: C, worker: W)
+        requires { W.can_poll worker }
+    {
+        if self.workers.spawn(worker).is_err() || self.callers.push(caller).is_err() {
+            self.lacks_memory = true;
+        }
+    }
+
+    // Each caller has a thread, and as many threads work at the tasks.
+    fn run<R>(self, rt: &R, desk: &Desk) -> io::Result<Vec<(usize, Answer)>>
+    where
+        R: Threads + Wait + RandomSource + AllocGlobal + Send + Sync,
+        C: Caller<R> + Send,
+        W: Send,
+    {
+        let Crew {
+            callers,
+            workers,
+            lacks_memory,
+        } = self;
+        if lacks_memory {
+            return Err(AllocError.into());
+        }
+        let threads = callers.len();
+        let (told, _) = thread::join(
+            rt,
+            || call_all(rt, desk, callers),
+            || thread::map_indices(rt, rt.alloc(), threads, &|thread| workers.work(rt, thread)),
+        );
+        let mut all = Vec::new(rt.alloc());
+        for told in told? {
+            for answer in told? {
+                all.push(answer)?;
+            }
+        }
+        Ok(all)
+    }
 }
 
 fn call_all<R, C>(
     rt: &R,
+    desk: &Desk,
     callers: Vec<C>,
 ) -> Result<Vec<io::Result<Vec<(usize, Answer)>>>, AllocError>
 where
     R: Threads + Sync,
     C: Caller<R> + Send,
 {
-    thread::map_vec(rt, callers, &|caller| caller.ask(rt))
+    thread::map_vec(rt, callers, &|caller| caller.ask(rt, desk))
 }
 
-// What a thread does that calls. (A thread's closure calls nothing yet whose type is some service.)
+// What a thread does that calls. Its closure calls this trait, since the check covers none that calls any service.
 trait Caller<R>: Drop {
     // Each line's place with its answer.
-    fn ask(self, rt: &R) -> io::Result<Vec<(usize, Answer)>>;
+    fn ask(self, rt: &R, desk: &Desk) -> io::Result<Vec<(usize, Answer)>>;
 }
 
-// A caller at the desk.
-#[derive(Drop)]
-struct Seat<B: Service<Job>> {
-    desk: Arc<Desk, Global>,
-    buffer: Sealed<B, Job>,
-}
-
-impl<R, B> Caller<R> for Seat<B>
+impl<R, B> Caller<R> for Sealed<B, Job>
 where
     R: Wait + RandomSource + AllocGlobal + Eprint,
     B: Service<Job, Response = u64>,
     B::Error: Display,
 {
-    fn ask(self, rt: &R) -> io::Result<Vec<(usize, Answer)>> {
-        let Seat { desk, buffer } = self;
-        ask(rt, &desk, buffer)
+    fn ask(self, rt: &R, desk: &Desk) -> io::Result<Vec<(usize, Answer)>> {
+        ask(rt, desk, self)
     }
 }
 
@@ -181,25 +212,7 @@ fn answer_of<E: Display + Drop>(
     }
 }
 
-// What the callers share.
-#[derive(Drop)]
-struct Desk {
-    lines: Vec<Option<Job>>,
-    taken: AtomicU64,
-    done: AtomicU64,
-    shows_progress: bool,
-}
-
 impl Desk {
-    fn new(lines: Vec<Option<Job>>, shows_progress: bool) -> Desk {
-        Desk {
-            lines,
-            taken: AtomicU64::new(0),
-            done: AtomicU64::new(0),
-            shows_progress,
-        }
-    }
-
     // The next line's place, or one where there is none.
     fn take(&self) -> usize {
         let place = self.taken.fetch_add(1, Ordering::SeqCst);

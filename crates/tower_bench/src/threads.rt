@@ -5,7 +5,7 @@ use crate::inner::Echo;
 use futures::executor::TaskSet;
 use futures::future::Future;
 use futures::task::Doorbell;
-use std::alloc::{AllocError, AllocGlobal};
+use std::alloc::{AllocError, AllocGlobal, Global};
 use std::io::Write;
 use std::random::RandomSource;
 use std::rt::Clock;
@@ -54,8 +54,12 @@ where
     R: Threads + Wait + RandomSource + AllocGlobal + Sync,
 {
     let lock = Mutex::new(Echo);
+    sum_of(thread::map_indices(rt, rt.alloc(), CALLERS, &|_| hold(rt, &lock, each))?)
+}
+
+fn sum_of(made: Vec<io::Result<u64>>) -> io::Result<u64> {
     let mut sum = 0u64;
-    for made in thread::map_indices(rt, rt.alloc(), CALLERS, &|_| hold(rt, &lock, each))? {
+    for made in made {
         sum = sum.wrapping_add(made?);
     }
     Ok(sum)
@@ -76,43 +80,82 @@ where
     Ok(sum)
 }
 
-// So many buffers, each with so many callers, and a thread for each worker.
+// So many buffers, each with so many callers, and a thread for each worker. It drops no buffer and no worker: a drop at a
+// type that has a parameter isn't covered by the check.
 fn buffered<R>(rt: R, buffers: usize, shares: usize, each: u64) -> io::Result<u64>
 where
     R: Threads + Wait + RandomSource + AllocGlobal + Copy + Send + Sync,
 {
-    let tasks = TaskSet::new(&rt, Doorbell::parking(), buffers)?;
-    let mut callers = Vec::new(rt.alloc());
+    let mut crew = Crew {
+        callers: Vec::new(rt.alloc()),
+        workers: TaskSet::new(&rt, Doorbell::parking(), buffers)?,
+    };
     for _ in 0..buffers {
-        let (buffer, worker) = Buffer::pair(rt, rt.alloc(), Echo, 64)?;
-        tasks.spawn(worker)?;
-        for _ in 0..shares {
-            callers.push(Calls {
-                buffer: Sealed::new(buffer.clone()?),
-                count: each,
-            })?;
+        if let Ok((buffer, worker)) = Buffer::pair(rt, rt.alloc(), Echo, 64) {
+            crew.add(callers(rt.alloc(), buffer, shares, each), worker);
         }
     }
-    run(&rt, callers, &tasks, buffers)
+    crew.run(&rt, buffers)
 }
 
-// Each caller has a thread, and so many threads work at the tasks.
-fn run<R, C, W>(rt: &R, callers: Vec<C>, tasks: &TaskSet<W>, workers: usize) -> io::Result<u64>
+// So many clones of a buffer, with so many calls each.
+fn callers<B>(
+    alloc: Global,
+    buffer: B,
+    shares: usize,
+    each: u64,
+) -> Result<Vec<Calls<B>>, AllocError>
 where
-    R: Threads + Wait + RandomSource + AllocGlobal + Send + Sync,
-    C: Caller<R> + Send,
-    W: Future<Output = ()> + Send + Drop,
+    B: Service<u64, Response = u64> + Clone,
+    requires buffer { B.sound buffer }
+    requires clones { (x y : B) → B.is_clone x y → B.sound x → B.sound y }
 {
-    let (made, _) = thread::join(
-        rt,
-        || call_all(rt, callers),
-        || thread::map_indices(rt, rt.alloc(), workers, &|worker| tasks.work(rt, worker)),
-    );
-    let mut sum = 0u64;
-    for made in made? {
-        sum = sum.wrapping_add(made?);
+    let mut callers = Vec::new(alloc);
+    for _ in 0..shares {
+        callers.push(Calls {
+            buffer: Sealed::new(buffer.clone()?),
+            count: each,
+        })?;
     }
-    Ok(sum)
+    Ok(callers)
+}
+
+// Who calls, and the set that has the workers of their buffers. If memory ran out, there are fewer callers.
+#[derive(Drop)]
+struct Crew<C, W: Future<Output = ()>> {
+    callers: Vec<C>,
+    workers: TaskSet<W>,
+}
+
+impl<C: Drop, W: Future<Output = ()> + Drop> Crew<C, W> {
+    fn add(&mut self, callers: Result<Vec<C>, AllocError>, worker: W)
+        requires { W.can_poll worker }
+    {
+        if let Ok(mut callers) = callers
+            && self.workers.spawn(worker).is_ok()
+        {
+            let _ = self.callers.append(&mut callers);
+        }
+    }
+
+    // Each caller has a thread, and so has each worker. It returns the sum of the responses.
+    fn run<R>(self, rt: &R, threads: usize) -> io::Result<u64>
+    where
+        R: Threads + Wait + RandomSource + AllocGlobal + Send + Sync,
+        C: Caller<R> + Send,
+        W: Send,
+    {
+        let Crew { callers, workers } = self;
+        if callers.len() < CALLERS {
+            return Err(AllocError.into());
+        }
+        let (made, _) = thread::join(
+            rt,
+            || call_all(rt, callers),
+            || thread::map_indices(rt, rt.alloc(), threads, &|thread| workers.work(rt, thread)),
+        );
+        sum_of(made?)
+    }
 }
 
 fn call_all<R, C>(rt: &R, callers: Vec<C>) -> Result<Vec<io::Result<u64>>, AllocError>
@@ -123,7 +166,7 @@ where
     thread::map_vec(rt, callers, &|caller| caller.sum(rt))
 }
 
-// What a thread does that calls. (A thread's closure calls nothing yet whose type is some service.)
+// What a thread does that calls. Its closure calls this trait, since the check covers none that calls any service.
 trait Caller<R>: Drop {
     // The sum of its responses.
     fn sum(self, rt: &R) -> io::Result<u64>;
@@ -142,7 +185,8 @@ where
     B: Service<u64, Response = u64>,
 {
     fn sum(self, rt: &R) -> io::Result<u64> {
-        ask(rt, self.buffer, self.count)
+        let Calls { buffer, count } = self;
+        ask(rt, buffer, count)
     }
 }
 

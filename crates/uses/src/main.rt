@@ -11,6 +11,7 @@ mod latch;
 mod load;
 mod load_shed;
 mod make;
+mod queue;
 mod ready_cache;
 mod reconnect;
 mod select;
@@ -49,6 +50,7 @@ fn main(rt: HostRuntime) -> io::Result<()> {
     ready_cache::call_by_key(rt)?;
     balance::make_a_pool(rt)?;
     buffer::call_beside_the_worker(rt)?;
+    queue::send_jobs(rt)?;
     spawn_ready::warm_up(rt)?;
     select::ask_a_backup(rt)?;
     hedge::ask_again(rt)?;
