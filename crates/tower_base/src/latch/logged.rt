@@ -3,16 +3,16 @@ ghost use Rattle.std.specs.Prelude.{◌≡◌, ◌≢◌, ℕ, ◌<◌, List, []
 ghost use Rattle.std.specs.List.{sum_by, AllByRecursion};
 ghost use Rattle.tower_base.specs.History.{IsLegal, EachFits, HaveOneEach, Weighs};
 
-mod held;
 mod log;
+mod passes;
 mod rule;
 mod tokens;
 
 use crate::latch::Core;
-use crate::latch::logged::held::Held;
+use crate::latch::logged::passes::Held;
 use crate::latch::logged::rule::Cell;
-pub use held::{Pass, Receipt};
 pub use log::{Log, LogTable};
+pub use passes::{Pass, Receipt};
 use std::alloc::{AllocError, Global};
 use std::marker::{Model, PhantomData};
 use std::sync::ledger::{Blank, Ledger};
