@@ -62,9 +62,9 @@ RateLimit::new                scripted_limit/data/rate_limit.script    rate_limi
 drive_within_rate             tests_limit/src/driven.rt                drive_within_rate(
 RateLimitLayer::layer RateLimitLayer::clone  scripted_limit/data/rate_limit.script  rate_limit 2 10 layer
 HistoCore::step               tests_refused/src/histogram.rt           fn ample_latency
-RotatingHistogram::new        tests_hedge/src/histogram.rt             RotatingHistogram::new(
-RotatingHistogram::clone      tests_hedge/src/histogram.rt             histogram.clone()?
-PendingRequests::new          tests_load/src/pending_requests.rt       PendingRequests::new(
+RotatingHistogram::new        tests_retry/src/histogram.rt             RotatingHistogram::new(
+RotatingHistogram::clone      tests_retry/src/histogram.rt             histogram.clone()?
+PendingRequests::new          tests_limit/src/pending_requests.rt       PendingRequests::new(
 PendingRequests::call         scripted_balance/data/load.script        latch shared; latch stepped Take; s called 1
 PendingRequestsDiscover::poll_discover  tests_refused/src/load.rt      fn ample_counts
 TpsBudget::new                scripted_retry/data/budget.script        budget 
