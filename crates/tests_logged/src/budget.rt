@@ -2,7 +2,7 @@
 ghost use Rattle.std.specs.Prelude.{◌≡◌, Some};
 ghost use Rattle.tower_retry.specs.BudgetCore.{Opens};
 
-use crate::fixtures::{compare, told};
+use crate::run::{Run, ended, last_apart};
 use std::alloc::{AllocError, Global};
 use std::marker::Brand;
 use std::process::Abort;
@@ -19,7 +19,7 @@ const MADE: u64 = 7;
 
 const TAKES: u32 = 1000;
 
-fn takes<K: Log<BudgetCore>, R: Wait + Drop>(
+fn withdraw_all<K: Log<BudgetCore>, R: Wait + Drop>(
     log: &Logged<BudgetCore, K, R>,
     mut pass: Pass<BudgetCore, K>,
 ) -> Result<Pass<BudgetCore, K>, AllocError> {
@@ -48,16 +48,14 @@ fn replay(alloc: Global, entries: &[(BudgetStep, BudgetReply)]) -> Result<usize,
     Ok(amounts.len())
 }
 
-#[test]
-fn eight_threads_one_budget(rt: HostRuntime) -> Result<(), Fail> {
-    let alloc = rt.alloc();
-    let table = LogTable::new(alloc)?;
-    let part = Fraction {
-        numerator: 1,
-        divisor: 5,
-    };
-    let budget = BudgetCore::new(alloc, 10_000_000_000, 10, part, MADE)?;
-    one_budget::<Brand, _>(rt, alloc, Blank::new(8), table, budget)
+// 8,000 withdrawals, of which 100 were made.
+fn hundred_made(alloc: Global, entries: &[(BudgetStep, BudgetReply)]) -> Result<(), Fail> {
+    let made = BudgetReply::Allowed(true);
+    let allowed = entries.iter().filter(|entry| entry.1 == made).count();
+    if (entries.len(), replay(alloc, entries)?, allowed) != (8000, 100, 100) {
+        return Err("not a hundred of 8,000".into());
+    }
+    Ok(())
 }
 
 fn one_budget<K: Log<BudgetCore> + Send + Sync, R: Threads + Wait + Abort + Copy + Send + Sync>(
@@ -66,27 +64,29 @@ fn one_budget<K: Log<BudgetCore> + Send + Sync, R: Threads + Wait + Abort + Copy
     blank: Blank,
     table: LogTable<BudgetStep, BudgetReply>,
     budget: BudgetCore,
-) -> Result<(), Fail>
+) -> Result<Run<BudgetStep, BudgetReply>, Fail>
     requires name { blank.name ≡ K.name }
-    requires parts { (blank.parts ≡ K.parts) × (blank.parts ≡ 8) }
+    requires parts { (blank.parts ≡ K.parts) × (blank.parts ≡ 9) }
     requires opening { K.opening ≡ Some budget }
     requires opens { Opens budget }
     requires table { table ≡ K.table }
 {
-    let (log, passes) = Logged::<BudgetCore, K, R>::open(rt, alloc, blank, table, budget, 8)?;
+    let (log, passes) = Logged::<BudgetCore, K, R>::open(rt, alloc, blank, table, budget, 9)?;
+    let (last, passes) = last_apart(alloc, passes)?;
     let shared = &log;
-    let mut back = Vec::new(alloc);
-    for pass in thread::map_vec(&rt, passes, &|pass| takes(shared, pass))? {
-        back.push(pass?)?;
-    }
-    let receipts = told(alloc, &back)?;
-    let history = log.close(back).map_err(|_| "a pass is missing")?;
-    let entries = history.entries();
-    assert_eq!(rt; entries.len(), 8000);
-    compare(alloc, entries, &receipts)?;
-    assert_eq!(rt; replay(alloc, entries)?, 100);
-    let made = BudgetReply::Allowed(true);
-    let allowed = entries.iter().filter(|entry| entry.1 == made).count();
-    assert_eq!(rt; allowed, 100);
-    Ok(())
+    let answers = thread::map_vec(&rt, passes, &|(_number, pass)| withdraw_all(shared, pass))?;
+    ended(alloc, log, answers, last, None)
+}
+
+#[test]
+fn eight_threads_one_budget(rt: HostRuntime) -> Result<(), Fail> {
+    let alloc = rt.alloc();
+    let part = Fraction {
+        numerator: 1,
+        divisor: 5,
+    };
+    let budget = BudgetCore::new(alloc, 10_000_000_000, 10, part, MADE)?;
+    let table = LogTable::new(alloc)?;
+    let run = one_budget::<Brand, _>(rt, alloc, Blank::new(9), table, budget)?;
+    hundred_made(alloc, run.history.entries())
 }

@@ -2,7 +2,7 @@
 ghost use Rattle.std.specs.Prelude.{◌≡◌, Some};
 ghost use Rattle.tower_limit.specs.CountCore.{Opens};
 
-use crate::fixtures::{compare, told};
+use crate::run::{Run, ended, last_apart};
 use std::alloc::{AllocError, Global};
 use std::marker::Brand;
 use std::process::Abort;
@@ -16,7 +16,7 @@ use tower_limit::load::pending_requests::{CountCore, CountReply, CountStep};
 
 const ROUNDS: u32 = 500;
 
-fn rounds<K: Log<CountCore>, R: Wait + Drop>(
+fn take_and_give<K: Log<CountCore>, R: Wait + Drop>(
     log: &Logged<CountCore, K, R>,
     mut pass: Pass<CountCore, K>,
 ) -> Result<Pass<CountCore, K>, AllocError> {
@@ -47,11 +47,13 @@ fn replay(alloc: Global, entries: &[(CountStep, CountReply)]) -> Result<usize, F
     Ok(holders.len())
 }
 
-#[test]
-fn eight_threads_one_count(rt: HostRuntime) -> Result<(), Fail> {
-    let alloc = rt.alloc();
-    let table = LogTable::new(alloc)?;
-    one_count::<Brand, _>(rt, alloc, Blank::new(9), table, CountCore::new())
+// Nobody holds a part after 8,000 steps, and the last step's reply says so.
+fn none_is_left(alloc: Global, entries: &[(CountStep, CountReply)]) -> Result<(), Fail> {
+    let is_told = entries.get(8000) == Some(&(CountStep::Load, CountReply::Count(0)));
+    if (entries.len(), replay(alloc, entries)?, is_told) != (8001, 0, true) {
+        return Err("a part is left".into());
+    }
+    Ok(())
 }
 
 fn one_count<K: Log<CountCore> + Send + Sync, R: Threads + Wait + Abort + Copy + Send + Sync>(
@@ -60,28 +62,24 @@ fn one_count<K: Log<CountCore> + Send + Sync, R: Threads + Wait + Abort + Copy +
     blank: Blank,
     table: LogTable<CountStep, CountReply>,
     count: CountCore,
-) -> Result<(), Fail>
+) -> Result<Run<CountStep, CountReply>, Fail>
     requires name { blank.name ≡ K.name }
     requires parts { (blank.parts ≡ K.parts) × (blank.parts ≡ 9) }
     requires opening { K.opening ≡ Some count }
     requires opens { Opens count }
     requires table { table ≡ K.table }
 {
-    let (log, mut passes) = Logged::<CountCore, K, R>::open(rt, alloc, blank, table, count, 9)?;
-    let mut last = passes.pop().ok_or("a pass")?;
+    let (log, passes) = Logged::<CountCore, K, R>::open(rt, alloc, blank, table, count, 9)?;
+    let (last, passes) = last_apart(alloc, passes)?;
     let shared = &log;
-    let mut back = Vec::new(alloc);
-    for pass in thread::map_vec(&rt, passes, &|pass| rounds(shared, pass))? {
-        back.push(pass?)?;
-    }
-    let load = log.step(&mut last, CountStep::Load)?;
-    assert_eq!(rt; (load.place, load.reply), (8000, CountReply::Count(0)));
-    back.push(last)?;
-    let receipts = told(alloc, &back)?;
-    let history = log.close(back).map_err(|_| "a pass is missing")?;
-    let entries = history.entries();
-    assert_eq!(rt; entries.len(), 8001);
-    compare(alloc, entries, &receipts)?;
-    assert_eq!(rt; replay(alloc, entries)?, 0);
-    Ok(())
+    let answers = thread::map_vec(&rt, passes, &|(_number, pass)| take_and_give(shared, pass))?;
+    ended(alloc, log, answers, last, Some(CountStep::Load))
+}
+
+#[test]
+fn eight_threads_one_count(rt: HostRuntime) -> Result<(), Fail> {
+    let alloc = rt.alloc();
+    let table = LogTable::new(alloc)?;
+    let run = one_count::<Brand, _>(rt, alloc, Blank::new(9), table, CountCore::new())?;
+    none_is_left(alloc, run.history.entries())
 }

@@ -2,7 +2,8 @@
 ghost use Rattle.std.specs.Prelude.{◌≡◌, Some};
 ghost use Rattle.tower.specs.declared.spawn_ready.slot_core.Slot.{Slot as SlotCase};
 
-use crate::fixtures::{LOOKS, compare, rest, told};
+use crate::fixtures::{LOOKS, rest};
+use crate::run::{Run, ended, last_apart};
 use futures::future::{Ready, ready};
 use futures::task::{Context, Poll};
 use std::alloc::{AllocError, Global};
@@ -178,43 +179,34 @@ fn each_in_order(came: &[u64]) -> Result<(), Fail> {
     Ok(())
 }
 
-#[test]
-fn eight_threads_one_slot(rt: HostRuntime) -> Result<(), Fail> {
-    let alloc = rt.alloc();
-    let table = LogTable::new(alloc)?;
-    one_slot::<Brand, _>(rt, alloc, Blank::new(8), table, Slot::new())
-}
-
 fn one_slot<K: Log<Slot> + Send + Sync, R: Threads + Clock + Wait + Abort + Copy + Send + Sync>(
     rt: R,
     alloc: Global,
     blank: Blank,
     table: LogTable<Step, Reply>,
     slot: Slot,
-) -> Result<(), Fail>
+) -> Result<Run<Step, Reply>, Fail>
     requires name { blank.name ≡ K.name }
-    requires parts { (blank.parts ≡ K.parts) × (blank.parts ≡ 8) }
+    requires parts { (blank.parts ≡ K.parts) × (blank.parts ≡ 9) }
     requires opening { K.opening ≡ Some slot }
     requires opens { slot ≡ SlotCase.Idle }
     requires table { table ≡ K.table }
 {
-    let (log, passes) = Logged::<Slot, K, R>::open(rt, alloc, blank, table, slot, 8)?;
-    let mut parts = Vec::new(alloc);
-    for (thread, pass) in passes.into_iter().enumerate() {
-        parts.push((thread as u64, pass))?;
-    }
+    let (log, passes) = Logged::<Slot, K, R>::open(rt, alloc, blank, table, slot, 9)?;
+    let (last, passes) = last_apart(alloc, passes)?;
     let shared = &log;
-    let mut back = Vec::new(alloc);
-    for pass in thread::map_vec(
+    let answers = thread::map_vec(
         &rt,
-        parts,
+        passes,
         &|(thread, pass)| side(&rt, shared, thread, pass),
-    )? {
-        back.push(pass?)?;
-    }
-    let receipts = told(alloc, &back)?;
-    let history = log.close(back).map_err(|_| "a pass is missing")?;
-    let entries = history.entries();
-    compare(alloc, entries, &receipts)?;
-    each_in_order(replay(alloc, entries)?.as_slice())
+    )?;
+    ended(alloc, log, answers, last, None)
+}
+
+#[test]
+fn eight_threads_one_slot(rt: HostRuntime) -> Result<(), Fail> {
+    let alloc = rt.alloc();
+    let table = LogTable::new(alloc)?;
+    let run = one_slot::<Brand, _>(rt, alloc, Blank::new(9), table, Slot::new())?;
+    each_in_order(replay(alloc, run.history.entries())?.as_slice())
 }

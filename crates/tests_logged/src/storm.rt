@@ -2,8 +2,9 @@
 ghost use Rattle.std.specs.Prelude.{◌≡◌, Some};
 ghost use Rattle.tower_limit.specs.LineCore.{Opens};
 
-use crate::fixtures::{LOOKS, compare, rest, told};
+use crate::fixtures::{LOOKS, rest};
 use crate::plain_line::PlainLine;
+use crate::run::{Run, ended, last_apart};
 use std::alloc::{AllocError, Global};
 use std::marker::Brand;
 use std::process::Abort;
@@ -41,7 +42,7 @@ fn round<K: Log<LineCore>, R: Clock + Wait + Drop>(
 }
 
 // All rounds, or those before the first that gave up.
-fn rounds<K: Log<LineCore>, R: Clock + Wait + Drop>(
+fn all_rounds<K: Log<LineCore>, R: Clock + Wait + Drop>(
     rt: &R,
     log: &Logged<LineCore, K, R>,
     mut pass: Pass<LineCore, K>,
@@ -71,12 +72,14 @@ fn granted(entries: &[(LineStep, LineReply)]) -> Result<u32, Fail> {
     Ok(granted)
 }
 
-#[test]
-fn eight_threads_three_permits(rt: HostRuntime) -> Result<(), Fail> {
-    let alloc = rt.alloc();
-    let table = LogTable::new(alloc)?;
-    let line = LineCore::new(alloc, 3);
-    three_permits::<Brand, _>(rt, alloc, Blank::new(9), table, line)
+// Each thread got a permit in each round, and all are free in the end.
+fn all_came(alloc: Global, entries: &[(LineStep, LineReply)]) -> Result<(), Fail> {
+    let is_told = entries.last() == Some(&(LineStep::Free, LineReply::Count(3)));
+    let free = PlainLine::replay(alloc, 3, entries)?.free();
+    if (is_told, free, granted(entries)?) != (true, 3, 8 * ROUNDS) {
+        return Err("a permit is held, or wasn't got".into());
+    }
+    Ok(())
 }
 
 fn three_permits<
@@ -88,29 +91,28 @@ fn three_permits<
     blank: Blank,
     table: LogTable<LineStep, LineReply>,
     line: LineCore,
-) -> Result<(), Fail>
+) -> Result<Run<LineStep, LineReply>, Fail>
     requires name { blank.name ≡ K.name }
     requires parts { (blank.parts ≡ K.parts) × (blank.parts ≡ 9) }
     requires opening { K.opening ≡ Some line }
     requires opens { Opens line }
     requires table { table ≡ K.table }
 {
-    let (log, mut passes) = Logged::<LineCore, K, R>::open(rt, alloc, blank, table, line, 9)?;
-    let mut last = passes.pop().ok_or("a pass")?;
+    let (log, passes) = Logged::<LineCore, K, R>::open(rt, alloc, blank, table, line, 9)?;
+    let (last, passes) = last_apart(alloc, passes)?;
     let shared = &log;
-    let mut back = Vec::new(alloc);
-    for pass in thread::map_vec(&rt, passes, &|pass| rounds(&rt, shared, pass))? {
-        back.push(pass?)?;
-    }
-    let free = log.step(&mut last, LineStep::Free)?;
-    assert_eq!(rt; free.reply, LineReply::Count(3));
-    back.push(last)?;
-    let receipts = told(alloc, &back)?;
-    let history = log.close(back).map_err(|_| "a pass is missing")?;
-    let entries = history.entries();
-    compare(alloc, entries, &receipts)?;
-    let line = PlainLine::replay(alloc, 3, entries)?;
-    assert_eq!(rt; line.free(), 3);
-    assert_eq!(rt; granted(entries)?, 8 * ROUNDS);
-    Ok(())
+    let answers = thread::map_vec(
+        &rt,
+        passes,
+        &|(_number, pass)| all_rounds(&rt, shared, pass),
+    )?;
+    ended(alloc, log, answers, last, Some(LineStep::Free))
+}
+
+#[test]
+fn eight_threads_three_permits(rt: HostRuntime) -> Result<(), Fail> {
+    let alloc = rt.alloc();
+    let table = LogTable::new(alloc)?;
+    let run = three_permits::<Brand, _>(rt, alloc, Blank::new(9), table, LineCore::new(alloc, 3))?;
+    all_came(alloc, run.history.entries())
 }
