@@ -14,7 +14,7 @@ type Reply<'a> = Result<Word<'a>, Word<'a>>;
 
 /// What the script and the scripted service share.
 #[derive(Drop)]
-pub struct Stage<'a> {
+pub struct State<'a> {
     moment: Cell<u64>,
     grants: Cell<Grants>,
     polls: Cell<u64>,
@@ -38,15 +38,15 @@ pub enum Turned {
     Skipped,
 }
 
-impl<'a> Stage<'a> {
+impl<'a> State<'a> {
     /// The clock stands at 0, and the grants have no limit. There is room for so many inner calls.
-    pub fn new(alloc: Global, calls: usize) -> Result<Stage<'a>, AllocError> {
+    pub fn new(alloc: Global, calls: usize) -> Result<State<'a>, AllocError> {
         let mut answers = Vec::with_capacity(alloc, calls)?;
         for _ in 0..calls {
             let unanswered: Cell<Option<Reply<'a>>> = Cell::new(None);
             answers.push(unanswered)?;
         }
-        Ok(Stage {
+        Ok(State {
             moment: Cell::new(0),
             grants: Cell::new(Grants::Unlimited),
             polls: Cell::new(0),
@@ -154,14 +154,14 @@ impl Clock for ScriptedClock<'_> {
 /// The inner service of a script.
 #[derive(Drop)]
 pub struct Scripted<'s, 'a> {
-    stage: &'s Stage<'a>,
+    state: &'s State<'a>,
     has_grant: bool,
 }
 
 impl<'s, 'a> Scripted<'s, 'a> {
-    pub fn new(stage: &'s Stage<'a>) -> Scripted<'s, 'a> {
+    pub fn new(state: &'s State<'a>) -> Scripted<'s, 'a> {
         Scripted {
-            stage,
+            state,
             has_grant: false,
         }
     }
@@ -183,10 +183,10 @@ impl<'s, 'a> Service<Word<'a>> for Scripted<'s, 'a> {
     ghost readies = { λ old new p. p refl };
 
     fn poll_ready(&mut self, cx: &mut Context<'_>) -> Poll<Result<(), Word<'a>>> {
-        let polls = &self.stage.polls;
+        let polls = &self.state.polls;
         polls.set(polls.get().saturating_add(1));
         if !self.has_grant {
-            self.has_grant = self.stage.take_grant();
+            self.has_grant = self.state.take_grant();
         }
         if self.has_grant {
             return Poll::Ready(Ok(()));
@@ -196,11 +196,11 @@ impl<'s, 'a> Service<Word<'a>> for Scripted<'s, 'a> {
 
     fn call(&mut self, _request: Word<'a>) -> Answer<'s, 'a> {
         self.has_grant = false;
-        let calls = &self.stage.calls;
+        let calls = &self.state.calls;
         let index = calls.get();
         calls.set(index.saturating_add(1));
         Answer {
-            stage: self.stage,
+            state: self.state,
             index,
         }
     }
@@ -209,7 +209,7 @@ impl<'s, 'a> Service<Word<'a>> for Scripted<'s, 'a> {
 /// The answer that the script gives to one inner call.
 #[derive(Drop)]
 pub struct Answer<'s, 'a> {
-    stage: &'s Stage<'a>,
+    state: &'s State<'a>,
     index: usize,
 }
 
@@ -231,7 +231,7 @@ impl<'a> Steps for Answer<'_, 'a> {
     ghost stepped = { λ _ _ _. ⊤ };
 
     fn step(&mut self, cx: &mut Context<'_>) -> Poll<Self::Output> {
-        if let Some(answer) = self.stage.answer_to(self.index) {
+        if let Some(answer) = self.state.answer_to(self.index) {
             return Poll::Ready(answer);
         }
         cx.yield_now()

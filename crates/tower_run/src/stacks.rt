@@ -2,7 +2,7 @@
 
 use crate::refusal::Refusal;
 use crate::script::{Command, Word};
-use crate::scripted::{Scripted, Stage};
+use crate::scripted::{Scripted, State};
 use crate::transcript;
 use futures::task::{Doorbell, Solo};
 use std::alloc::{AllocError, AllocGlobal, Global};
@@ -55,23 +55,23 @@ impl Stack {
         let calls = commands
             .iter()
             .filter(|command| matches!(command, Event::Call(_)));
-        let stage = Stage::new(alloc, calls.count())?;
+        let state = State::new(alloc, calls.count())?;
         match self {
-            Stack::Timeout => timed(alloc, &stage, commands),
-            Stack::Rate => rated(alloc, &stage, commands),
-            Stack::Limit => limited(rt, alloc, &stage, commands),
+            Stack::Timeout => timed(alloc, &state, commands),
+            Stack::Rate => rated(alloc, &state, commands),
+            Stack::Limit => limited(rt, alloc, &state, commands),
             Stack::Shed => perform(
                 alloc,
-                &stage,
-                LoadShed::new(Scripted::new(&stage)),
+                &state,
+                LoadShed::new(Scripted::new(&state)),
                 commands,
             ),
             Stack::All => layered(
                 rt,
                 alloc,
-                &stage,
-                Scripted::new(&stage),
-                stage.clock(),
+                &state,
+                Scripted::new(&state),
+                state.clock(),
                 commands,
             ),
         }
@@ -81,40 +81,40 @@ impl Stack {
 // Under `Timeout` 10.
 fn timed<'a>(
     alloc: Global,
-    stage: &Stage<'a>,
+    state: &State<'a>,
     commands: Vec<Command<'a>>,
 ) -> Result<String, AllocError> {
-    let service = Timeout::new(Scripted::new(stage), 10, stage.clock());
-    perform(alloc, stage, service, commands)
+    let service = Timeout::new(Scripted::new(state), 10, state.clock());
+    perform(alloc, state, service, commands)
 }
 
 // Under `RateLimit` 2 per 10.
 fn rated<'a>(
     alloc: Global,
-    stage: &Stage<'a>,
+    state: &State<'a>,
     commands: Vec<Command<'a>>,
 ) -> Result<String, AllocError> {
-    let inner = Scripted::new(stage);
-    let service = RateLimit::new(alloc, inner, Rate::new(2, 10), stage.clock())?;
-    perform(alloc, stage, service, commands)
+    let inner = Scripted::new(state);
+    let service = RateLimit::new(alloc, inner, Rate::new(2, 10), state.clock())?;
+    perform(alloc, state, service, commands)
 }
 
 // Under `ConcurrencyLimit` 1.
 fn limited<'a, R: Wait + Copy>(
     rt: R,
     alloc: Global,
-    stage: &Stage<'a>,
+    state: &State<'a>,
     commands: Vec<Command<'a>>,
 ) -> Result<String, AllocError> {
-    let service = ConcurrencyLimit::new(rt, alloc, Scripted::new(stage), 1)?;
-    perform(alloc, stage, service, commands)
+    let service = ConcurrencyLimit::new(rt, alloc, Scripted::new(state), 1)?;
+    perform(alloc, state, service, commands)
 }
 
 // Under all four, the time outermost and the rate innermost.
 pub(crate) fn layered<'a, R, S, C>(
     rt: R,
     alloc: Global,
-    stage: &Stage<'a>,
+    state: &State<'a>,
     inner: S,
     clock: C,
     commands: Vec<Command<'a>>,
@@ -132,13 +132,13 @@ where
         .concurrency_limit(rt, alloc, 1)
         .rate_limit(alloc, 2, 10, clock);
     let service = layers.service(inner)?;
-    perform(alloc, stage, service, commands)
+    perform(alloc, state, service, commands)
 }
 
 // Drives the service by the commands, and prints what came of it.
 fn perform<'a, S>(
     alloc: Global,
-    stage: &Stage<'a>,
+    state: &State<'a>,
     service: S,
     commands: Vec<Command<'a>>,
 ) -> Result<String, AllocError>
@@ -149,10 +149,10 @@ where
 {
     let solo = Solo::new(&(Unnamed, alloc), Doorbell::spinning()).map_err(|_| AllocError)?;
     let mut cx = solo.begin();
-    let transcript = drive(alloc, &mut cx, service, commands, |turn| stage.turn(turn));
+    let transcript = drive(alloc, &mut cx, service, commands, |turn| state.turn(turn));
     cx.cancel();
     let mut text = transcript::print(alloc, &transcript?)?;
-    let (polls, calls) = (stage.polls(), stage.calls());
+    let (polls, calls) = (state.polls(), state.calls());
     writeln!(text, "inner polls {polls} calls {calls}")?;
     Ok(text)
 }

@@ -13,7 +13,7 @@ use Rattle.tower_util.specs.Oneshot as On
 use Rattle.tower_util.specs.Optional as Op
 use Rattle.tower_util.specs.Shared as Sh
 use Rattle.tower_util.specs.declared.make.shared.Error.{Error as SharedError}
-use Rattle.tower_util.specs.declared.util.awaited.State.{State as Stage}
+use Rattle.tower_util.specs.declared.util.awaited.State.{State as AwaitedState}
 use Rattle.tower_util.specs.declared.util.awaited.State.TheVariants.{Coming, There, Lost}
 use Rattle.tower_util.specs.declared.util.chain.Chain.{Chain}
 use Rattle.tower_util.specs.declared.util.either.Either.{Either}
@@ -106,11 +106,11 @@ module _ {S Q A E F : Type 0} (s : ServiceOf S Q A E F) where
 
   -- `FutureService`
   module _ {P : Type 0} (stepped : P → Poll (Result S E) → P → Type 0) where
-    abbrev awaited_of : Relations (Stage P S) Q (AwaitedError E) F
+    abbrev awaited_of : Relations (AwaitedState P S) Q (AwaitedError E) F
     awaited_of = record { ready = W.IsThere s.ready; polled = W.Polled stepped s.polled; called = W.Called s.ready s.called }
 
     -- The service stays, and gets just this action. One that the future gave just now gets no call.
-    abbrev pub RunsOnceThere : Stage P S → Action Q (AwaitedError E) F → Stage P S → Type 0
+    abbrev pub RunsOnceThere : AwaitedState P S → Action Q (AwaitedError E) F → AwaitedState P S → Type 0
     RunsOnceThere (There old) action (There new) = RunInside (relations s) (ByAction Once action) old new
     RunsOnceThere (Coming future) action (There new) =
         (given : S) × (left : P) × stepped future (Ready (Ok given)) left × RunInside (relations s) (λ x. x ≡ []) given new
@@ -122,14 +122,14 @@ module _ {S Q A E F : Type 0} (s : ServiceOf S Q A E F) where
     RunsOnceThere Lost action (Coming left) = ⊥
     RunsOnceThere Lost action Lost = Unit {0}
 
-    came : (future left : P) (inner : Poll (Result S E)) (answer : Poll (Result (Unit {0}) (AwaitedError E))) (new : Stage P S) → stepped future inner left
+    came : (future left : P) (inner : Poll (Result S E)) (answer : Poll (Result (Unit {0}) (AwaitedError E))) (new : AwaitedState P S) → stepped future inner left
         → W.FutureStepped stepped s.polled left inner answer new → RunsOnceThere (Coming future) (Action.poll answer) new
     came future left Pending answer new step h = subst (λ v. RunsOnceThere (Coming future) (Action.poll answer) v) (sym h.1) tt
     came future left (Ready (Err e)) answer new step h = subst (λ v. RunsOnceThere (Coming future) (Action.poll answer) v) (sym h.1) tt
     came future left (Ready (Ok service)) answer new step h =
         subst (λ v. RunsOnceThere (Coming future) (Action.poll answer) v) (sym h.4) (service, left, step, one_poll (relations s) service h.1 h.0 h.2 refl)
 
-    pub awaited : (old : Stage P S) (action : Action Q (AwaitedError E) F) (new : Stage P S) → Takes awaited_of old action new → RunsOnceThere old action new
+    pub awaited : (old : AwaitedState P S) (action : Action Q (AwaitedError E) F) (new : AwaitedState P S) → Takes awaited_of old action new → RunsOnceThere old action new
     awaited (There old) (Action.poll answer) new takes =
         subst (λ v. RunsOnceThere (There old) (Action.poll answer) v) (sym takes.4) (one_poll (relations s) old takes.1 takes.0 takes.2 refl)
     awaited (There old) (Action.call request future) new takes =

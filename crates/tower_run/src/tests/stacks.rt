@@ -1,6 +1,6 @@
 //! Transcripts of the stacks: the numbers of each, and the order of the four layers.
 use crate::script::parse;
-use crate::scripted::{Scripted, Stage};
+use crate::scripted::{Scripted, State};
 use crate::stacks::layered;
 use crate::tests::parts::{check_lines, check_printed};
 use std::alloc::AllocGlobal;
@@ -276,10 +276,10 @@ impl Clock for Counting<'_> {
 
 // How often all four read the clock in this script.
 fn readings(rt: impl Wait + AllocGlobal + Copy, script: &[u8]) -> Result<u64, Fail> {
-    let (readings, stage) = (Cell::new(0), Stage::new(rt.alloc(), 2)?);
+    let (readings, state) = (Cell::new(0), State::new(rt.alloc(), 2)?);
     let commands = parse(rt.alloc(), script).map_err(|_| "no script")?;
-    let (inner, clock) = (Scripted::new(&stage), Counting(&readings, 0));
-    layered(rt, rt.alloc(), &stage, inner, clock, commands)?;
+    let (inner, clock) = (Scripted::new(&state), Counting(&readings, 0));
+    layered(rt, rt.alloc(), &state, inner, clock, commands)?;
     Ok(readings.get())
 }
 
