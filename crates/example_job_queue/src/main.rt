@@ -1,16 +1,16 @@
-//! A job queue: four producers in threads of their own, each with a clone of one buffer. The buffer's worker is a task of a
-//! pool, in a fifth thread.
+//! A job queue: four producers in threads of their own, each with a clone of one buffer over a rate limit and a retry. The
+//! buffer's worker is a task of a pool, in a fifth thread.
 //!
 //! The check covers threads that get a buffer over any latch, of a service whose response type has no parameter. So the mail
 //! is made in `main`, and `queued` is over any latch.
 #![tactic(auto)]
 
-mod square;
+mod jobs;
 
 use futures::executor::LocalPool;
-use futures::future::Future;
+use futures::future::{Future, Ready};
 use futures::task::Doorbell;
-use square::{Lost, Response, Square};
+use jobs::{Again, Job, Lost, Response, Square};
 use std::alloc::{AllocError, AllocGlobal, Global};
 use std::random::RandomSource;
 use std::sync::Wait;
@@ -19,6 +19,10 @@ use std::{io, thread};
 use tower::buffer::{Buffer, MailCore, Worker};
 use tower::latch::held::Pollable;
 use tower::latch::{Guarded, Latch};
+use tower::limit::rate::{Rate, RateLimit};
+use tower::retry::future::ResponseFuture;
+use tower::retry::{self, Retry};
+use tower::service::{Clock, SystemClock};
 use tower::util::Sealed;
 use tower::{BlockOnExt, Service};
 
@@ -27,47 +31,58 @@ const PRODUCERS: usize = 4;
 // So many jobs of each.
 const JOBS: u64 = 25;
 
-type Mail = MailCore<u64, Pollable<Response>, Lost>;
+// What a job comes to, in the end.
+type Answer = ResponseFuture<Again, Square, Job, Response, Ready<()>>;
 
-type Front<L> = Buffer<u64, Response, Lost, L>;
+type Failure = retry::Error<Lost>;
 
-type Back<L> = Worker<Square, u64, Response, Lost, L>;
+type Mail = MailCore<Job, Pollable<Answer>, Failure>;
+
+type Front<L> = Buffer<Job, Answer, Failure, L>;
+
+type Back<C, L> = Worker<RateLimit<Retry<Again, Square>, C>, Job, Answer, Failure, L>;
 
 fn main(rt: HostRuntime) -> io::Result<()> {
     let mail = Guarded::new(rt, rt.alloc(), MailCore::new(rt.alloc(), 8))?;
-    for sum in queued(&rt, mail)? {
+    for sum in queued(&rt, mail, SystemClock::new(rt)?)? {
         println!(rt; "a producer's sum: {}", sum?)?;
     }
     Ok(())
 }
 
 // The sum of each producer. Buffer and worker are moved on at once: a drop of either isn't covered here.
-fn queued<R, L>(rt: &R, mail: L) -> io::Result<Vec<io::Result<u64>>>
+fn queued<R, L, C>(rt: &R, mail: L, clock: C) -> io::Result<Vec<io::Result<u64>>>
 where
     R: Threads + Wait + RandomSource + AllocGlobal + Sync,
     L: Latch<Mail> + Send,
+    C: Clock + Send,
 {
-    match Buffer::with_latch(mail, Square) {
+    // At most 50 jobs in each millisecond.
+    let rate = Rate::new(50, 1_000_000);
+    let service = RateLimit::new(rt.alloc(), Retry::new(Again, Square), rate, clock)?;
+    match Buffer::with_latch(mail, service) {
         Ok((buffer, worker)) => run(rt, buffer, worker),
         Err(AllocError) => Err(AllocError.into()),
     }
 }
 
 // Ends once the last clone of the buffer is gone, and then the worker.
-fn run<R, L>(rt: &R, buffer: Front<L>, worker: Back<L>) -> io::Result<Vec<io::Result<u64>>>
+fn run<R, L, C>(rt: &R, buffer: Front<L>, worker: Back<C, L>) -> io::Result<Vec<io::Result<u64>>>
 where
     R: Threads + Wait + RandomSource + AllocGlobal + Sync,
     L: Latch<Mail> + Send,
+    C: Clock + Send,
 {
     let (ended, sums) = thread::join(rt, || serve(rt, worker), || produce_all(rt, buffer));
     ended?;
     Ok(sums?)
 }
 
-fn serve<R, L>(rt: &R, worker: Back<L>) -> io::Result<()>
+fn serve<R, L, C>(rt: &R, worker: Back<C, L>) -> io::Result<()>
 where
     R: Wait + RandomSource + AllocGlobal,
     L: Latch<Mail>,
+    C: Clock,
 {
     run_task(rt, worker)
 }
@@ -115,12 +130,16 @@ where
 fn sum_of<R, B>(rt: &R, service: B) -> io::Result<u64>
 where
     R: Wait + RandomSource + AllocGlobal,
-    B: Service<u64, Response = u64>,
+    B: Service<Job, Response = u64>,
     requires { B.sound service }
 {
     let mut service = Sealed::new(service);
     let mut sum = 0u64;
-    for job in 1..=JOBS {
+    for number in 1..=JOBS {
+        let job = Job {
+            number,
+            failures: 0,
+        };
         if let Ok(square) = service.block_on_call(rt, job)? {
             sum = sum.saturating_add(square);
         }
