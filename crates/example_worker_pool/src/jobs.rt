@@ -1,10 +1,13 @@
 //! Jobs: how they are read, done and answered.
 ghost use Rattle.std.specs.Prelude.{◌≤◌};
 
+use futures::future::{Ready, ready};
+use futures::task::{Context, Poll};
 use std::alloc::Global;
 use std::fmt::{self, Display};
 use std::io::{self, BufRead, BufReader, Read};
 use std::str;
+use tower::Service;
 
 /// So many divisors are tried in one call.
 const SLICE: u64 = 100_000;
@@ -45,6 +48,29 @@ pub fn search(job: Job) -> Result<u64, Unfinished> {
         from: next,
     };
     Err(Unfinished { rest })
+}
+
+/// Searches among a job's next divisors, at each call.
+#[derive(Clone, Copy, Debug)]
+pub struct Searcher;
+
+impl Service<Job> for Searcher {
+    type Response = u64;
+
+    type Error = Unfinished;
+
+    type Future = Ready<Result<u64, Unfinished>>;
+
+    // It may always be called.
+    ghost readies = { λ _ _ _. tt };
+
+    fn poll_ready(&mut self, _cx: &mut Context<'_>) -> Poll<Result<(), Unfinished>> {
+        Poll::Ready(Ok(()))
+    }
+
+    fn call(&mut self, job: Job) -> Self::Future {
+        ready(search(job))
+    }
 }
 
 /// The job of each line, and none where a line isn't a number from 2 on.

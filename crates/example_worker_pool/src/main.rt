@@ -8,15 +8,21 @@ mod pool;
 use jobs::{Answer, read_lines};
 use pool::answers;
 use std::io::{self, IsTerminal};
+use tower::buffer::MailCore;
+use tower::latch::Guarded;
 
-/// So many workers, each in a thread of its own.
+/// So many buffers, each with its worker.
 const WORKERS: usize = 4;
 
 fn main(rt: HostRuntime) -> io::Result<()> {
     let lines = read_lines(rt.alloc(), rt.stdin())?;
     let shows_progress = rt.stderr().is_terminal();
     let mut is_complete = true;
-    for answer in answers(rt, WORKERS, lines, shows_progress)? {
+    let mut mails = Vec::new(rt.alloc());
+    for _ in 0..WORKERS {
+        mails.push(Guarded::new(rt, rt.alloc(), MailCore::new(rt.alloc(), 1))?)?;
+    }
+    for answer in answers(&rt, mails, lines, shows_progress)? {
         println!(rt; "{answer}")?;
         is_complete = is_complete && matches!(answer, Answer::Factor { .. });
     }

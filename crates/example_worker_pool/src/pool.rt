@@ -1,10 +1,12 @@
-//! Threads, each with a buffer whose worker is a task of the thread's pool.
-ghost use Rattle.std.specs.Prelude.{◌≡◌};
+//! Buffers whose workers are tasks of one set, at which several threads work, and threads that call.
+//!
+//! The check covers threads that get a buffer over any latch, of a service whose response type has no parameter. So the mail is
+//! made in `main`.
 
-use crate::jobs::{Answer, Job, Unfinished, search};
+use crate::jobs::{Answer, Job, Searcher, Unfinished};
 use crate::policy::GoesOn;
-use futures::executor::LocalPool;
-use futures::future::{Future, Ready, ready};
+use futures::executor::TaskSet;
+use futures::future::{Future, Ready};
 use futures::task::Doorbell;
 use std::alloc::{AllocError, AllocGlobal, Global};
 use std::fmt::Display;
@@ -14,21 +16,37 @@ use std::sync::Wait;
 use std::sync::atomic::{AtomicU64, Ordering};
 use std::thread;
 use std::thread::Threads;
-use std::time::Clock;
-use tower::buffer::Buffer;
-use tower::retry::budget::TpsBudget;
-use tower::service::SystemClock;
-use tower::{Service, ServiceBuilder, ServiceExt};
+use tower::buffer::{Buffer, MailCore, Worker};
+use tower::latch::Latch;
+use tower::latch::held::Pollable;
+use tower::retry::future::ResponseFuture;
+use tower::retry::{self, Retry};
+use tower::util::Sealed;
+use tower::{BlockOnExt, Service};
 
-/// The answer of each line, in their order.
-pub fn answers<R>(
-    rt: R,
-    workers: usize,
+type Slice = Ready<Result<u64, Unfinished>>;
+
+type Search = ResponseFuture<GoesOn, Searcher, Job, Slice, Ready<()>>;
+
+type Failure = retry::Error<Unfinished>;
+
+/// The jobs of one worker.
+pub type Mail = MailCore<Job, Pollable<Search>, Failure>;
+
+type Front<L> = Buffer<Job, Search, Failure, L>;
+
+type Back<L> = Worker<Retry<GoesOn, Searcher>, Job, Search, Failure, L>;
+
+/// The answer of each line, in their order. Each mail has a worker and a thread that calls.
+pub fn answers<R, L>(
+    rt: &R,
+    mails: Vec<L>,
     lines: Vec<Option<Job>>,
     shows_progress: bool,
 ) -> io::Result<Vec<Answer>>
 where
-    R: Threads + Wait + RandomSource + AllocGlobal + Eprint + Clock + Copy + Send + Sync,
+    R: Threads + Wait + RandomSource + AllocGlobal + Eprint + Sync,
+    L: Latch<Mail> + Send,
 {
     let mut answers = Vec::new(rt.alloc());
     for line in 1..=lines.len() {
@@ -40,7 +58,7 @@ where
         done: AtomicU64::new(0),
         shows_progress,
     };
-    for told in thread::map_indices(&rt, rt.alloc(), workers, &|_| work(rt, &desk))? {
+    for told in gathered(rt, &desk, mails)? {
         for (place, answer) in told? {
             if let Some(slot) = answers.get_mut(place) {
                 *slot = answer;
@@ -53,7 +71,10 @@ where
     Ok(answers)
 }
 
-// What the workers share.
+// What a thread that calls comes to: the place of each line that it took, with its answer.
+type Told = io::Result<Vec<(usize, Answer)>>;
+
+// What the callers share.
 #[derive(Drop)]
 struct Desk {
     lines: Vec<Option<Job>>,
@@ -62,53 +83,120 @@ struct Desk {
     shows_progress: bool,
 }
 
-// One worker, and the answers to the jobs that it took, each with its line's place.
-fn work<R>(rt: R, desk: &Desk) -> io::Result<Vec<(usize, Answer)>>
+// A buffer before each worker. All are moved on: a drop of either isn't covered at a type that has a parameter.
+fn gathered<R, L>(rt: &R, desk: &Desk, mails: Vec<L>) -> io::Result<Vec<Told>>
 where
-    R: Wait + RandomSource + AllocGlobal + Eprint + Clock + Copy,
+    R: Threads + Wait + RandomSource + AllocGlobal + Eprint + Sync,
+    L: Latch<Mail> + Send,
 {
-    let alloc = rt.alloc();
-    let budget = TpsBudget::with_clock(rt, alloc, SystemClock::new(rt)?)?;
-    let stack = ServiceBuilder::new()
-        .concurrency_limit(rt, alloc, 1)
-        .retry(GoesOn::new(budget))
-        .service_fn(|job: Job| -> Ready<Result<u64, Unfinished>> { ready(search(job)) })?;
-    buffered(rt, alloc, desk, stack)
-}
-
-// A buffer of one place before the service.
-fn buffered<R, S, E>(
-    rt: R,
-    alloc: Global,
-    desk: &Desk,
-    service: S,
-) -> io::Result<Vec<(usize, Answer)>>
-where
-    R: Wait + RandomSource + AllocGlobal + Eprint + Copy,
-    S: Service<Job, Response = u64, Error = E>,
-    E: Clone + Display,
-    requires sound { S.sound service }
-    requires same { (x y : E) → E.is_clone x y → y ≡ x }
-{
-    match Buffer::pair(rt, alloc, service, 1) {
-        Ok((buffer, worker)) => ask(&rt, desk, buffer, worker),
+    let mut crew = Crew::new(rt, mails.len())?;
+    for mail in mails {
+        match Buffer::with_latch(mail, Retry::new(GoesOn::new(), Searcher)) {
+            Ok((buffer, worker)) => crew.add(buffer, worker),
+            Err(AllocError) => crew.lacks_memory = true,
+        }
+    }
+    match crew.complete() {
+        Ok((callers, workers)) => run(rt, desk, callers, workers),
         Err(AllocError) => Err(AllocError.into()),
     }
 }
 
-// Takes one line after another, and calls about it. The worker runs in a pool beside the calls.
-fn ask<R, B, W>(rt: &R, desk: &Desk, buffer: B, worker: W) -> io::Result<Vec<(usize, Answer)>>
+// Who calls, and the set that has the workers of their buffers.
+#[derive(Drop)]
+struct Crew<C, W: Future<Output = ()>> {
+    callers: Vec<C>,
+    workers: TaskSet<W>,
+    lacks_memory: bool,
+}
+
+impl<C: Drop, W: Future<Output = ()> + Drop> Crew<C, W> {
+    fn new<R: RandomSource + AllocGlobal>(rt: &R, threads: usize) -> io::Result<Crew<C, W>> {
+        Ok(Crew {
+            callers: Vec::new(rt.alloc()),
+            workers: TaskSet::new(rt, Doorbell::parking(), threads)?,
+            lacks_memory: false,
+        })
+    }
+
+    fn add(&mut self, caller: C, worker: W)
+        requires { W.can_poll worker }
+    {
+        if self.workers.spawn(worker).is_err() || self.callers.push(caller).is_err() {
+            self.lacks_memory = true;
+        }
+    }
+
+    fn complete(self) -> Result<(Vec<C>, TaskSet<W>), AllocError> {
+        let Crew {
+            callers,
+            workers,
+            lacks_memory,
+        } = self;
+        if lacks_memory {
+            return Err(AllocError);
+        }
+        Ok((callers, workers))
+    }
+}
+
+// Each caller has a thread, and as many threads work at the tasks, until no buffer is left.
+fn run<R, L>(
+    rt: &R,
+    desk: &Desk,
+    callers: Vec<Front<L>>,
+    workers: TaskSet<Back<L>>,
+) -> io::Result<Vec<Told>>
+where
+    R: Threads + Wait + RandomSource + AllocGlobal + Eprint + Sync,
+    L: Latch<Mail> + Send,
+{
+    let threads = callers.len();
+    let (told, worked) = thread::join(
+        rt,
+        || call_all(rt, desk, callers),
+        || work_all(rt, &workers, threads),
+    );
+    let_go(workers);
+    worked?;
+    Ok(told?)
+}
+
+fn let_go<T: Drop>(_value: T) {}
+
+fn work_all<R, L>(rt: &R, workers: &TaskSet<Back<L>>, threads: usize) -> Result<Vec<()>, AllocError>
+where
+    R: Threads + Wait + AllocGlobal + Sync,
+    L: Latch<Mail> + Send,
+{
+    thread::map_indices(rt, rt.alloc(), threads, &|thread| workers.work(rt, thread))
+}
+
+fn call_all<R, L>(rt: &R, desk: &Desk, callers: Vec<Front<L>>) -> Result<Vec<Told>, AllocError>
+where
+    R: Threads + Wait + RandomSource + AllocGlobal + Eprint + Sync,
+    L: Latch<Mail> + Send,
+{
+    thread::map_vec(rt, callers, &|buffer| call(rt, desk, buffer))
+}
+
+fn call<R, L>(rt: &R, desk: &Desk, buffer: Front<L>) -> Told
 where
     R: Wait + RandomSource + AllocGlobal + Eprint,
-    B: Service<Job, Response = u64> + Clone,
-    B::Error: Display,
-    W: Future<Output = ()> + Drop,
-    requires buffer { B.sound buffer }
-    requires clones { (x y : B) → B.is_clone x y → B.sound x → B.sound y }
-    requires worker { W.can_poll worker }
+    L: Latch<Mail>,
 {
-    let mut pool = LocalPool::with_doorbell(rt, Doorbell::parking())?;
-    pool.spawner()?.spawn(worker)?;
+    ask(rt, desk, buffer)
+}
+
+// Takes one line after another, and calls about it. Of the service no more is known than that it is sound.
+fn ask<R, B>(rt: &R, desk: &Desk, buffer: B) -> Told
+where
+    R: Wait + RandomSource + AllocGlobal + Eprint,
+    B: Service<Job, Response = u64>,
+    B::Error: Display,
+    requires { B.sound buffer }
+{
+    let mut buffer = Sealed::new(buffer);
     let mut told = Vec::new(rt.alloc());
     for _ in 0..desk.lines.len() {
         let place = desk.take();
@@ -116,7 +204,7 @@ where
             break;
         };
         if let Some(job) = line {
-            let answer = pool.run_until(rt, buffer.clone()?.oneshot(*job))?;
+            let answer = buffer.block_on_call(rt, *job)?;
             told.push((place, answer_of(rt.alloc(), job.number, answer)?))?;
         }
         desk.tell(rt);
