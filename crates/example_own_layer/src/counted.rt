@@ -1,10 +1,12 @@
 //! A middleware of one's own: it counts the calls.
 ghost use Rattle.std.specs.Prelude.{◌≡◌};
 ghost use Rattle.example_own_layer.specs.Counted.{CountedView, Polled, Called};
+ghost use Rattle.tower_base.specs.ProjectionLemmas.{composed_once, forwards};
 
 use futures::task::{Context, Poll};
 use std::marker::Model;
 use tower::Service;
+use tower::run::Contains;
 
 /// Counts the calls of its service.
 #[derive(Drop)]
@@ -54,4 +56,17 @@ impl<Request, S: Service<Request>> Service<Request> for Counted<S> {
         self.calls = self.calls.saturating_add(1);
         self.inner.call(request)
     }
+}
+
+// What goes inside: each poll and each call, as it is. So the counter may stand over a rate limit, as in `crates/uses/src/within_rate.rt`.
+impl<Request, Passed, L, S> Contains<Request, Passed, L> for Counted<S>
+where
+    L: Service<Passed>,
+    S: Contains<Request, Passed, L>,
+{
+    ghost inside = { λ c. S.inside c.inner };
+
+    ghost goes = { S.goes };
+
+    ghost projects = { composed_once _ _ _ (λ c. c.inner) S.inside S.goes (forwards _ _ (λ c. c.inner) (λ _ _ answer p. (answer, p.polled)) (λ _ _ _ future c. (future, c.ready, c.called))) S.projects };
 }

@@ -7,7 +7,7 @@ use futures::task::{Poll, Solo};
 use std::alloc::{AllocError, Global};
 use std::fmt::{Debug, Display};
 use tests_support::run::stepped;
-use tower_base::latch::held::Pollable;
+use tower_latch::held::Pollable;
 use tower_base::service::Steps;
 
 /// A future with the number 0.

@@ -6,7 +6,7 @@ use std::alloc::AllocError;
 use std::cell::Cell;
 use std::marker::PhantomData;
 use tests_support::log::Log;
-use tower_base::latch::Latch;
+use tower_latch::Latch;
 use tower_pool::buffer::{MailCore, MailReply, MailStep};
 
 /// A latch over another. Its shares may be refused.

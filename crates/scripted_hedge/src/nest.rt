@@ -4,7 +4,7 @@ use scripted::report::Report;
 use scripted::script::{Numbers, Script};
 use std::alloc::AllocError;
 use std::convert::Infallible;
-use tower_base::latch::Latch;
+use tower_latch::Latch;
 use tower_base::service::{Clock, Service};
 use tower_retry::hedge::delay::{self, Delay};
 use tower_retry::hedge::latency::{Latency, Record};

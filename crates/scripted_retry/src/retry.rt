@@ -10,7 +10,7 @@ use scripted::script::{Numbers, Script};
 use std::alloc::AllocError;
 use std::sync::Wait;
 use tests_support::service::Scripted;
-use tower_base::latch::Latch;
+use tower_latch::Latch;
 use tower_base::layer::Layer;
 use tower_limit::limit::ConcurrencyLimit;
 use tower_limit::limit::concurrency::LineCore;

@@ -6,7 +6,7 @@ use std::alloc::AllocError;
 use std::cell::Cell;
 use tests_support::log::Log;
 use tower::spawn_ready::{SlotCore, SlotReply, SlotStep};
-use tower_base::latch::Latch;
+use tower_latch::Latch;
 
 /// A latch over another. It notes its steps, shares and drop, and its shares may be refused.
 pub struct Told<'a, L: Drop> {

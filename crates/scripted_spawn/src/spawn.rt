@@ -17,8 +17,8 @@ use std::random::RandomSource;
 use std::sync::Wait;
 use tests_support::run::task;
 use tower::spawn_ready::{SlotCore, SpawnReady};
-use tower_base::latch::held::Viewed;
-use tower_base::latch::{Guarded, Latch};
+use tower_latch::held::Viewed;
+use tower_latch::{Guarded, Latch};
 use tower_base::layer::Layer;
 use tower_base::service::{Service, Steps};
 

@@ -4,7 +4,7 @@ use futures::task::Context;
 use std::alloc::{AllocError, Global};
 use std::sync::Arc;
 use std::sync::atomic::{AtomicU64, Ordering};
-use tower_base::latch::Latch;
+use tower_latch::Latch;
 use tower_pool::buffer::{MailCore, MailReply, MailStep};
 
 /// How many places were given, and how many of them were sent into or given back.

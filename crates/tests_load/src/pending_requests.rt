@@ -12,7 +12,7 @@ use tests_support::plain::Plain;
 use tests_support::run::{awaited, called, stepped, task};
 use tests_support::script::Script;
 use tests_support::service::Scripted;
-use tower_base::latch::Latch;
+use tower_latch::Latch;
 use tower_base::service::Service;
 use tower_limit::discover::Change;
 use tower_limit::load::completion::TrackCompletionFuture;

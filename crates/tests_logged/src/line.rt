@@ -10,7 +10,7 @@ use std::process::Abort;
 use std::sync::Wait;
 use std::sync::ledger::Blank;
 use std::test::Fail;
-use tower_base::latch::{Log, LogTable, Logged};
+use tower_latch::{Log, LogTable, Logged};
 use tower_limit::limit::concurrency::{LineCore, LineReply, LineStep};
 
 #[test]

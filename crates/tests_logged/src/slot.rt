@@ -15,7 +15,7 @@ use std::thread;
 use std::thread::Threads;
 use std::time::Clock;
 use tower::spawn_ready::{SlotCore, SlotReply, SlotStep};
-use tower_base::latch::{Log, LogTable, Logged, Pass};
+use tower_latch::{Log, LogTable, Logged, Pass};
 use tower_base::service::Service;
 
 // So many threads put services there, and so many look for them.

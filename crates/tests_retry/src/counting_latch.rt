@@ -12,7 +12,7 @@ use tests_support::log::Log;
 use tests_support::run::{called, is_ready, polled, stepped, task};
 use tests_support::script::{Reply, Script};
 use tests_support::service::Scripted;
-use tower_base::latch::{Guarded, Latch};
+use tower_latch::{Guarded, Latch};
 use tower_base::service::{Clock, Fraction, Service};
 use tower_limit::limit::ConcurrencyLimit;
 use tower_limit::limit::concurrency::{LineCore, Semaphore};

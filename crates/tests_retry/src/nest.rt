@@ -4,7 +4,7 @@ use futures::task::Solo;
 use std::cell::Cell;
 use std::convert::Infallible;
 use tests_support::run::{called, stepped};
-use tower_base::latch::Latch;
+use tower_latch::Latch;
 use tower_base::service::{Clock, Service};
 use tower_retry::hedge::delay::{self, Delay};
 use tower_retry::hedge::latency::{Latency, Record};

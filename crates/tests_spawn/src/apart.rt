@@ -7,7 +7,7 @@ use std::test::Fail;
 use std::thread;
 use tests_support::run::{awaited, called, task};
 use tower::spawn_ready::SpawnReady;
-use tower_base::latch::held::Pollable;
+use tower_latch::held::Pollable;
 use tower_base::service::{Executor, Service, Steps};
 
 const ROUNDS: u16 = 1000;

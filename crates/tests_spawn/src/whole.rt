@@ -13,8 +13,8 @@ use tests_support::checks::Checks;
 use tests_support::log::Log;
 use tests_support::run::{fire, polled, task};
 use tower::spawn_ready::{Error, SlotCore, SlotStep, SpawnReady};
-use tower_base::latch::held::Viewed;
-use tower_base::latch::{Guarded, Latch};
+use tower_latch::held::Viewed;
+use tower_latch::{Guarded, Latch};
 use tower_base::service::{Executor, Service};
 use tower_util::util::service_fn;
 

@@ -13,10 +13,10 @@ use std::time::{Clock, Duration};
 use std::{io, thread};
 use tests_support::checks::Checks;
 use tests_support::run::task;
-use tower_base::latch::Latch;
+use tower::util::block_on_each;
+use tower_latch::Latch;
 use tower_base::service::{Service, Steps};
 use tower_limit::limit::concurrency::{LineCore, Permit, PollSemaphore, Semaphore};
-use tower_util::util::block_on_each;
 
 // So often is each door asked at least before it opens.
 const POLLS: u64 = 1_500;

@@ -15,10 +15,10 @@ use tests_support::checks::Checks;
 use tests_support::log::Log;
 use tests_support::script::{Mood, Reply, Script};
 use tests_support::service::Scripted;
+use tower::util::{block_on_call, block_on_each, block_on_ready, service_fn};
 use tower_base::service::{Service, Steps};
 use tower_limit::limit::ConcurrencyLimit;
 use tower_limit::limit::concurrency::Semaphore;
-use tower_util::util::{block_on_call, block_on_each, block_on_ready, service_fn};
 
 #[test]
 fn service_is_polled_until_it_is_ready(rt: HostRuntime) -> Result<(), Fail> {

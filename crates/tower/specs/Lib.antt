@@ -1,7 +1,9 @@
 pub mod Balance
 pub mod BalanceReady
 pub mod MakeBalance
+pub mod Projections
 pub mod Slot
 pub mod SlotLaws
 pub mod SpawnReady
 pub mod SpawnReadyReady
+pub mod Waits

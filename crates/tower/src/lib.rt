@@ -4,13 +4,15 @@
 pub mod balance;
 pub mod builder;
 pub mod layer;
+pub mod projection;
 pub mod spawn_ready;
 pub mod util;
 
 pub use builder::ServiceBuilder;
 pub use layer::Layer;
 pub use tower_base::service::Service;
-pub use tower_base::{drive, latch, service};
+pub use tower_base::{drive, run, service};
+pub use tower_latch as latch;
 pub use tower_limit::{discover, limit, load};
 pub use tower_pool::{buffer, ready_cache};
 pub use tower_retry::{hedge, retry};

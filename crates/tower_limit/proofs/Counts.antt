@@ -1,6 +1,6 @@
 -- Which replies a count gives.
 use Rattle.std.proofs.Common.{◌≡◌, ℕ, refl}
-use Rattle.tower_base.specs.Latch.{Came, StepsAs}
+use Rattle.tower_latch.specs.Latch.{Came, StepsAs}
 use Rattle.tower_limit.specs.CountCore.{StandsFor, Opens}
 use Rattle.tower_limit.specs.Holders.{HolderSteps}
 use Rattle.tower_limit.specs.declared.load.pending_requests.count_core.CountReply.{CountReply}

@@ -10,7 +10,7 @@ use Rattle.std.specs.Map.{lookup, keys_of, values_of}
 use Rattle.std.specs.BTreeMap.{is_at}
 use Rattle.std.proofs.lemmas.Bool.Decides.{nat_tests}
 use Rattle.std.proofs.lemmas.List.Sums.{sum_by-cons}
-use Rattle.tower_base.specs.Latch.{Came, StepsAs}
+use Rattle.tower_latch.specs.Latch.{Came, StepsAs}
 use Rattle.tower_base.specs.declared.service.Fraction.{Fraction}
 use Rattle.tower_limit.specs.Histogram.{Histogram, Point, added, read_at, present_of, sorted, quantile, rank, most, Takes, Steps}
 use Rattle.tower_limit.specs.HistoCore.{times, tallied, flat, Adds, Stands, StandsFor, Opens}

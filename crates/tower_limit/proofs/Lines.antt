@@ -6,7 +6,7 @@ use Rattle.tower_limit.proofs.KeysLemmas.{has_at, not_both}
 use Rattle.tower_limit.proofs.WaitQueues.{keys_count, some_queue}
 use Rattle.tower_limit.specs.Line.{Ticket, Line, At, Lacks, Steps, LineSteps, keys_of}
 use Rattle.tower_limit.specs.LineCore.{holders, HoldersBelow, Stands, StandsFor, Follows}
-use Rattle.tower_base.specs.Latch.{FollowsMachine, StepsAs}
+use Rattle.tower_latch.specs.Latch.{FollowsMachine, StepsAs}
 use Rattle.tower_limit.specs.declared.limit.concurrency.line_core.LineCore.{LineCore}
 use Rattle.tower_limit.specs.declared.limit.concurrency.line_core.LineStep.{LineStep}
 use Rattle.tower_limit.specs.declared.limit.concurrency.line_core.LineReply.{LineReply}

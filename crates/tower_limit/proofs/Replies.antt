@@ -1,6 +1,6 @@
 -- Which replies a line gives.
 use Rattle.std.proofs.Common.{◌≡◌, ◌⊎◌, ℕ, Option, None, Some, inl, inr, subst}
-use Rattle.tower_base.specs.Latch.{Came, StepsAs}
+use Rattle.tower_latch.specs.Latch.{Came, StepsAs}
 use Rattle.tower_limit.proofs.Lines.{stepped}
 use Rattle.tower_limit.specs.LineCore.{StandsFor, Opens}
 use Rattle.tower_limit.specs.Concurrency.{step_of}

@@ -13,6 +13,8 @@ pub mod Line
 pub mod LineCore
 pub mod LineHistory
 pub mod LineLaws
+pub mod LineTokens
+pub mod LineTokensLemmas
 pub mod PendingRequests
 pub mod Projections
 pub mod Rate

@@ -1,7 +1,7 @@
 -- What a mailbox serves is the machine's.
 use Rattle.std.proofs.Common.{◌≡◌, ℕ, zero, suc, true, false, if◌then◌else◌, Option, Some, None, is_some, List, [], ◌∷◌, ◌++◌, map, slice_get, slice_index_or, refl, ◌+◌, ap, subst, sym, ◌∙◌, arith}
 use Rattle.slab.specs.Slab.{get}
-use Rattle.tower_base.specs.Latch.{FollowsMachine, StepsAs}
+use Rattle.tower_latch.specs.Latch.{FollowsMachine, StepsAs}
 use Rattle.tower_base.specs.Links.{LinksView}
 use Rattle.tower_base.specs.Order.{has, Apart}
 use Rattle.tower_limit.specs.Line.{Ticket}

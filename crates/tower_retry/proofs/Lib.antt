@@ -4,4 +4,5 @@ pub mod BudgetLemmas
 pub mod BudgetWindowLemmas
 pub mod HedgeLemmas
 pub mod RetryLemmas
+pub mod RetryRuns
 pub mod SlotLemmas

@@ -9,6 +9,7 @@ pub mod HedgeCheck
 pub mod HedgeMade
 pub mod HedgePolicies
 pub mod Latency
+pub mod Projections
 pub mod Retry
 pub mod RetryAttempts
 pub mod RetryLends

@@ -16,7 +16,7 @@ mod state;
 pub use error::Error;
 use future::ResponseFuture;
 use futures::task::{Context, Poll};
-pub use laws::law;
+pub use laws::{law, projection};
 pub use layer::RetryLayer;
 pub use policy::Policy;
 use state::{Attempts, State};

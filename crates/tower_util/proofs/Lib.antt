@@ -1,2 +1,1 @@
 pub mod ReadyLemmas
-pub mod WaitsLemmas

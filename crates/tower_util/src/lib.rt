@@ -1,4 +1,4 @@
-//! Small services and what combines them.
+//! Small services, what combines them, and services that make services.
 #![tactic(auto)]
 
 pub mod make;

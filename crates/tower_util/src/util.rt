@@ -15,10 +15,10 @@ mod map_response;
 mod map_result;
 mod oneshot;
 mod optional;
+pub mod projection;
 mod ready;
 mod sealed;
 mod then;
-mod waits;
 
 pub use and_then::{AndThen, AndThenLayer};
 pub use awaited::{FutureService, future_service};
@@ -35,4 +35,3 @@ pub use optional::Optional;
 pub use ready::{Ready, ReadyOneshot};
 pub use sealed::Sealed;
 pub use then::{Then, ThenLayer};
-pub use waits::{block_on, block_on_call, block_on_each, block_on_ready};

@@ -1,12 +1,12 @@
 //! Requests that pass a predicate: the Rust's `tower::filter`.
 ghost use Rattle.std.specs.Prelude.{◌≡◌};
 ghost use Rattle.tower_base.specs.AnswersLemmas.{answered_ok};
-ghost use Rattle.tower_ware.specs.Filter.{AsyncFilterCalled, FilterCalled, FilterView, IsClone, Polled};
+ghost use Rattle.tower_ware.specs.Filter.{AsyncFilterCalled, AsyncResponseFutureStepped, FilterCalled, FilterView, IsClone, Polled};
 ghost use Rattle.tower_ware.specs.declared.filter.error.Error.TheVariants.{Inner};
-ghost use Rattle.tower_base.specs.ServiceRun.{relations};
+ghost use Rattle.tower_base.specs.ServiceRun.{Takes, relations};
 ghost use Rattle.tower_base.specs.Projection.{MappedOrNone, Projects, Through};
 ghost use Rattle.tower_base.specs.ProjectionLemmas.{composed};
-ghost use Rattle.tower_ware.specs.Projections.{LetsThrough, filter as filter_projects};
+ghost use Rattle.tower_ware.specs.Projections.{GoesAside, LetsThrough, RunsOfChecked, filter as filter_projects};
 
 mod error;
 pub mod future;
@@ -241,6 +241,13 @@ where
         }
     }
 }
+
+/// Each poll goes inside. A call takes the inner service into its future, and leaves a clone. There the service is called
+/// once, with the request that the check gave, or not at all.
+pub fn async_projection<R: Drop, P, S: Service<P> + Clone, U: AsyncPredicate<R, Request = P>>()
+    ensures inside { (old : _) (action : _) (new : _) → Takes (relations ⟦<AsyncFilter<S, U> as Service<R>>⟧) old action new → GoesAside S.Service S.is_clone old action new }
+    ensures future { (old new : _) (answer : _) → AsyncResponseFutureStepped S.Service S.Future.Steps.own U.Future.Steps.own old answer new → RunsOfChecked S.Service U.Future.Steps.own old new }
+{}
 
 /// A clone has clones of both parts.
 impl<S: Clone + Drop, U: Clone> Clone for AsyncFilter<S, U> {

@@ -4,6 +4,9 @@ ghost use Rattle.futures.specs.Task.{IsArmed, Keeps};
 ghost use Rattle.futures.specs.Poll.{OnPending};
 ghost use Rattle.tower_ware.specs.Reconnect.{Called, IsReady, Pass, Polled, Sound, view_of};
 ghost use Rattle.tower_ware.specs.ReconnectReady.{polled_ok};
+ghost use Rattle.tower_ware.specs.Projections.{Continues};
+ghost use Rattle.tower_base.specs.ServiceRun.{Takes, relations};
+ghost use Rattle.tower_base.specs.Projection.{AtMostOnce, ByAction};
 ghost use Rattle.tower_ware.specs.declared.reconnect.state.State.TheVariants.{Idle, Connected};
 
 mod error;
@@ -104,6 +107,17 @@ where
         }
     }
 }
+
+/// For each connection, from its making on: each call goes there, once, or nothing does.
+pub fn projection<Request, M, S, Target>()
+where
+    M: Service<Target, Response = S>,
+    S: Service<Request>,
+    Request: Drop,
+    Target: Clone + Drop,
+    ensures { (old : _) (action : _) (new : _) → Takes (relations ⟦<Reconnect<M, Target> as Service<Request>>⟧) old action new
+        → Continues S.Service M.Future.Steps.own (ByAction AtMostOnce action) (view_of old).state (view_of new).state }
+{}
 
 type Answer<E, M> = Poll<Result<(), Error<E, M>>>;
 

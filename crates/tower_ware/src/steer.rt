@@ -3,6 +3,9 @@ ghost use Rattle.std.specs.Prelude.{◌≡◌, ◌<◌, ◌≤◌, [], All, IfOk
 ghost use Rattle.std.specs.VecDeque.{deque_capacity};
 ghost use Rattle.tower_ware.specs.Steer.{Called, Fits, IsClone, Polled, Sound, SteerView, upto};
 ghost use Rattle.tower_ware.specs.SteerReady.{polled_ok};
+ghost use Rattle.tower_ware.specs.Projections.{service_at};
+ghost use Rattle.tower_base.specs.ServiceRun.{relations};
+ghost use Rattle.tower_base.specs.Projection.{AtMostOnce, Projects};
 
 mod picker;
 
@@ -93,6 +96,11 @@ impl<S: Service<Req>, F: Picker<S, Req>, Req> Service<Req> for Steer<S, F, Req> 
         self.services[index].call(request)
     }
 }
+
+/// For each service in it: each call goes there, once, or nothing does.
+pub fn projection<S: Service<Req>, F: Picker<S, Req>, Req>()
+    ensures { (index : _) (other : S) → Projects (relations ⟦<Steer<S, F, Req> as Service<Req>>⟧) (relations S.Service) (service_at index other) AtMostOnce }
+{}
 
 impl<S: Clone, F: Clone, Req> Clone for Steer<S, F, Req> {
     ghost is_clone = { IsClone F.is_clone S.is_clone };

@@ -13,10 +13,10 @@ use tower::filter::{AsyncFilter, AsyncPredicateFn, Filter, PredicateFn};
 /// Why a request is rejected.
 #[derive(Clone, Copy, Debug, thiserror::Error)]
 #[error("odd")]
-struct Odd;
+pub struct Odd;
 
-// Lets even requests through.
-fn even(request: u32) -> Result<u32, Odd> {
+/// Lets even requests through.
+pub fn even(request: u32) -> Result<u32, Odd> {
     if request % 2 == 0 {
         Ok(request)
     } else {

@@ -17,6 +17,8 @@ struct Seats {
 }
 
 impl Core for Seats {
+    ghost use Rattle.tower_latch.specs.LatchLemmas.{none_held, no_tokens};
+
     type Step = ();
 
     type Reply = Option<u32>;
@@ -26,6 +28,10 @@ impl Core for Seats {
     ghost steps = { λ old _ reply new. Sold old.left reply new.left };
 
     ghost is_wait = { λ _. false };
+
+    ghost starts = { none_held };
+
+    ghost counts = { no_tokens };
 
     fn step(&mut self, _step: ()) -> Option<u32> {
         if self.left == 0 {
@@ -37,6 +43,10 @@ impl Core for Seats {
 
     fn waits(_reply: &Option<u32>) -> bool {
         false
+    }
+
+    fn capacity(&self) -> usize {
+        0
     }
 }
 

@@ -17,6 +17,7 @@ mod select;
 mod server;
 mod spawn_ready;
 mod steer;
+mod within_rate;
 
 use std::fmt::Display;
 use std::io;
@@ -52,5 +53,6 @@ fn main(rt: HostRuntime) -> io::Result<()> {
     spawn_ready::warm_up(rt)?;
     select::ask_a_backup(rt)?;
     hedge::ask_again(rt)?;
-    latch::sell_two_seats(rt)
+    latch::sell_two_seats(rt)?;
+    within_rate::hold_back(rt)
 }

@@ -7,8 +7,8 @@ use crate::spawn_ready::slot_core::SlotCore;
 use std::alloc::{AllocError, Global};
 use std::marker::{Model, PhantomData};
 use std::sync::Wait;
-use tower_base::latch::Guarded;
-use tower_base::latch::held::Viewed;
+use tower_latch::Guarded;
+use tower_latch::held::Viewed;
 use tower_base::layer::Layer;
 use tower_base::service::Service;
 

@@ -4,7 +4,7 @@ ghost use Rattle.tower.specs.Slot.{SlotSteps, is_waiting, slot_step};
 
 use std::marker::Model;
 use std::mem;
-use tower_base::latch::Core;
+use tower_latch::Core;
 
 /// What may be asked of a slot.
 #[derive(Clone, Copy, Debug, Drop, PartialEq, Eq)]
@@ -64,6 +64,8 @@ pub struct SlotCore<S, E> {
 }
 
 impl<S, E> Model for SlotCore<S, E> {
+    ghost use Rattle.tower_latch.specs.LatchLemmas.{none_held, no_tokens};
+
     ghost use Rattle.tower.specs.declared.spawn_ready.slot_core.Slot.{Slot};
 
     ghost Value = { Slot S E };
@@ -95,6 +97,10 @@ impl<S: Drop, E: Drop> Core for SlotCore<S, E> {
 
     ghost is_wait = { is_waiting };
 
+    ghost starts = { none_held };
+
+    ghost counts = { no_tokens };
+
     fn step(&mut self, step: SlotStep<S, E>) -> SlotReply<S, E> {
         let old = mem::replace(&mut self.slot, Slot::Idle);
         let (reply, new) = transition(old, step);
@@ -104,6 +110,10 @@ impl<S: Drop, E: Drop> Core for SlotCore<S, E> {
 
     fn waits(reply: &SlotReply<S, E>) -> bool {
         matches!(reply, SlotReply::Waiting | SlotReply::Truth(false))
+    }
+
+    fn capacity(&self) -> usize {
+        0
     }
 }
 

@@ -1,7 +1,7 @@
 //! Methods of each service.
 ghost use Rattle.std.specs.Prelude.{◌≡◌, Some, None, IsSomeAnd, IfOk, OnOk};
 ghost use Rattle.tower_ware.specs.CallAll.{New as Opens};
-ghost use Rattle.tower_util.specs.Waits.{Waited, Answered, Each};
+ghost use Rattle.tower.specs.Waits.{Waited, Answered, Each};
 ghost use Rattle.tower_util.specs.declared.util.oneshot.State.TheVariants.{NotReady};
 
 use crate::filter::{AsyncFilter, AsyncPredicate, Filter, Predicate};

@@ -12,7 +12,7 @@ use std::alloc::{AllocError, Global};
 use std::marker::Model;
 use std::sync::Wait;
 pub use steps::{HistoReply, HistoStep};
-use tower_base::latch::{Guarded, Latch};
+use tower_latch::{Guarded, Latch};
 use tower_base::service::{Clock, Fraction};
 
 /// How long responses took in the period before this one: the Rust's

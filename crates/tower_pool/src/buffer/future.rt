@@ -16,8 +16,8 @@ use futures::future::Future;
 use futures::task::{Context, Poll};
 use std::marker::{Model, PhantomData};
 use std::mem;
-use tower_base::latch::Latch;
-use tower_base::latch::held::Pollable;
+use tower_latch::Latch;
+use tower_latch::held::Pollable;
 use tower_base::service::Steps;
 
 /// The response of a message: the Rust's `tower::buffer::future::ResponseFuture`.
@@ -123,7 +123,8 @@ where
             ResponseState::Polls(future) => return carry(future, cx),
             ResponseState::Sent(latch, id) => (latch, *id),
         };
-        match latch.wait(MailStep::Outcome(id), cx) {
+        let (reply, _) = latch.wait(MailStep::Outcome(id), cx);
+        match reply {
             MailReply::Waiting(_) => Poll::Pending,
             MailReply::Unknown => cx.yield_now(),
             MailReply::Memory => Poll::Ready(Err(Error::Memory)),

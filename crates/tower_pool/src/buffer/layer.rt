@@ -8,8 +8,8 @@ use crate::buffer::worker::Worker;
 use std::alloc::{AllocError, Global};
 use std::marker::{Model, PhantomData};
 use std::sync::Wait;
-use tower_base::latch::held::Pollable;
-use tower_base::latch::{Core, Guarded, Latch};
+use tower_latch::held::Pollable;
+use tower_latch::{Core, Guarded, Latch};
 use tower_base::layer::Layer;
 use tower_base::service::{Executor, Service, Steps};
 

@@ -5,7 +5,7 @@ use crate::buffer::mail::{MailReply, MailStep};
 use crate::buffer::mailbox::Mailbox;
 use std::alloc::Global;
 use std::marker::Model;
-use tower_base::latch::Core;
+use tower_latch::Core;
 
 /// Messages on their way to a worker, the places for them, and those who wait for places.
 ///
@@ -16,6 +16,8 @@ pub struct MailCore<Request, F, E: Clone> {
 }
 
 impl<Request, F, E: Clone> Model for MailCore<Request, F, E> {
+    ghost use Rattle.tower_latch.specs.LatchLemmas.{none_held, no_tokens};
+
     ghost use Rattle.std.specs.Prelude.{◌≡◌};
     ghost use Rattle.tower_pool.specs.declared.buffer.mailbox.Mailbox.{Mailbox};
 
@@ -55,7 +57,7 @@ impl<Request: Drop, F: Drop, E: Clone> Core for MailCore<Request, F, E> {
 
     type Reply = MailReply<Request, F, E>;
 
-    ghost use Rattle.tower_base.specs.Latch.{StepsAs};
+    ghost use Rattle.tower_latch.specs.Latch.{StepsAs};
     ghost use Rattle.tower_pool.specs.Mail.{MailSteps, is_waiting};
     ghost use Rattle.std.specs.Prelude.{false};
     ghost use Rattle.tower_pool.specs.Mailbox.{Few, HasRoom, Opens, StandsFor};
@@ -65,6 +67,10 @@ impl<Request: Drop, F: Drop, E: Clone> Core for MailCore<Request, F, E> {
     ghost steps = { StepsAs StandsFor MailSteps };
 
     ghost is_wait = { is_waiting };
+
+    ghost starts = { none_held };
+
+    ghost counts = { no_tokens };
 
     /// Open mail answers `Memory` to `Reserve` only where room was missing. `Take` reaches at most six entries,
     /// of the messages and of those who wait, for each message that leaves the queue, and any other step
@@ -97,5 +103,9 @@ impl<Request: Drop, F: Drop, E: Clone> Core for MailCore<Request, F, E> {
 
     fn waits(reply: &MailReply<Request, F, E>) -> bool {
         matches!(reply, MailReply::Waiting(_) | MailReply::Empty)
+    }
+
+    fn capacity(&self) -> usize {
+        0
     }
 }

@@ -12,8 +12,8 @@ use crate::buffer::seat::{ResponseState, Seat};
 use futures::task::{Context, Poll};
 use std::alloc::AllocError;
 use std::marker::{Model, PhantomData};
-use tower_base::latch::Latch;
-use tower_base::latch::held::Pollable;
+use tower_latch::Latch;
+use tower_latch::held::Pollable;
 use tower_base::service::{Service, Steps};
 
 /// Sends its requests to a worker, through a bounded queue that its clones share: the Rust's
@@ -106,7 +106,8 @@ where
             Seat::Asking(key) => MailStep::Look(key),
             _ => MailStep::Reserve,
         };
-        match self.latch.wait(step, cx) {
+        let (reply, _) = self.latch.wait(step, cx);
+        match reply {
             MailReply::Place => {
                 self.seat = Seat::Reserved;
                 Poll::Ready(Ok(()))

@@ -12,8 +12,8 @@ use crate::buffer::mail_core::MailCore;
 use futures::future::Future;
 use futures::task::{Context, Poll};
 use std::marker::{Model, PhantomData};
-use tower_base::latch::Latch;
-use tower_base::latch::held::Pollable;
+use tower_latch::Latch;
+use tower_latch::held::Pollable;
 use tower_base::passes::TURNS;
 use tower_base::service::{Service, Steps};
 
@@ -112,7 +112,8 @@ where
         ensures armed { result ≡ Some Pending → IsArmed cx.new }
         ensures kept { Keeps cx.old cx.new }
     {
-        match self.latch.wait(MailStep::Take, cx) {
+        let (reply, _) = self.latch.wait(MailStep::Take, cx);
+        match reply {
             MailReply::Message(id, request) => {
                 if self.has_failed {
                     self.latch.step(MailStep::FailStored(id));

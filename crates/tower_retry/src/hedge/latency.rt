@@ -1,6 +1,8 @@
 //! How long responses take: the Rust's `tower::hedge::latency`.
 ghost use Rattle.std.specs.Prelude.{◌≡◌};
+ghost use Rattle.tower_base.specs.ProjectionLemmas.{composed_once};
 ghost use Rattle.tower_retry.specs.Latency.{LatencyView, Polled, Called, IsClone};
+ghost use Rattle.tower_retry.specs.Projections.{latency};
 
 mod future;
 
@@ -8,6 +10,7 @@ pub use future::ResponseFuture;
 use futures::task::{Context, Poll};
 use std::alloc::AllocError;
 use std::marker::Model;
+use tower_base::run::Contains;
 use tower_base::service::{Clock, Service};
 pub use tower_limit::hedge::Record;
 
@@ -75,6 +78,16 @@ where
         let inner = self.service.call(request);
         ResponseFuture::new(start, rec, inner, self.clock.share())
     }
+}
+
+/// What its service contains.
+impl<Q, P, R: Record + Clone, S: Contains<Q, P, L>, C: Clock, L: Service<P>> Contains<Q, P, L>
+    for Latency<R, S, C> {
+    ghost inside = { λ l. S.inside l.service };
+
+    ghost goes = { S.goes };
+
+    ghost projects = { composed_once _ _ _ (λ l. l.service) S.inside S.goes (latency _ R.is_clone C.Clock) S.projects };
 }
 
 /// A clone shares the clock.

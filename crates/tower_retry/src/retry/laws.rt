@@ -1,15 +1,24 @@
-//! What holds of every future of a `Retry`.
+//! What holds of every `Retry`, and of its futures.
+ghost use Rattle.std.specs.Prelude.{Some};
+ghost use Rattle.tower_base.specs.Projection.{Once, Projects, RunInside};
+ghost use Rattle.tower_base.specs.ServiceRun.{relations};
+ghost use Rattle.tower_retry.specs.Retry.{Stepped};
 ghost use Rattle.tower_retry.specs.RetryAttempts.{GivesAnswers};
 
-use crate::retry::Policy;
+use crate::retry::{Policy, Retry};
 use tower_base::service::Service;
 
 /// Whatever the future of a call gives, over all its polls, is the answer of a list of attempts. Each is a request, its
 /// result and the policy's word. After every one but the last a wait ended, and then the service was ready. The answer is
 /// the last result as the policy left it, an error of readiness after a wait, or `Memory` where a clone was refused.
-pub fn law<P, S, Request>()
-where
-    P: Policy<Request, S::Response, S::Error> + Clone,
-    S: Service<Request> + Clone,
+pub fn law<P: Policy<Q, S::Response, S::Error> + Clone, S: Service<Q> + Clone, Q>()
     ensures attempts { GivesAnswers S.Service S.Future.stepped P.Policy P.Future.stepped P.Clone S.Clone }
+{}
+
+/// Each call goes inside, once. What its future makes again goes to the clone in the future: each poll of it is a run of
+/// that clone.
+pub fn projection<P: Policy<Q, S::Response, S::Error> + Clone, S: Service<Q> + Clone, Q: Drop>()
+    ensures inside { Projects (relations ⟦<Retry<P, S> as Service<Q>>⟧) (relations S.Service) (λ r. r.service) Once }
+    ensures future { (old new : _) (answer : _) → Stepped S.Service S.Future.stepped P.Policy P.Future.stepped (Some old) answer (Some new)
+        → RunInside (relations S.Service) (λ _. Unit {0}) old.service new.service }
 {}

@@ -1,8 +1,10 @@
 //! A maker as a service, by reference.
 ghost use Rattle.std.specs.Prelude.{◌≡◌};
+ghost use Rattle.tower_base.specs.ProjectionLemmas.{composed_once, forwards};
 
 use futures::task::{Context, Poll};
 use std::marker::PhantomData;
+use tower_base::run::Contains;
 use tower_base::service::Service;
 
 /// A borrowed maker as a service: the Rust's `tower::make::AsService`.
@@ -53,4 +55,19 @@ where
     fn call(&mut self, target: Target) -> M::Future {
         self.make.call(target)
     }
+}
+
+/// What the borrowed maker contains.
+impl<'a, M, S, Target, Request, Passed, L> Contains<Target, Passed, L> for AsService<'a, M, Request>
+where
+    L: Service<Passed>,
+    M: Contains<Target, Passed, L, Response = S>,
+    S: Service<Request>,
+    Request: Drop,
+{
+    ghost inside = { λ v. M.inside v.make.now };
+
+    ghost goes = { M.goes };
+
+    ghost projects = { composed_once _ _ _ (λ v. v.make.now) M.inside M.goes (forwards _ _ (λ v. v.make.now) (λ _ _ answer p. (answer, p.0)) (λ _ _ _ future c. (future, c.0, c.1))) M.projects };
 }

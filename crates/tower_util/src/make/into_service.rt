@@ -1,8 +1,10 @@
 //! A maker as a service, by value.
 ghost use Rattle.std.specs.Prelude.{◌≡◌};
+ghost use Rattle.tower_base.specs.ProjectionLemmas.{composed_once, forwards};
 
 use futures::task::{Context, Poll};
 use std::marker::{Model, PhantomData};
+use tower_base::run::Contains;
 use tower_base::service::Service;
 
 /// A maker as a service: the Rust's `tower::make::IntoService`.
@@ -58,4 +60,19 @@ where
     fn call(&mut self, target: Target) -> M::Future {
         self.make.call(target)
     }
+}
+
+/// What the maker contains.
+impl<M, S, Target, Request, Passed, L> Contains<Target, Passed, L> for IntoService<M, Request>
+where
+    L: Service<Passed>,
+    M: Contains<Target, Passed, L, Response = S>,
+    S: Service<Request>,
+    Request: Drop,
+{
+    ghost inside = { M.inside };
+
+    ghost goes = { M.goes };
+
+    ghost projects = { composed_once _ _ _ (λ m. m) M.inside M.goes (forwards _ _ (λ m. m) (λ _ _ answer p. (answer, p)) (λ _ _ _ future c. (future, c.0, c.1))) M.projects };
 }

@@ -2,6 +2,8 @@
 ghost use Rattle.std.specs.Prelude.{◌≡◌, Option, Some, None, IsSome, Ok, Result};
 ghost use Rattle.futures.specs.declared.task.Poll.TheVariants.{Ready};
 ghost use Rattle.tower_base.specs.Gives.{IsStep, MayGive};
+ghost use Rattle.tower_base.specs.Projection.{Never, Projects};
+ghost use Rattle.tower_base.specs.ServiceRun.{relations};
 ghost use Rattle.tower_util.specs.Shared.{Called, Stepped};
 ghost use Rattle.tower_util.specs.declared.make.shared.Error.{Error as SharedError};
 
@@ -70,6 +72,14 @@ impl<S: Clone + Drop, T: Drop> Service<T> for Shared<S> {
         }
     }
 }
+
+/// Nothing goes inside: the service is only cloned.
+pub fn projection<S, T, Request>()
+where
+    S: Service<Request> + Clone + Drop,
+    T: Drop,
+    ensures { Projects (relations ⟦<Shared<S> as Service<T>>⟧) (relations S.Service) (λ s. s) Never }
+{}
 
 /// The clone, or `Memory` where it was refused: the Rust's `tower::make::future::SharedFuture`.
 #[derive(Drop)]

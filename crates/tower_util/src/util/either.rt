@@ -3,6 +3,7 @@ ghost use Rattle.std.specs.Prelude.{◌≡◌};
 ghost use Rattle.std.proofs.Common.{rules};
 ghost use Rattle.tower_base.specs.Gives.{IsStep, MayGive};
 ghost use Rattle.tower_util.specs.Either.{Stepped};
+ghost use Rattle.tower_util.specs.Projections.{EitherGoes, either as either_projects};
 ghost use Rattle.tower_util.specs.declared.util.either.Either.TheVariants.{Left, Right};
 ghost use Rattle.tower_util.specs.declared.util.either.EitherResponseFuture.TheVariants.{First, Second};
 
@@ -10,6 +11,7 @@ use futures::future::Future;
 use futures::task::{Context, Poll};
 use std::alloc::AllocError;
 use tower_base::layer::{Identity, Layer};
+use tower_base::run::Contains;
 use tower_base::service::{Service, Steps};
 
 /// One of two services or layers: the Rust's `tower::util::Either`.
@@ -64,6 +66,20 @@ where
             Either::Right(b) => EitherResponseFuture::Second(b.call(request)),
         }
     }
+}
+
+/// What both sides contain.
+impl<R, A, B, Passed, L> Contains<R, Passed, L> for Either<A, B>
+where
+    L: Service<Passed>,
+    A: Contains<R, Passed, L>,
+    B: Contains<R, Passed, L, Response = A::Response, Error = A::Error>,
+{
+    ghost inside = { elim [ Left a ↦ A.inside a | Right b ↦ B.inside b ] };
+
+    ghost goes = { EitherGoes A.goes B.goes };
+
+    ghost projects = { either_projects _ _ _ A.inside B.inside A.goes B.goes A.projects B.projects };
 }
 
 impl<S, A: Layer<S>, B: Layer<S>> Layer<S> for Either<A, B> {

@@ -3,7 +3,8 @@ ghost use Rattle.std.specs.Prelude.{◌≡◌};
 
 use futures::task::{Context, Poll};
 use std::marker::{Model, PhantomData};
-use tower_base::latch::held::{Fact, IsSound, open};
+use tower_latch::held::{Fact, IsSound, open};
+use tower_base::run::Contains;
 use tower_base::service::Service;
 
 // What is lent is sound.
@@ -81,4 +82,17 @@ impl<S: Service<Request>, Request> Service<Request> for Sealed<S, Request> {
         open::<&S, IsSoundBehind<Request>>(&self.service);
         self.service.call(request)
     }
+}
+
+/// What its service contains.
+impl<S: Contains<Request, Passed, L>, Request, Passed, L: Service<Passed>> Contains<
+    Request,
+    Passed,
+    L,
+> for Sealed<S, Request> {
+    ghost inside = { S.inside };
+
+    ghost goes = { S.goes };
+
+    ghost projects = { S.projects };
 }

@@ -5,7 +5,7 @@ use crate::hedge::rotating_histogram::steps::{HistoReply, HistoStep};
 use crate::hedge::rotating_histogram::tally::Tally;
 use std::alloc::Global;
 use std::mem;
-use tower_base::latch::Core;
+use tower_latch::Core;
 use tower_base::service::Fraction;
 
 /// The latencies that are read in the present period, and those that are read in the next one.
@@ -20,8 +20,10 @@ pub struct HistoCore {
 }
 
 impl HistoCore {
+    ghost use Rattle.tower_latch.specs.LatchLemmas.{none_held, no_tokens};
+
     ghost use Rattle.std.specs.Prelude.{◌≡◌, ◌<◌, IsTrue, ◌↔◌};
-    ghost use Rattle.tower_base.specs.Latch.{FollowsMachine};
+    ghost use Rattle.tower_latch.specs.Latch.{FollowsMachine};
     ghost use Rattle.tower_limit.specs.Histogram.{Steps, blank, rotated};
     ghost use Rattle.tower_limit.specs.declared.hedge.rotating_histogram.steps.HistoStep.TheVariants.{Record, Seed, Points, Quantile};
     ghost use Rattle.tower_limit.specs.declared.hedge.rotating_histogram.steps.HistoReply.TheVariants.{Count, Millis};
@@ -113,7 +115,7 @@ impl Core for HistoCore {
     type Reply = HistoReply;
 
     ghost use Rattle.std.specs.Prelude.{false};
-    ghost use Rattle.tower_base.specs.Latch.{StepsAs};
+    ghost use Rattle.tower_latch.specs.Latch.{StepsAs};
     ghost use Rattle.tower_limit.specs.Histogram.{Steps};
     ghost use Rattle.tower_limit.specs.HistoCore.{Opens, StandsFor};
 
@@ -122,6 +124,10 @@ impl Core for HistoCore {
     ghost steps = { StepsAs StandsFor Steps };
 
     ghost is_wait = { λ _. false };
+
+    ghost starts = { none_held };
+
+    ghost counts = { no_tokens };
 
     #[inline(always)]
     fn step(&mut self, step: HistoStep) -> HistoReply {
@@ -135,5 +141,9 @@ impl Core for HistoCore {
 
     fn waits(_reply: &HistoReply) -> bool {
         false
+    }
+
+    fn capacity(&self) -> usize {
+        0
     }
 }

@@ -11,7 +11,7 @@ use crate::limit::concurrency::semaphore::Permit;
 use futures::future::Future;
 use futures::task::{Context, Poll};
 use std::marker::Model;
-use tower_base::latch::Latch;
+use tower_latch::Latch;
 use tower_base::service::Steps;
 
 /// The inner response. It holds the permit of its call until it is dropped: the Rust's

@@ -8,7 +8,7 @@ use crate::limit::concurrency::service::ConcurrencyLimit;
 use std::alloc::{AllocError, Global};
 use std::marker::Model;
 use std::sync::Wait;
-use tower_base::latch::{Guarded, Latch};
+use tower_latch::{Guarded, Latch};
 use tower_base::layer::Layer;
 
 /// Gives each service a limit of its own: the Rust's `tower::limit::ConcurrencyLimitLayer`.

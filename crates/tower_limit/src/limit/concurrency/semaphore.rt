@@ -9,7 +9,7 @@ use futures::task::{Context, Poll};
 use std::alloc::{AllocError, Global};
 use std::marker::Model;
 use std::sync::Wait;
-use tower_base::latch::{Guarded, Latch};
+use tower_latch::{Guarded, Latch};
 
 /// A share of a line of permits: what the Rust has `tokio::sync::Semaphore` for.
 #[derive(Drop)]
@@ -61,6 +61,19 @@ impl<L: Latch<LineCore>> Semaphore<L> {
         }
     }
 
+    /// How many permits of this semaphore, its shares and the limits over it these are: never more than its number, whoever has
+    /// gathered them. If allocation fails, they are dropped.
+    pub fn count(&self, mut permits: Vec<Permit<L>>) -> Result<usize, AllocError>
+        requires { All (λ permit. IsOf L.Latch self.now permit) permits.items }
+        ensures { IfOk result (λ count. (count ≡ vec_len permits) × (count ≤ L.size self.now.latch)) }
+    {
+        let mut tokens = Vec::new(self.alloc);
+        while let Some(permit) = permits.pop() {
+            tokens.push(permit.into_token())?;
+        }
+        Ok(self.latch.count(tokens))
+    }
+
     /// Another share of the same permits. It is refused where the latch refuses its share.
     pub fn share(&self) -> Result<Semaphore<L>, AllocError>
         ensures shares { IfOk result (λ other. SharesPermits L.Latch self.now other) }
@@ -77,6 +90,8 @@ impl<L: Latch<LineCore>> Semaphore<L> {
 /// A permit, which is held until it is dropped.
 pub struct Permit<L: Latch<LineCore>> {
     latch: L,
+    token: L::Token,
+    ghost its: { L.its latch token },
 }
 
 impl<L: Latch<LineCore>> Model for Permit<L> {
@@ -91,8 +106,8 @@ impl<L: Latch<LineCore>> Drop for Permit<L> {
     fn drop(self)
         ensures { (reply : _) × L.gave self.latch LineStep.Release reply }
     {
-        self.latch.step(LineStep::Release);
-        let Permit { latch: _ } = self;
+        let Permit { latch, token } = self;
+        latch.give(LineStep::Release, token);
     }
 }
 
@@ -144,10 +159,11 @@ impl<L: Latch<LineCore>> PollSemaphore<L> {
             None => LineStep::Join,
             Some(key) => LineStep::Look(key),
         };
-        match self.semaphore.latch.wait(step, cx) {
+        let (reply, token) = self.semaphore.latch.wait(step, cx);
+        match reply {
             LineReply::Granted => {
                 self.key = None;
-                Poll::Ready(Ok(Permit { latch }))
+                Poll::Ready(Ok(Permit { latch, token }))
             }
             LineReply::Waiting(key) => {
                 self.key = Some(key);

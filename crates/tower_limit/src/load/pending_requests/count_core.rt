@@ -1,10 +1,10 @@
 //! The core of a count.
 ghost use Rattle.std.specs.Prelude.{false};
-ghost use Rattle.tower_base.specs.Latch.{FollowsMachine, StepsAs};
+ghost use Rattle.tower_latch.specs.Latch.{FollowsMachine, StepsAs};
 ghost use Rattle.tower_limit.specs.Holders.{HolderSteps};
 ghost use Rattle.tower_limit.specs.CountCore.{Opens, StandsFor};
 
-use tower_base::latch::Core;
+use tower_latch::Core;
 
 /// What may be asked of a count.
 #[derive(Clone, Copy, Debug, PartialEq, Eq)]
@@ -39,6 +39,8 @@ pub struct CountCore {
 }
 
 impl CountCore {
+    ghost use Rattle.tower_latch.specs.LatchLemmas.{none_held, no_tokens};
+
     /// Nobody is counted.
     pub fn new() -> CountCore
         ensures { Opens result }
@@ -80,6 +82,10 @@ impl Core for CountCore {
 
     ghost is_wait = { λ _. false };
 
+    ghost starts = { none_held };
+
+    ghost counts = { no_tokens };
+
     #[inline(always)]
     fn step(&mut self, step: CountStep) -> CountReply {
         match step {
@@ -92,5 +98,9 @@ impl Core for CountCore {
     #[inline(always)]
     fn waits(_reply: &CountReply) -> bool {
         false
+    }
+
+    fn capacity(&self) -> usize {
+        0
     }
 }

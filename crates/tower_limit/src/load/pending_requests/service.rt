@@ -15,7 +15,7 @@ use futures::task::{Context, Poll};
 use std::alloc::{AllocError, Global};
 use std::marker::Model;
 use std::sync::Wait;
-use tower_base::latch::{Guarded, Latch};
+use tower_latch::{Guarded, Latch};
 use tower_base::run::Contains;
 use tower_base::service::Service;
 

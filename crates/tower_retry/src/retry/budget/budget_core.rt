@@ -6,7 +6,7 @@ ghost use Rattle.tower_retry.specs.Slots.{kept_sum, slot};
 use crate::retry::budget::slots::Slots;
 use crate::retry::budget::steps::{BudgetReply, BudgetStep, Terms};
 use std::alloc::{AllocError, Global};
-use tower_base::latch::Core;
+use tower_latch::Core;
 use tower_base::service::Fraction;
 
 /// The amount of the present generation, and those of the ten before it.
@@ -31,6 +31,8 @@ pub struct BudgetCore {
 }
 
 impl BudgetCore {
+    ghost use Rattle.tower_latch.specs.LatchLemmas.{none_held, no_tokens};
+
     ghost use Rattle.std.specs.Prelude.{int_le, pos, ◌↔◌};
     ghost use Rattle.tower_retry.specs.Budget.{Fits, Ledger, Withdraws, added, advanced, blank, terms_of};
     ghost use Rattle.tower_retry.specs.BudgetCore.{Changes, Opens, StandsFor, kept_balance, writes};
@@ -169,7 +171,7 @@ impl Core for BudgetCore {
     type Reply = BudgetReply;
 
     ghost use Rattle.std.specs.Prelude.{false};
-    ghost use Rattle.tower_base.specs.Latch.{StepsAs};
+    ghost use Rattle.tower_latch.specs.Latch.{StepsAs};
     ghost use Rattle.tower_retry.specs.Budget.{Steps};
     ghost use Rattle.tower_retry.specs.BudgetCore.{Opens, StandsFor, writes};
 
@@ -178,6 +180,10 @@ impl Core for BudgetCore {
     ghost steps = { StepsAs StandsFor Steps };
 
     ghost is_wait = { λ _. false };
+
+    ghost starts = { none_held };
+
+    ghost counts = { no_tokens };
 
     // It writes eleven slots at most.
     fn step(&mut self, step: BudgetStep) -> BudgetReply
@@ -195,5 +201,9 @@ impl Core for BudgetCore {
 
     fn waits(_reply: &BudgetReply) -> bool {
         false
+    }
+
+    fn capacity(&self) -> usize {
+        0
     }
 }

@@ -7,7 +7,7 @@ use crate::retry::budget::{Budget, BudgetCore, BudgetReply, BudgetStep};
 use std::alloc::{AllocError, Global};
 use std::marker::Model;
 use std::sync::Wait;
-use tower_base::latch::{Guarded, Latch};
+use tower_latch::{Guarded, Latch};
 use tower_base::service::{Clock, Fraction};
 
 /// Some retries a second, and some part of the requests beside: the Rust's
