@@ -137,6 +137,7 @@ impl<T> Links<T> {
         ensures capacity { self.new.entries.capacity ≡ self.old.entries.capacity }
         ensures touches { self.new.touches ≤ self.old.touches + 2 }
     {
+        // By this contract there are fewer entries than a `usize` counts, so the length can grow by one.
         let _capacity = self.cells.capacity();
         let key = self
             .cells

@@ -12,10 +12,10 @@ module _ {C M S R : Type 0} (stands : C → M → Type 0) (machine : M → S →
       let rest = is_run served.0 new more first.0 served.2 first.2 in
       (rest.0, (first.0, first.1, rest.1), rest.2)
 
--- a core without tokens
-pub none_held : {C : Type 0} {opens : C → Type 0} (core : C) → opens core → ◌≡◌ {A = ℕ} 0 0
-none_held core opened = refl
+-- a core without places
+pub none_held : {C : Type 0} (opens : C → Type 0) (core : C) → opens core → ◌≡◌ {A = ℕ} 0 0
+none_held opens core opened = refl
 
-pub no_tokens : {C S R : Type 0} {steps : C → S → R → C → Type 0} (old : C) (step : S) (reply : R) (new : C) → steps old step reply new
+pub no_places : {C S R : Type 0} (steps : C → S → R → C → Type 0) (old : C) (step : S) (reply : R) (new : C) → steps old step reply new
     → (◌≡◌ {A = ℕ} 0 0) × (◌≡◌ {A = ℕ} (0 + 0) (0 + 0)) × (0 ≤ 0)
-no_tokens old step reply new made = (refl, refl, omega arith)
+no_places steps old step reply new made = (refl, refl, omega arith)

@@ -1,16 +1,16 @@
 //! One lock around one core.
-ghost use Rattle.std.specs.Prelude.{◌≡◌, ◌↔◌, ◌≤◌, ◌+◌, true, false, [], ◌∷◌, None, IfOk, IsTrue, MatchOption, All, vec_len};
+ghost use Rattle.std.specs.Prelude.{◌≡◌, ◌↔◌, ◌≤◌, ◌+◌, true, false, [], ◌∷◌, None, IfOk, IsTrue, MatchOption};
 ghost use Rattle.std.specs.Arc.{arc_value};
 ghost use Rattle.futures.specs.Task.{IsArmed, Keeps};
 ghost use Rattle.tower_latch.specs.Latch.{Reached, Came};
 ghost use Rattle.tower_latch.specs.Guarded.{Rests, IsKept, Counted};
-ghost use Rattle.tower_latch.specs.Place.{fresh, Holds, HasCore, MayFree, Leaves};
+ghost use Rattle.tower_latch.specs.CoreTable.{fresh, Holds, HasCore, MayFree, Leaves};
 
-mod place;
+mod table;
 mod token;
 mod waiters;
 
-use crate::guarded::place::{Frees, Gathers, Place, Seat, Takes};
+use crate::guarded::table::{CoreTable, Frees, Gathers, Seat, Takes};
 use crate::guarded::token::Token;
 use crate::{Core, Latch};
 use futures::task::{Context, Source};
@@ -36,8 +36,8 @@ pub struct Guarded<C: Core, R> {
 struct Shared<C: Core> {
     source: Source,
     shares: AtomicU64,
-    place: Place<C>,
-    ghost one: { (place.shared.table_id.words ≡ 1) × (place.shared.table_id.slots ≡ 1) },
+    table: CoreTable<C>,
+    ghost one: { (table.shared.table_id.words ≡ 1) × (table.shared.table_id.slots ≡ 1) },
 }
 
 // What lies under the lock: the core, and the wakers of the tasks that wait.
@@ -62,13 +62,13 @@ impl<C: Core, R: Wait + Copy> Guarded<C, R> {
         let size = core.capacity();
         let mut slots = Vec::new(alloc);
         slots.push(Kept::new(alloc, core))?;
-        let Ok((place, _seat)) = Place::<C>::new(alloc, &[0], slots, &size) else {
+        let Ok((table, _seat)) = CoreTable::<C>::new(alloc, &[0], slots, &size) else {
             return Err(AllocError);
         };
         let shared = Shared {
             source: Source::new(),
             shares: AtomicU64::new(1),
-            place,
+            table,
         };
         Ok(Guarded {
             rt,
@@ -80,10 +80,10 @@ impl<C: Core, R: Wait + Copy> Guarded<C, R> {
     // Takes the core.
     #[inline(always)]
     fn lock(&self) -> Seat<C>
-        ensures has { Holds (λ k. C.size k.core) (λ k. C.out k.core) (fresh (arc_value self.now.shared).place.shared.key) result.me }
-        ensures its { result.table_id ≡ (arc_value self.now.shared).place.shared.table_id }
+        ensures has { Holds (λ k. C.size k.core) (λ k. C.out k.core) (fresh (arc_value self.now.shared).table.shared.key) result.me }
+        ensures its { result.table_id ≡ (arc_value self.now.shared).table.shared.table_id }
     {
-        let (found, mut seat) = self.shared.place.shared.swap_new_seat::<Takes>(0, 1);
+        let (found, mut seat) = self.shared.table.shared.swap_new_seat::<Takes>(0, 1);
         if found != 0 {
             self.lock_late(&mut seat);
         }
@@ -96,16 +96,16 @@ impl<C: Core, R: Wait + Copy> Guarded<C, R> {
     fn lock_late(&self, seat: &mut Seat<C>)
         requires free { seat.old.me ≡ (seat.old.me.0, []) }
         requires without { seat.old.me.0.has ≡ false }
-        requires size { seat.old.me.0.size ≡ (arc_value self.now.shared).place.shared.key }
-        requires its { seat.old.table_id ≡ (arc_value self.now.shared).place.shared.table_id }
+        requires size { seat.old.me.0.size ≡ (arc_value self.now.shared).table.shared.key }
+        requires its { seat.old.table_id ≡ (arc_value self.now.shared).table.shared.table_id }
         ensures has { Holds (λ k. C.size k.core) (λ k. C.out k.core) seat.old.me.0 seat.new.me }
         ensures its { seat.new.table_id ≡ seat.old.table_id }
     {
         for _ in self.rt.forever() {
-            if self.shared.place.shared.swap::<Takes>(seat, 0, 2) == 0 {
+            if self.shared.table.shared.swap::<Takes>(seat, 0, 2) == 0 {
                 return;
             }
-            self.shared.place.shared.park(&self.rt, 0, 2);
+            self.shared.table.shared.park(&self.rt, 0, 2);
         }
         unreachable!()
     }
@@ -113,13 +113,13 @@ impl<C: Core, R: Wait + Copy> Guarded<C, R> {
     // The token's holder takes the core.
     #[inline(always)]
     fn lock_with(&self, token: Token<C>) -> Seat<C>
-        requires its { token.seat.table_id ≡ (arc_value self.now.shared).place.shared.table_id }
-        requires size { token.seat.me.0.size ≡ (arc_value self.now.shared).place.shared.key }
+        requires its { token.seat.table_id ≡ (arc_value self.now.shared).table.shared.table_id }
+        requires size { token.seat.me.0.size ≡ (arc_value self.now.shared).table.shared.key }
         ensures has { Holds (λ k. C.size k.core) (λ k. C.out k.core) token.seat.me.0 result.me }
-        ensures its { result.table_id ≡ (arc_value self.now.shared).place.shared.table_id }
+        ensures its { result.table_id ≡ (arc_value self.now.shared).table.shared.table_id }
     {
         let Token { mut seat } = token;
-        if self.shared.place.shared.swap::<Takes>(&mut seat, 0, 1) != 0 {
+        if self.shared.table.shared.swap::<Takes>(&mut seat, 0, 1) != 0 {
             self.lock_late(&mut seat);
         }
         seat
@@ -128,33 +128,36 @@ impl<C: Core, R: Wait + Copy> Guarded<C, R> {
     // A step with wakers beside the core. Each is woken once the lock is free, unless the reply waits.
     #[cold]
     #[inline(never)]
-    fn step_and_wake(&self, mut seat: Seat<C>, step: C::Step) -> C::Reply
+    fn step_and_wake(&self, mut seat: Seat<C>, step: C::Step) -> (C::Reply, Token<C>)
         requires admitted { C.admits step }
         requires paid { (reply : C.Reply) → C.paid step reply ≤ seat.me.0.out }
-        requires its { seat.table_id ≡ (arc_value self.now.shared).place.shared.table_id }
+        requires its { seat.table_id ≡ (arc_value self.now.shared).table.shared.table_id }
         requires has { seat.me.0.has ≡ true }
-        requires core { HasCore (λ k. C.size k.core) (λ k. C.out k.core) (arc_value self.now.shared).place.shared.key seat.me }
-        ensures { Came C.opens C.steps C.size (arc_value self.now.shared).place.shared.key step result }
+        requires core { HasCore (λ k. C.size k.core) (λ k. C.out k.core) (arc_value self.now.shared).table.shared.key seat.me }
+        ensures came { Came C.opens C.steps C.size (arc_value self.now.shared).table.shared.key step result.0 }
+        ensures its { result.1.seat.table_id ≡ (arc_value self.now.shared).table.shared.table_id }
+        ensures size { result.1.seat.me.0.size ≡ seat.me.0.size }
+        ensures places { result.1.seat.me.0.out + C.paid step result.0 ≡ seat.me.0.out + C.gained result.0 }
     {
-        let (reply, woken) = seat.slot_mut(&self.shared.place.shared, 0).step(step);
+        let (reply, woken) = seat.slot_mut(&self.shared.table.shared, 0).step(step);
         let token = self.free(seat);
         if let Some(woken) = woken {
             woken.wake(&token);
         }
-        reply
+        (reply, token)
     }
 
     // Puts the core back, and wakes a thread that waits for it.
     #[inline(always)]
     fn free(&self, mut seat: Seat<C>) -> Token<C>
-        requires its { seat.table_id ≡ (arc_value self.now.shared).place.shared.table_id }
+        requires its { seat.table_id ≡ (arc_value self.now.shared).table.shared.table_id }
         requires has { seat.me.0.has ≡ true }
-        requires core { MayFree (λ k. C.size k.core) (λ k. C.out k.core) (arc_value self.now.shared).place.shared.key seat.me }
-        ensures its { result.seat.table_id ≡ (arc_value self.now.shared).place.shared.table_id }
+        requires core { MayFree (λ k. C.size k.core) (λ k. C.out k.core) (arc_value self.now.shared).table.shared.key seat.me }
+        ensures its { result.seat.table_id ≡ (arc_value self.now.shared).table.shared.table_id }
         ensures left { Leaves (λ k. C.out k.core) seat.me result.seat.me }
     {
-        if self.shared.place.shared.swap::<Frees>(&mut seat, 0, 0) == 2 {
-            self.shared.place.shared.wake_one(0);
+        if self.shared.table.shared.swap::<Frees>(&mut seat, 0, 0) == 2 {
+            self.shared.table.shared.wake_one(0);
         }
         Token { seat }
     }
@@ -272,16 +275,18 @@ impl<C: Core, R: Wait + Copy> Latch<C> for Guarded<C, R> {
     type Token = Token<C>;
 
     // Somewhere in a run of a core of this size from an opening one, the step had this reply.
-    ghost gave = { λ latch step reply. Came C.opens C.steps C.size (arc_value latch.shared).place.shared.key step reply };
+    ghost gave = { λ latch step reply. Came C.opens C.steps C.size (arc_value latch.shared).table.shared.key step reply };
 
     ghost is_first = { λ latch. latch.share ≡ 0 };
 
     // Both are of one core, as the source beside it is one.
     ghost shares = { λ latch made. IfOk made (λ other. arc_value other.shared ≡ arc_value latch.shared) };
 
-    ghost size = { λ latch. (arc_value latch.shared).place.shared.key };
+    ghost size = { λ latch. (arc_value latch.shared).table.shared.key };
 
-    ghost its = { λ latch token. (token.seat.table_id ≡ (arc_value latch.shared).place.shared.table_id) × (token.seat.me.0.size ≡ (arc_value latch.shared).place.shared.key) × (token.seat.me.0.out ≡ 1) };
+    ghost its = { λ latch token. (token.seat.table_id ≡ (arc_value latch.shared).table.shared.table_id) × (token.seat.me.0.size ≡ (arc_value latch.shared).table.shared.key) };
+
+    ghost places = { λ token. token.seat.me.0.out };
 
     ghost honest = { λ _ _ _ given. given };
 
@@ -289,19 +294,19 @@ impl<C: Core, R: Wait + Copy> Latch<C> for Guarded<C, R> {
     #[inline(always)]
     fn step(&self, step: C::Step) -> C::Reply {
         let mut seat = self.lock();
-        let kept = seat.slot_mut(&self.shared.place.shared, 0);
+        let kept = seat.slot_mut(&self.shared.table.shared, 0);
         if kept.is_alone() {
             let reply = kept.step_alone(step);
             self.free(seat);
             return reply;
         }
-        self.step_and_wake(seat, step)
+        self.step_and_wake(seat, step).0
     }
 
     #[inline(always)]
     fn wait(&self, step: C::Step, cx: &mut Context<'_>) -> (C::Reply, Token<C>) {
         let mut seat = self.lock();
-        let kept = seat.slot_mut(&self.shared.place.shared, 0);
+        let kept = seat.slot_mut(&self.shared.table.shared, 0);
         if kept.is_alone() {
             let reply = kept.wait_alone(step, self.share, &self.shared.source, cx);
             return (reply, self.free(seat));
@@ -315,33 +320,28 @@ impl<C: Core, R: Wait + Copy> Latch<C> for Guarded<C, R> {
     }
 
     #[inline(always)]
-    fn give(&self, step: C::Step, token: Token<C>) -> C::Reply {
+    fn give(&self, step: C::Step, token: Token<C>) -> (C::Reply, Token<C>) {
         let mut seat = self.lock_with(token);
-        let kept = seat.slot_mut(&self.shared.place.shared, 0);
+        let kept = seat.slot_mut(&self.shared.table.shared, 0);
         if kept.is_alone() {
             let reply = kept.step_alone(step);
-            self.free(seat);
-            return reply;
+            return (reply, self.free(seat));
         }
         self.step_and_wake(seat, step)
     }
 
-    fn count(&self, mut tokens: Vec<Token<C>>) -> usize
-        requires { All (⟦<Guarded<C, R> as Latch<C>>⟧.its self.now) tokens.items }
-        ensures count { result ≡ vec_len tokens }
-        ensures bound { result ≤ ⟦<Guarded<C, R> as Latch<C>>⟧.size self.now }
-    {
-        let count = tokens.len();
-        let mut seat = self.lock();
-        seat.slot_mut(&self.shared.place.shared, 0).looked_at();
-        while let Some(token) = tokens.pop() {
-            self.shared
-                .place
-                .shared
-                .join_seat::<Gathers>(&mut seat, token.seat);
-        }
-        self.free(seat);
-        count
+    fn empty(&self) -> Token<C> {
+        self.free(self.lock())
+    }
+
+    fn merge(&self, token: Token<C>, other: Token<C>) -> Token<C> {
+        let mut seat = self.lock_with(token);
+        seat.slot_mut(&self.shared.table.shared, 0).looked_at();
+        self.shared
+            .table
+            .shared
+            .join_seat::<Gathers>(&mut seat, other.seat);
+        self.free(seat)
     }
 
     fn share(&self) -> Result<Guarded<C, R>, AllocError> {

@@ -1,7 +1,7 @@
 //! Shared state as a machine without locks, and the lock around it.
 #![tactic(auto)]
 
-ghost use Rattle.std.specs.Prelude.{◌≡◌, ◌≤◌, ◌+◌, ℕ, Bool, true, ⊤, All, IfOk, Result, vec_len};
+ghost use Rattle.std.specs.Prelude.{◌≡◌, ◌≤◌, ◌+◌, ℕ, Bool, true, ⊤, IfOk, Result};
 ghost use Rattle.std.specs.declared.alloc.AllocError.{AllocError};
 ghost use Rattle.tower_latch.specs.Latch.{Came};
 ghost use Rattle.futures.specs.Task.{IsArmed, Keeps};
@@ -9,6 +9,7 @@ ghost use Rattle.futures.specs.Task.{IsArmed, Keeps};
 mod guarded;
 pub mod held;
 mod logged;
+pub mod wait_queue;
 
 use futures::task::Context;
 pub use guarded::Guarded;
@@ -17,7 +18,7 @@ use std::alloc::AllocError;
 
 /// A machine without locks: one event is one `step`.
 ///
-/// It may hand out tokens, each of which shows that its holder has one of the core's places. Contracts see how many there are.
+/// It may have places, which its steps hand out and take back. Contracts see how many there are.
 pub trait Core: Drop {
     type Step: Drop;
 
@@ -35,7 +36,7 @@ pub trait Core: Drop {
     // The reply asks its caller to come again.
     ghost is_wait: { Self.Reply → Bool };
 
-    // How many tokens there are.
+    // How many places there are.
     ghost size: { Self → ℕ } = { λ _. 0 };
 
     // How many of them are held.
@@ -47,7 +48,7 @@ pub trait Core: Drop {
     // So many are handed out with this reply.
     ghost gained: { Self.Reply → ℕ } = { λ _. 0 };
 
-    /// How many tokens there are.
+    /// How many places there are.
     fn capacity(&self) -> usize
         ensures { result ≡ size self.now };
 
@@ -60,17 +61,17 @@ pub trait Core: Drop {
     fn waits(reply: &Self::Reply) -> bool
         ensures { result ≡ is_wait reply.now };
 
-    // No token is held at the beginning of a run.
+    // No place is held at the beginning of a run.
     ghost starts: { (core : Self) → opens core → out core ≡ 0 };
 
-    // Each step counts the tokens.
+    // Each step counts the places.
     ghost counts: { (old : Self) (step : Self.Step) (reply : Self.Reply) (new : Self) → steps old step reply new
         → (size new ≡ size old) × (out new + paid step reply ≡ out old + gained reply) × (out new ≤ size new) };
 }
 
 /// A share of one core. Nothing else gives a reply.
 pub trait Latch<C: Core>: Sized + Drop {
-    /// Shows that its holder has one of the core's places.
+    /// Shows that its holder has so many of the core's places.
     type Token: Drop;
 
     // A step that was made at this latch gave this reply.
@@ -82,39 +83,53 @@ pub trait Latch<C: Core>: Sized + Drop {
     // A request for another share may have this answer.
     ghost shares: { Self → Result Self AllocError → Type 0 } = { λ _ _. ⊤ };
 
-    // How many tokens its core has.
+    // How many places its core has.
     ghost size: { Self → ℕ };
 
     // The token is of its core.
     ghost its: { Self → Self.Token → Type 0 };
 
-    /// Makes one step of the core. A token that the reply hands out is lost.
+    // So many places its holder has.
+    ghost places: { Self.Token → ℕ };
+
+    /// Makes one step of the core. Places that the reply hands out are lost.
     fn step(&self, step: C::Step) -> C::Reply
         requires admitted { C.admits step }
         requires unpaid { (reply : C.Reply) → C.paid step reply ≡ 0 }
         ensures { gave self.now step result };
 
-    /// As `step`. If the reply waits, the task is polled again after a step whose reply doesn't. If the reply hands a token out, it is this one.
+    /// As `step`, with a token of the places that the reply hands out. If the reply waits, the task is polled again after a step
+    /// whose reply doesn't.
     fn wait(&self, step: C::Step, cx: &mut Context<'_>) -> (C::Reply, Self::Token)
         requires admitted { C.admits step }
         requires unpaid { (reply : C.Reply) → C.paid step reply ≡ 0 }
         ensures gave { gave self.now step result.0 }
-        ensures token { C.gained result.0 ≡ 1 → its self.now result.1 }
+        ensures its { its self.now result.1 }
+        ensures places { places result.1 ≡ C.gained result.0 }
         ensures armed { C.is_wait result.0 ≡ true → IsArmed cx.new }
         ensures kept { Keeps cx.old cx.new };
 
-    /// As `step`. The token goes back with it.
-    fn give(&self, step: C::Step, token: Self::Token) -> C::Reply
+    /// As `step`, by the holder of the token: the token that it returns has what the reply pays less, and what it hands out more.
+    fn give(&self, step: C::Step, token: Self::Token) -> (C::Reply, Self::Token)
         requires admitted { C.admits step }
-        requires paid { (reply : C.Reply) → C.paid step reply ≤ 1 }
+        requires paid { (reply : C.Reply) → C.paid step reply ≤ places token }
         requires its { its self.now token }
-        ensures { gave self.now step result };
+        ensures gave { gave self.now step result.0 }
+        ensures its { its self.now result.1 }
+        ensures places { places result.1 + C.paid step result.0 ≡ places token + C.gained result.0 };
 
-    /// How many tokens of its core these are: never more than it has.
-    fn count(&self, tokens: Vec<Self::Token>) -> usize
-        requires { All (its self.now) tokens.items }
-        ensures count { result ≡ vec_len tokens }
-        ensures bound { result ≤ size self.now };
+    /// A token of no place.
+    fn empty(&self) -> Self::Token
+        ensures its { its self.now result }
+        ensures places { places result ≡ 0 };
+
+    /// One token of the places of both. All that one can gather are never more than the core has.
+    fn merge(&self, token: Self::Token, other: Self::Token) -> Self::Token
+        requires its { its self.now token }
+        requires others { its self.now other }
+        ensures its { its self.now result }
+        ensures places { places result ≡ places token + places other }
+        ensures bound { places result ≤ size self.now };
 
     /// Another share of the same core: what it gives, this latch gives.
     fn share(&self) -> Result<Self, AllocError>
@@ -122,6 +137,6 @@ pub trait Latch<C: Core>: Sized + Drop {
         ensures same { IfOk result (λ other. (step : _) (reply : _) → gave other step reply → gave self.now step reply) }
         ensures tokens { IfOk result (λ other. (size other ≡ size self.now) × ((token : _) → its other token → its self.now token) × ((token : _) → its self.now token → its other token)) };
 
-    // A reply is one of a run of the core, of so many tokens, from an opening one.
+    // A reply is one of a run of the core, of so many places, from an opening one.
     ghost honest: { (latch : Self) (s : C.Step) (r : C.Reply) → gave latch s r → Came C.opens C.steps C.size (size latch) s r };
 }

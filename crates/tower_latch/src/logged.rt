@@ -3,16 +3,16 @@ ghost use Rattle.std.specs.Prelude.{◌≡◌, ◌≢◌, ℕ, ◌<◌, List, []
 ghost use Rattle.std.specs.List.{sum_by, AllByRecursion};
 ghost use Rattle.tower_latch.specs.History.{IsLegal, EachFits, HaveOneEach, Weighs};
 
-mod held;
 mod log;
+mod passes;
 mod rule;
 mod tokens;
 
 use crate::Core;
-use crate::logged::held::Held;
+use crate::logged::passes::Held;
 use crate::logged::rule::Cell;
-pub use held::{Pass, Receipt};
 pub use log::{Log, LogTable};
+pub use passes::{Pass, Receipt};
 use std::alloc::{AllocError, Global};
 use std::marker::{Model, PhantomData};
 use std::sync::ledger::{Blank, Ledger};

@@ -23,6 +23,3 @@ pub mod RateLends
 pub mod RateReady
 pub mod RateRun
 pub mod RotatingHistogram
-pub mod Turns
-pub mod WaitQueue
-pub mod Waiters

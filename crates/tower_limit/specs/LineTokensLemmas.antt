@@ -108,10 +108,11 @@ counts old step reply new (stood, follows) =
     let line : Line = stood.0 in
     let next = follows line stood.1 in
     let before = stood.1.1.2.0 in
-    let after = next.2.1.2.0 in
-    (sym next.2.0 ∙ next.1.0 ∙ stood.1.0,
-    lemma _ _ _ _ before after (tokens line.max line.tickets step reply next.0.tickets next.1.1),
-    bound _ _ after (within new.max next.0.tickets next.2.1.2.2))
+    let after = next.2.1.2.0 in (
+      sym next.2.0 ∙ next.1.0 ∙ stood.1.0,
+      lemma _ _ _ _ before after (tokens line.max line.tickets step reply next.0.tickets next.1.1),
+      bound _ _ after (within new.max next.0.tickets next.2.1.2.2),
+    )
   where
     lemma : (b a o n : ℕ) → b ≡ o → a ≡ n → a + paid step reply ≡ b + gained reply → n + paid step reply ≡ o + gained reply
     lemma b a o n p q r = omega (arith, p, q, r)

@@ -17,7 +17,7 @@ struct Seats {
 }
 
 impl Core for Seats {
-    ghost use Rattle.tower_latch.specs.LatchLemmas.{none_held, no_tokens};
+    ghost use Rattle.tower_latch.specs.LatchLemmas.{none_held, no_places};
 
     type Step = ();
 
@@ -29,9 +29,9 @@ impl Core for Seats {
 
     ghost is_wait = { λ _. false };
 
-    ghost starts = { none_held };
+    ghost starts = { none_held _ };
 
-    ghost counts = { no_tokens };
+    ghost counts = { no_places _ };
 
     fn step(&mut self, _step: ()) -> Option<u32> {
         if self.left == 0 {

@@ -64,7 +64,7 @@ pub struct SlotCore<S, E> {
 }
 
 impl<S, E> Model for SlotCore<S, E> {
-    ghost use Rattle.tower_latch.specs.LatchLemmas.{none_held, no_tokens};
+    ghost use Rattle.tower_latch.specs.LatchLemmas.{none_held, no_places};
 
     ghost use Rattle.tower.specs.declared.spawn_ready.slot_core.Slot.{Slot};
 
@@ -97,9 +97,9 @@ impl<S: Drop, E: Drop> Core for SlotCore<S, E> {
 
     ghost is_wait = { is_waiting };
 
-    ghost starts = { none_held };
+    ghost starts = { none_held _ };
 
-    ghost counts = { no_tokens };
+    ghost counts = { no_places _ };
 
     fn step(&mut self, step: SlotStep<S, E>) -> SlotReply<S, E> {
         let old = mem::replace(&mut self.slot, Slot::Idle);

@@ -1,10 +1,10 @@
-//! What shows that its holder has one of a core's places.
+//! What shows that its holder has places of a core.
 ghost use Rattle.std.specs.Prelude.{◌≡◌, [], false};
 
 use crate::Core;
-use crate::guarded::place::Seat;
+use crate::guarded::table::Seat;
 
-/// Shows that its holder has one of the places of a core under a lock. It has no bytes.
+/// Shows that its holder has so many of the places of a core under a lock. It has no bytes.
 #[derive(Drop)]
 pub struct Token<C: Core> {
     pub seat: Seat<C>,

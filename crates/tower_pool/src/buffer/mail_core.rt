@@ -16,7 +16,7 @@ pub struct MailCore<Request, F, E: Clone> {
 }
 
 impl<Request, F, E: Clone> Model for MailCore<Request, F, E> {
-    ghost use Rattle.tower_latch.specs.LatchLemmas.{none_held, no_tokens};
+    ghost use Rattle.tower_latch.specs.LatchLemmas.{none_held, no_places};
 
     ghost use Rattle.std.specs.Prelude.{◌≡◌};
     ghost use Rattle.tower_pool.specs.declared.buffer.mailbox.Mailbox.{Mailbox};
@@ -68,9 +68,9 @@ impl<Request: Drop, F: Drop, E: Clone> Core for MailCore<Request, F, E> {
 
     ghost is_wait = { is_waiting };
 
-    ghost starts = { none_held };
+    ghost starts = { none_held _ };
 
-    ghost counts = { no_tokens };
+    ghost counts = { no_places _ };
 
     /// Open mail answers `Memory` to `Reserve` only where room was missing. `Take` reaches at most six entries,
     /// of the messages and of those who wait, for each message that leaves the queue, and any other step

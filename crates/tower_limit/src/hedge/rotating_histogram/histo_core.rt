@@ -5,8 +5,8 @@ use crate::hedge::rotating_histogram::steps::{HistoReply, HistoStep};
 use crate::hedge::rotating_histogram::tally::Tally;
 use std::alloc::Global;
 use std::mem;
-use tower_latch::Core;
 use tower_base::service::Fraction;
+use tower_latch::Core;
 
 /// The latencies that are read in the present period, and those that are read in the next one.
 #[derive(Drop)]
@@ -20,8 +20,7 @@ pub struct HistoCore {
 }
 
 impl HistoCore {
-    ghost use Rattle.tower_latch.specs.LatchLemmas.{none_held, no_tokens};
-
+    ghost use Rattle.tower_latch.specs.LatchLemmas.{none_held, no_places};
     ghost use Rattle.std.specs.Prelude.{◌≡◌, ◌<◌, IsTrue, ◌↔◌};
     ghost use Rattle.tower_latch.specs.Latch.{FollowsMachine};
     ghost use Rattle.tower_limit.specs.Histogram.{Steps, blank, rotated};
@@ -125,9 +124,9 @@ impl Core for HistoCore {
 
     ghost is_wait = { λ _. false };
 
-    ghost starts = { none_held };
+    ghost starts = { none_held _ };
 
-    ghost counts = { no_tokens };
+    ghost counts = { no_places _ };
 
     #[inline(always)]
     fn step(&mut self, step: HistoStep) -> HistoReply {

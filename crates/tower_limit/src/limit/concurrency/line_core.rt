@@ -1,10 +1,10 @@
 //! Who holds a permit, and who waits for one.
 ghost use Rattle.std.specs.Prelude.{◌≡◌, ◌<◌, ◌≤◌, ◌+◌, ◌^◌};
-ghost use Rattle.tower_limit.specs.WaitQueue.{granted, waiting};
+ghost use Rattle.tower_latch.specs.WaitQueue.{granted, waiting};
 
-use crate::wait_queue::{Turn, WaitQueue};
 use std::alloc::{AllocError, Global};
 use tower_latch::Core;
+use tower_latch::wait_queue::{Turn, WaitQueue};
 
 /// What may be asked of the line of permits.
 #[derive(Clone, Copy, Debug, PartialEq, Eq)]

@@ -1,6 +1,6 @@
 //! Permits, and those who ask for them.
-ghost use Rattle.std.specs.Prelude.{◌≡◌, IfOk, IfErr, IfSome, None, Err};
-ghost use Rattle.tower_limit.specs.Concurrency.{SemaphoreView, PermitView, PollSemaphoreView, SharesPermits, Acquired};
+ghost use Rattle.std.specs.Prelude.{◌≡◌, ◌≤◌, All, IfOk, IfErr, IfSome, None, Err, vec_len};
+ghost use Rattle.tower_limit.specs.Concurrency.{SemaphoreView, PermitView, PollSemaphoreView, SharesPermits, IsOf, Acquired};
 ghost use Rattle.futures.specs.Task.{IsArmed, Keeps};
 ghost use Rattle.futures.specs.Poll.{OnPending};
 
@@ -28,7 +28,8 @@ impl<R: Wait + Copy> Semaphore<Guarded<LineCore, R>> {
     /// So many permits, all free, behind a lock. Any number will do, 0 too. It is refused where there is
     /// no memory for the line.
     pub fn new(rt: R, alloc: Global, max: usize) -> Result<Self, AllocError>
-        ensures { IfOk result (λ made. made.max ≡ max) }
+        ensures max { IfOk result (λ made. made.max ≡ max) }
+        ensures size { IfOk result (λ made. ⟦<Guarded<LineCore, R> as Latch<LineCore>>⟧.size made.latch ≡ max) }
     {
         let core = LineCore::new(alloc, max);
         let latch = Guarded::new(rt, alloc, core)?;
@@ -61,17 +62,22 @@ impl<L: Latch<LineCore>> Semaphore<L> {
         }
     }
 
-    /// How many permits of this semaphore, its shares and the limits over it these are: never more than its number, whoever has
-    /// gathered them. If allocation fails, they are dropped.
-    pub fn count(&self, mut permits: Vec<Permit<L>>) -> Result<usize, AllocError>
-        requires { All (λ permit. IsOf L.Latch self.now permit) permits.items }
-        ensures { IfOk result (λ count. (count ≡ vec_len permits) × (count ≤ L.size self.now.latch)) }
+    /// Gives back permits of this semaphore, of its shares, and of the limits over these. It returns how many they were, which is never more than
+    /// `max`, whoever has gathered them.
+    pub fn release_all(&self, mut permits: Vec<Permit<L>>) -> usize
+        requires { All (IsOf L.Latch self.now) permits.items }
+        ensures count { result ≡ vec_len permits }
+        ensures bound { result ≤ L.size self.now.latch }
     {
-        let mut tokens = Vec::new(self.alloc);
+        let count = permits.len();
+        let mut token = self.latch.empty();
         while let Some(permit) = permits.pop() {
-            tokens.push(permit.into_token())?;
+            token = self.latch.merge(token, permit.into_token());
         }
-        Ok(self.latch.count(tokens))
+        for _ in 0..count {
+            (_, token) = self.latch.give(LineStep::Release, token);
+        }
+        count
     }
 
     /// Another share of the same permits. It is refused where the latch refuses its share.
@@ -92,12 +98,24 @@ pub struct Permit<L: Latch<LineCore>> {
     latch: L,
     token: L::Token,
     ghost its: { L.its latch token },
+    ghost one: { L.places token ≡ 1 },
 }
 
 impl<L: Latch<LineCore>> Model for Permit<L> {
     ghost Value = { PermitView L };
 
     ghost view = { λ p. record { latch = p.latch } };
+}
+
+impl<L: Latch<LineCore>> Permit<L> {
+    // What shows that it is held.
+    fn into_token(self) -> L::Token
+        ensures its { L.its self.latch result }
+        ensures one { L.places result ≡ 1 }
+    {
+        let Permit { latch: _, token } = self;
+        token
+    }
 }
 
 /// The permit goes back by one step at its latch.

@@ -39,7 +39,7 @@ pub struct CountCore {
 }
 
 impl CountCore {
-    ghost use Rattle.tower_latch.specs.LatchLemmas.{none_held, no_tokens};
+    ghost use Rattle.tower_latch.specs.LatchLemmas.{none_held, no_places};
 
     /// Nobody is counted.
     pub fn new() -> CountCore
@@ -82,9 +82,9 @@ impl Core for CountCore {
 
     ghost is_wait = { λ _. false };
 
-    ghost starts = { none_held };
+    ghost starts = { none_held _ };
 
-    ghost counts = { no_tokens };
+    ghost counts = { no_places _ };
 
     #[inline(always)]
     fn step(&mut self, step: CountStep) -> CountReply {

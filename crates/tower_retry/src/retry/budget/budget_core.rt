@@ -31,7 +31,7 @@ pub struct BudgetCore {
 }
 
 impl BudgetCore {
-    ghost use Rattle.tower_latch.specs.LatchLemmas.{none_held, no_tokens};
+    ghost use Rattle.tower_latch.specs.LatchLemmas.{none_held, no_places};
 
     ghost use Rattle.std.specs.Prelude.{int_le, pos, ◌↔◌};
     ghost use Rattle.tower_retry.specs.Budget.{Fits, Ledger, Withdraws, added, advanced, blank, terms_of};
@@ -181,9 +181,9 @@ impl Core for BudgetCore {
 
     ghost is_wait = { λ _. false };
 
-    ghost starts = { none_held };
+    ghost starts = { none_held _ };
 
-    ghost counts = { no_tokens };
+    ghost counts = { no_places _ };
 
     // It writes eleven slots at most.
     fn step(&mut self, step: BudgetStep) -> BudgetReply

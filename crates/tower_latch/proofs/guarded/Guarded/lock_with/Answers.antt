@@ -1,20 +1,23 @@
-use Rattle.std.proofs.Common.{◌≡◌, ◌≢◌, ◌<◌, [], false, arith, ap, sym, subst, ◌∙◌}
+use Rattle.std.proofs.Common.{◌≡◌, ◌<◌, [], arith, ap, sym, subst, ◌∙◌}
 use Rattle.atomic_table.specs.Table.{Allows, step}
 use mathlib.Core.Option.{none}
-use Rattle.tower_latch.specs.Place.{Agree, Taken, Holds}
-use Rattle.tower_latch.proofs.PlaceMoves.{takes_at}
+use Rattle.tower_latch.specs.CoreTable.{Agree, Taken, Holds}
+use Rattle.tower_latch.proofs.CoreTableMoves.{takes_at}
 use Rattle.tower_latch.proofs.guarded.Guarded.lock_with.Goals as goal
 
 pub swap-requires : goal.swap-requires
 swap-requires g c =
-    let place = c.deref.result.now.place.shared in
+    let place = c.deref.result.now.table.shared in
     let room : 0 < place.table_id.words = omega (arith, c.deref.result.now.one.0) in
     let me = c.args.token.seat.me in
-    let tied : c.args.token.seat.table_id ≡ place.table_id = c.requires.its ∙ sym (ap (λ t. t.place.shared.table_id) c.deref.ensures) in
+    let tied : c.args.token.seat.table_id ≡ place.table_id = c.requires.its ∙ sym (ap (λ t. t.table.shared.table_id) c.deref.ensures) in
     let free : me ≡ (me.0, []) = ap (λ l. (me.0, l)) c.args.token.away.0 in
-    let size : me.0.size ≡ place.key = c.requires.size ∙ sym (ap (λ t. t.place.shared.key) c.deref.ensures) in
-    (tied, room, subst (λ n. Allows (Agree (λ k. g.C.Core.size k.core) (λ k. g.C.Core.out k.core) place.key) n c.args.token.seat.id me 0 (λ _. 1) (Taken (λ k. g.C.Core.size k.core) (λ k. g.C.Core.out k.core) (step n 0 1 0 none) me)) (sym c.deref.result.now.one.1)
-    (takes_at (λ k. g.C.Core.size k.core) (λ k. g.C.Core.out k.core) place.key c.args.token.seat.id 1 me.0 me free c.args.token.away.1 size (λ e. omega (arith, e))))
+    let size : me.0.size ≡ place.key = c.requires.size ∙ sym (ap (λ t. t.table.shared.key) c.deref.ensures) in (
+      tied,
+      room,
+      subst (λ n. Allows (Agree (λ k. g.C.Core.size k.core) (λ k. g.C.Core.out k.core) place.key) n c.args.token.seat.id me 0 (λ _. 1) (Taken (λ k. g.C.Core.size k.core) (λ k. g.C.Core.out k.core) (step n 0 1 0 none) me)) (sym c.deref.result.now.one.1)
+          (takes_at (λ k. g.C.Core.size k.core) (λ k. g.C.Core.out k.core) place.key c.args.token.seat.id 1 me.0 me free c.args.token.away.1 size (λ e. omega (arith, e))),
+    )
 
 pub returns-then-swap-ne0-clause-has : goal.returns-then-swap-ne0-clause-has
 returns-then-swap-ne0-clause-has g c =

@@ -1,7 +1,7 @@
 use Rattle.std.proofs.Common.{rules, ◌≡◌, [], ◌∷◌, ◌∙◌, subst, sym, ap}
 use Rattle.atomic_table.specs.Table.{opening}
-use Rattle.tower_latch.specs.Place.{Agree, fresh}
-use Rattle.tower_latch.proofs.PlaceMoves.{begins}
+use Rattle.tower_latch.specs.CoreTable.{Agree, fresh}
+use Rattle.tower_latch.proofs.CoreTableMoves.{begins}
 use Rattle.tower_latch.proofs.guarded.Guarded.new.Goals as goal
 
 pub new-requires-2 : goal.new-requires-2
