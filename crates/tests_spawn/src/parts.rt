@@ -5,9 +5,9 @@ use std::cell::{Cell, RefCell};
 use tests_support::log::Log;
 use tests_support::run::stepped;
 use tower::spawn_ready::{SlotCore, SlotReply, SlotStep};
+use tower_base::service::{Executor, Steps};
 use tower_latch::Latch;
 use tower_latch::held::Pollable;
-use tower_base::service::{Executor, Steps};
 
 /// Where an executor keeps its task for the test.
 #[derive(Drop)]

@@ -1,5 +1,5 @@
 -- Which replies a line gives.
-use Rattle.std.proofs.Common.{◌≡◌, ◌⊎◌, ℕ, Option, None, Some, inl, inr, refl, ap, ◌∙◌, subst}
+use Rattle.std.proofs.Common.{◌≡◌, ◌⊎◌, ◌≤◌, ℕ, Option, None, Some, inl, inr, refl, ap, arith, ◌∙◌, subst}
 use Rattle.tower_latch.specs.Latch.{StepsAs}
 use Rattle.tower_limit.proofs.Lines.{stepped}
 use Rattle.tower_limit.specs.LineCore.{StandsFor}
@@ -8,9 +8,18 @@ use Rattle.tower_limit.specs.LineTokens.{paid}
 use Rattle.tower_limit.specs.declared.limit.concurrency.line_core.LineCore.{LineCore}
 use Rattle.tower_limit.specs.Line.{Steps, LineSteps}
 use Rattle.tower_limit.specs.declared.limit.concurrency.line_core.LineStep.{LineStep}
-use Rattle.tower_limit.specs.declared.limit.concurrency.line_core.LineStep.TheVariants.{Join, Look, Free}
+use Rattle.tower_limit.specs.declared.limit.concurrency.line_core.LineStep.TheVariants.{Join, Look, Release, Free}
 use Rattle.tower_limit.specs.declared.limit.concurrency.line_core.LineReply.{LineReply}
 use Rattle.tower_limit.specs.declared.limit.concurrency.line_core.LineReply.TheVariants.{Granted, Waiting, Left, Count, Unknown, Memory}
+
+-- who leaves gives one permit back at most
+pub pays_one : (reply : LineReply) → paid Release reply ≤ 1
+pays_one Granted = omega arith
+pays_one (Waiting key) = omega arith
+pays_one Left = omega arith
+pays_one (Count n) = omega arith
+pays_one Unknown = omega arith
+pays_one Memory = omega arith
 
 count_reply : (max : ℕ) (line next : _) (reply : LineReply) → Steps max line Free reply next → (n : ℕ) × (reply ≡ Count n)
 count_reply max line next (Count n) t = (n, (cc))

@@ -51,7 +51,7 @@ idle inner semaphore = record { inner = inner; asking = record { semaphore = sem
 
 -- round the service, over a semaphore of its own of so many permits, idle
 pub record New {S L : Type 0} (places : L → ℕ) (service : S) (max : ℕ) (made : ConcurrencyLimitView S L) : Type 0 where
-  pub max : made.asking.semaphore.max ≡ max
+  pub number : made.asking.semaphore.max ≡ max
   pub size : places made.asking.semaphore.latch ≡ max
   pub round : made ≡ idle service made.asking.semaphore
 
@@ -61,7 +61,7 @@ RanOut (Ready (Err e)) = Unit {0}
 RanOut (Ready (Ok x)) = ⊥
 RanOut Pending = ⊥
 
-module _ {L T : Type 0} (l : LatchOf L LineCore LineStep LineReply T) where
+module _ {L T : Type 0} (l : LatchOf L LineCore T LineStep LineReply) where
   -- the second is a share of the first: what it gave, the first gave, and their tokens are the same
   pub record Shares (latch other : L) : Type 0 where
     pub gives : (step : LineStep) (reply : LineReply) → l.gave other step reply → l.gave latch step reply

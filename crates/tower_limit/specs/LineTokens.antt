@@ -1,7 +1,7 @@
 -- The tokens of a line: one for each holder.
 use Rattle.std.specs.Prelude.{ℕ}
 use Rattle.tower_limit.specs.declared.limit.concurrency.line_core.LineStep.{LineStep}
-use Rattle.tower_limit.specs.declared.limit.concurrency.line_core.LineStep.TheVariants.{Join, Look, Cancel, Release, Free}
+use Rattle.tower_limit.specs.declared.limit.concurrency.line_core.LineStep.TheVariants.{Release}
 use Rattle.tower_limit.specs.declared.limit.concurrency.line_core.LineReply.{LineReply}
 use Rattle.tower_limit.specs.declared.limit.concurrency.line_core.LineReply.TheVariants.{Granted, Left}
 

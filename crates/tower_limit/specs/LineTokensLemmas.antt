@@ -1,10 +1,10 @@
 -- How many hold a permit, as a line changes.
-use Rattle.std.proofs.Common.{◌≡◌, ◌≤◌, ◌<◌, ◌+◌, ◌-◌, ℕ, zero, suc, List, [], ◌∷◌, ◌++◌, Option, Some, None, refl, sym, ap, ◌∙◌, subst, arith, slice_set}
+use Rattle.std.proofs.Common.{◌≡◌, ◌≤◌, ◌<◌, ◌+◌, ◌-◌, ℕ, zero, suc, List, [], ◌∷◌, ◌++◌, Some, None, refl, sym, ap, ◌∙◌, arith, slice_set}
 use Rattle.std.specs.Prelude.{slice_get, remove}
 use Rattle.std.proofs.lemmas.Option.{same_Some, none-some}
-use Rattle.tower_latch.specs.Latch.{StepsAs, FollowsMachine}
-use Rattle.tower_limit.specs.Line.{Ticket, Line, Steps, LineSteps, At, blank, keys_of}
-use Rattle.tower_limit.specs.LineCore.{holders, HoldersBelow, Stands, StandsAt, StandsFor, Opens}
+use Rattle.tower_latch.specs.Latch.{StepsAs}
+use Rattle.tower_limit.specs.Line.{Ticket, Line, Steps, LineSteps, At}
+use Rattle.tower_limit.specs.LineCore.{holders, HoldersBelow, StandsFor, Opens}
 use Rattle.tower_limit.specs.declared.limit.concurrency.line_core.LineCore.{LineCore}
 use Rattle.tower_limit.specs.declared.limit.concurrency.line_core.LineStep.{LineStep}
 use Rattle.tower_limit.specs.declared.limit.concurrency.line_core.LineStep.TheVariants.{Join, Look, Cancel, Release, Free}

@@ -15,10 +15,10 @@ use futures::task::{Context, Poll};
 use std::alloc::{AllocError, Global};
 use std::marker::PhantomData;
 use std::sync::Wait;
-use tower_latch::held::Viewed;
-use tower_latch::{Guarded, Latch};
 use tower_base::passes::TURNS;
 use tower_base::service::{Executor, Service};
+use tower_latch::held::Viewed;
+use tower_latch::{Guarded, Latch};
 
 /// Hands its service, while that isn't ready, to a task of its own, which drives it to readiness and gives
 /// it back: the Rust's `tower::spawn_ready::SpawnReady`.

@@ -65,7 +65,6 @@ pub struct SlotCore<S, E> {
 
 impl<S, E> Model for SlotCore<S, E> {
     ghost use Rattle.tower_latch.specs.LatchLemmas.{none_held, no_places};
-
     ghost use Rattle.tower.specs.declared.spawn_ready.slot_core.Slot.{Slot};
 
     ghost Value = { Slot S E };

@@ -10,9 +10,9 @@ use crate::spawn_ready::slot_core::{SlotCore, SlotReply, SlotStep};
 use futures::future::Future;
 use futures::task::{Context, Poll};
 use std::marker::PhantomData;
+use tower_base::service::{Service, Steps};
 use tower_latch::Latch;
 use tower_latch::held::Viewed;
-use tower_base::service::{Service, Steps};
 
 /// Drives a service to readiness, and puts it into its slot: what the Rust spawns a `ReadyOneshot` for.
 ///

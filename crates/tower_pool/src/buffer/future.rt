@@ -16,9 +16,9 @@ use futures::future::Future;
 use futures::task::{Context, Poll};
 use std::marker::{Model, PhantomData};
 use std::mem;
+use tower_base::service::Steps;
 use tower_latch::Latch;
 use tower_latch::held::Pollable;
-use tower_base::service::Steps;
 
 /// The response of a message: the Rust's `tower::buffer::future::ResponseFuture`.
 ///

@@ -8,10 +8,10 @@ use crate::buffer::worker::Worker;
 use std::alloc::{AllocError, Global};
 use std::marker::{Model, PhantomData};
 use std::sync::Wait;
-use tower_latch::held::Pollable;
-use tower_latch::{Core, Guarded, Latch};
 use tower_base::layer::Layer;
 use tower_base::service::{Executor, Service, Steps};
+use tower_latch::held::Pollable;
+use tower_latch::{Core, Guarded, Latch};
 
 /// Gives each service a `Buffer` of its own, and its worker to the executor: the Rust's
 /// `tower::buffer::BufferLayer`.

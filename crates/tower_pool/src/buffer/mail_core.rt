@@ -17,7 +17,6 @@ pub struct MailCore<Request, F, E: Clone> {
 
 impl<Request, F, E: Clone> Model for MailCore<Request, F, E> {
     ghost use Rattle.tower_latch.specs.LatchLemmas.{none_held, no_places};
-
     ghost use Rattle.std.specs.Prelude.{◌≡◌};
     ghost use Rattle.tower_pool.specs.declared.buffer.mailbox.Mailbox.{Mailbox};
 

@@ -8,9 +8,9 @@ use crate::buffer::service::Buffer;
 use crate::buffer::worker::Worker;
 use std::alloc::{AllocError, Global};
 use std::sync::Wait;
+use tower_base::service::{Executor, Service, Steps};
 use tower_latch::held::Pollable;
 use tower_latch::{Guarded, Latch};
-use tower_base::service::{Executor, Service, Steps};
 
 impl<Request: Drop, F: Steps + Drop, E: Clone, L: Latch<MailCore<Request, Pollable<F>, E>>> Buffer<
     Request,

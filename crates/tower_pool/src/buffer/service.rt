@@ -12,9 +12,9 @@ use crate::buffer::seat::{ResponseState, Seat};
 use futures::task::{Context, Poll};
 use std::alloc::AllocError;
 use std::marker::{Model, PhantomData};
+use tower_base::service::{Service, Steps};
 use tower_latch::Latch;
 use tower_latch::held::Pollable;
-use tower_base::service::{Service, Steps};
 
 /// Sends its requests to a worker, through a bounded queue that its clones share: the Rust's
 /// `tower::buffer::Buffer`.

@@ -12,10 +12,10 @@ use crate::buffer::mail_core::MailCore;
 use futures::future::Future;
 use futures::task::{Context, Poll};
 use std::marker::{Model, PhantomData};
-use tower_latch::Latch;
-use tower_latch::held::Pollable;
 use tower_base::passes::TURNS;
 use tower_base::service::{Service, Steps};
+use tower_latch::Latch;
+use tower_latch::held::Pollable;
 
 /// The core behind the latch of a worker.
 type Mail<Request, F, E> = MailCore<Request, Pollable<F>, E>;

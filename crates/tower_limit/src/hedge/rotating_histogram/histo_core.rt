@@ -20,7 +20,6 @@ pub struct HistoCore {
 }
 
 impl HistoCore {
-    ghost use Rattle.tower_latch.specs.LatchLemmas.{none_held, no_places};
     ghost use Rattle.std.specs.Prelude.{◌≡◌, ◌<◌, IsTrue, ◌↔◌};
     ghost use Rattle.tower_latch.specs.Latch.{FollowsMachine};
     ghost use Rattle.tower_limit.specs.Histogram.{Steps, blank, rotated};
@@ -117,6 +116,7 @@ impl Core for HistoCore {
     ghost use Rattle.tower_latch.specs.Latch.{StepsAs};
     ghost use Rattle.tower_limit.specs.Histogram.{Steps};
     ghost use Rattle.tower_limit.specs.HistoCore.{Opens, StandsFor};
+    ghost use Rattle.tower_latch.specs.LatchLemmas.{none_held, no_places};
 
     ghost opens = { Opens };
 

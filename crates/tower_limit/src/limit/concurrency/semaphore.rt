@@ -9,6 +9,7 @@ use futures::task::{Context, Poll};
 use std::alloc::{AllocError, Global};
 use std::marker::Model;
 use std::sync::Wait;
+use tower_latch::held::{Fact, open};
 use tower_latch::{Guarded, Latch};
 
 /// A share of a line of permits: what the Rust has `tokio::sync::Semaphore` for.
@@ -95,16 +96,28 @@ impl<L: Latch<LineCore>> Semaphore<L> {
 
 /// A permit, which is held until it is dropped.
 pub struct Permit<L: Latch<LineCore>> {
+    place: Placed<L>,
+    ghost its: { ∥ L.its place.latch place.token ∥₁ },
+    ghost one: { L.places place.token ≡ 1 },
+}
+
+// A share of the latch, and a token of it.
+struct Placed<L: Latch<LineCore>> {
     latch: L,
     token: L::Token,
-    ghost its: { L.its latch token },
-    ghost one: { L.places token ≡ 1 },
+}
+
+// The token is one of the latch's core.
+struct IsIts;
+
+impl<L: Latch<LineCore>> Fact<Placed<L>> for IsIts {
+    ghost holds = { λ place. L.its place.latch place.token };
 }
 
 impl<L: Latch<LineCore>> Model for Permit<L> {
     ghost Value = { PermitView L };
 
-    ghost view = { λ p. record { latch = p.latch } };
+    ghost view = { λ p. record { latch = p.place.latch } };
 }
 
 impl<L: Latch<LineCore>> Permit<L> {
@@ -113,7 +126,8 @@ impl<L: Latch<LineCore>> Permit<L> {
         ensures its { L.its self.latch result }
         ensures one { L.places result ≡ 1 }
     {
-        let Permit { latch: _, token } = self;
+        let Permit { place } = self;
+        let Placed { latch: _, token } = open::<Placed<L>, IsIts>(place);
         token
     }
 }
@@ -124,7 +138,8 @@ impl<L: Latch<LineCore>> Drop for Permit<L> {
     fn drop(self)
         ensures { (reply : _) × L.gave self.latch LineStep.Release reply }
     {
-        let Permit { latch, token } = self;
+        let Permit { place } = self;
+        let Placed { latch, token } = open::<Placed<L>, IsIts>(place);
         latch.give(LineStep::Release, token);
     }
 }
@@ -181,7 +196,8 @@ impl<L: Latch<LineCore>> PollSemaphore<L> {
         match reply {
             LineReply::Granted => {
                 self.key = None;
-                Poll::Ready(Ok(Permit { latch, token }))
+                let place = Placed { latch, token };
+                Poll::Ready(Ok(Permit { place }))
             }
             LineReply::Waiting(key) => {
                 self.key = Some(key);

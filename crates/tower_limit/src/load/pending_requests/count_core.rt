@@ -39,8 +39,6 @@ pub struct CountCore {
 }
 
 impl CountCore {
-    ghost use Rattle.tower_latch.specs.LatchLemmas.{none_held, no_places};
-
     /// Nobody is counted.
     pub fn new() -> CountCore
         ensures { Opens result }
@@ -75,6 +73,8 @@ impl Core for CountCore {
     type Step = CountStep;
 
     type Reply = CountReply;
+
+    ghost use Rattle.tower_latch.specs.LatchLemmas.{none_held, no_places};
 
     ghost opens = { Opens };
 

@@ -6,8 +6,8 @@ ghost use Rattle.tower_retry.specs.Slots.{kept_sum, slot};
 use crate::retry::budget::slots::Slots;
 use crate::retry::budget::steps::{BudgetReply, BudgetStep, Terms};
 use std::alloc::{AllocError, Global};
-use tower_latch::Core;
 use tower_base::service::Fraction;
+use tower_latch::Core;
 
 /// The amount of the present generation, and those of the ten before it.
 #[derive(Drop)]
@@ -32,7 +32,6 @@ pub struct BudgetCore {
 
 impl BudgetCore {
     ghost use Rattle.tower_latch.specs.LatchLemmas.{none_held, no_places};
-
     ghost use Rattle.std.specs.Prelude.{int_le, pos, ◌↔◌};
     ghost use Rattle.tower_retry.specs.Budget.{Fits, Ledger, Withdraws, added, advanced, blank, terms_of};
     ghost use Rattle.tower_retry.specs.BudgetCore.{Changes, Opens, StandsFor, kept_balance, writes};
