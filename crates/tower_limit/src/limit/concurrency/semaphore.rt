@@ -1,5 +1,5 @@
 //! Permits, and those who ask for them.
-ghost use Rattle.std.specs.Prelude.{◌≡◌, ◌≤◌, All, IfOk, IfErr, IfSome, None, Err, vec_len};
+ghost use Rattle.std.specs.Prelude.{◌≡◌, ◌<◌, ◌≤◌, All, IfOk, IfErr, IfSome, None, Err, vec_len};
 ghost use Rattle.tower_limit.specs.Concurrency.{SemaphoreView, PermitView, PollSemaphoreView, SharesPermits, IsOf, Acquired};
 ghost use Rattle.futures.specs.Task.{IsArmed, Keeps};
 ghost use Rattle.futures.specs.Poll.{OnPending};
@@ -69,6 +69,7 @@ impl<L: Latch<LineCore>> Semaphore<L> {
         requires { All (IsOf L.Latch self.now) permits.items }
         ensures count { result ≡ vec_len permits }
         ensures bound { result ≤ L.size self.now.latch }
+        ensures released { 0 < result → (reply : _) × L.gave self.now.latch LineStep.Release reply }
     {
         let count = permits.len();
         let mut token = self.latch.empty();
