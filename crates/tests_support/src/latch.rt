@@ -1,5 +1,5 @@
 //! A latch that notes its steps.
-ghost use Rattle.std.specs.Prelude.{◌≡◌, ◌≤◌, All, vec_len};
+ghost use Rattle.std.specs.Prelude.{◌≡◌};
 
 use crate::log::Log;
 use futures::task::Context;
@@ -36,6 +36,8 @@ where
 
     ghost its = { λ latch token. L.its latch.inner token };
 
+    ghost places = { L.places };
+
     ghost honest = { λ latch step reply given. L.honest latch.inner step reply given };
 
     fn step(&self, step: C::Step) -> C::Reply {
@@ -48,17 +50,17 @@ where
         self.inner.wait(step, cx)
     }
 
-    fn give(&self, step: C::Step, token: L::Token) -> C::Reply {
+    fn give(&self, step: C::Step, token: L::Token) -> (C::Reply, L::Token) {
         self.log.note(format_args!("latch stepped {step:?}"));
         self.inner.give(step, token)
     }
 
-    fn count(&self, tokens: Vec<L::Token>) -> usize
-        requires { All (L.its self.now.inner) tokens.items }
-        ensures count { result ≡ vec_len tokens }
-        ensures bound { result ≤ L.size self.now.inner }
-    {
-        self.inner.count(tokens)
+    fn empty(&self) -> L::Token {
+        self.inner.empty()
+    }
+
+    fn merge(&self, token: L::Token, other: L::Token) -> L::Token {
+        self.inner.merge(token, other)
     }
 
     fn share(&self) -> Result<Noting<'a, L>, AllocError> {

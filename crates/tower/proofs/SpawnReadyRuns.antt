@@ -21,7 +21,7 @@ use Rattle.tower.specs.declared.spawn_ready.slot_core.SlotReply.TheVariants.{Don
 use Rattle.tower.specs.declared.spawn_ready.task.Held.{Held}
 use Rattle.tower.specs.declared.spawn_ready.task.ReadyTask.{ReadyTask}
 
-module _ {S Q A E F L : Type 0} (s : ServiceOf S Q A E F) (l : LatchOf L (Slot S E) (SlotStep S E) (SlotReply S E)) where
+module _ {S Q A E F L T : Type 0} (s : ServiceOf S Q A E F) (l : LatchOf L (Slot S E) T (SlotStep S E) (SlotReply S E)) where
   extended : (old : Option S) (mid new : S) → FromHere s l old mid → RunInside (relations s) (λ x. x ≡ []) mid new → FromHere s l old new
   extended (Some service) mid new first second = after (relations s) service mid new first second
   extended None mid new first second = first

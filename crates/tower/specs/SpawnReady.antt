@@ -60,7 +60,7 @@ abbrev pub tells : {S E : Type 0} → SlotReply S E → Bool
 tells (Truth b) = b
 tells _ = false
 
-module _ {S E L : Type 0} (l : LatchOf L (Slot S E) (SlotStep S E) (SlotReply S E)) where
+module _ {S E L T : Type 0} (l : LatchOf L (Slot S E) T (SlotStep S E) (SlotReply S E)) where
   -- this step is made there
   abbrev pub StepMade : L → SlotStep S E → Type 0
   StepMade latch step = (reply : SlotReply S E) × l.gave latch step reply
@@ -87,7 +87,7 @@ module _ {S E L : Type 0} (l : LatchOf L (Slot S E) (SlotStep S E) (SlotReply S 
     TaskStepped (Some held) answer new = (reply : SlotReply S E) × l.gave held.latch Aborted reply × Drives (tells reply) held answer new
     TaskStepped None answer new = ⊥
 
-module _ {S Q A E F L X : Type 0} (s : ServiceOf S Q A E F) (l : LatchOf L (Slot S E) (SlotStep S E) (SlotReply S E))
+module _ {S Q A E F L T X : Type 0} (s : ServiceOf S Q A E F) (l : LatchOf L (Slot S E) T (SlotStep S E) (SlotReply S E))
     (x : ExecutorOf X (ReadyTask S Q E L A F)) where
   -- what comes of one pass: no answer yet, or the poll's
   abbrev pub Answer : Type 0

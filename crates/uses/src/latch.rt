@@ -17,11 +17,11 @@ struct Seats {
 }
 
 impl Core for Seats {
-    ghost use Rattle.tower_latch.specs.LatchLemmas.{none_held, no_places};
-
     type Step = ();
 
     type Reply = Option<u32>;
+
+    ghost use Rattle.tower_latch.specs.LatchLemmas.{none_held, no_places};
 
     ghost opens = { λ seats. seats.left ≡ 3 };
 

@@ -64,7 +64,6 @@ pub struct SlotCore<S, E> {
 }
 
 impl<S, E> Model for SlotCore<S, E> {
-    ghost use Rattle.tower_latch.specs.LatchLemmas.{none_held, no_places};
     ghost use Rattle.tower.specs.declared.spawn_ready.slot_core.Slot.{Slot};
 
     ghost Value = { Slot S E };
@@ -89,6 +88,8 @@ impl<S: Drop, E: Drop> Core for SlotCore<S, E> {
     type Step = SlotStep<S, E>;
 
     type Reply = SlotReply<S, E>;
+
+    ghost use Rattle.tower_latch.specs.LatchLemmas.{none_held, no_places};
 
     ghost opens = { λ slot. slot ≡ SlotCase.Idle };
 

@@ -16,7 +16,6 @@ pub struct MailCore<Request, F, E: Clone> {
 }
 
 impl<Request, F, E: Clone> Model for MailCore<Request, F, E> {
-    ghost use Rattle.tower_latch.specs.LatchLemmas.{none_held, no_places};
     ghost use Rattle.std.specs.Prelude.{◌≡◌};
     ghost use Rattle.tower_pool.specs.declared.buffer.mailbox.Mailbox.{Mailbox};
 
@@ -60,6 +59,7 @@ impl<Request: Drop, F: Drop, E: Clone> Core for MailCore<Request, F, E> {
     ghost use Rattle.tower_pool.specs.Mail.{MailSteps, is_waiting};
     ghost use Rattle.std.specs.Prelude.{false};
     ghost use Rattle.tower_pool.specs.Mailbox.{Few, HasRoom, Opens, StandsFor};
+    ghost use Rattle.tower_latch.specs.LatchLemmas.{none_held, no_places};
 
     ghost opens = { Opens };
 
