@@ -1,11 +1,14 @@
 //! The core of a `Buffer` and its worker.
-ghost use Rattle.std.specs.Prelude.{◌≡◌, ◌<◌};
+ghost use Rattle.std.specs.Prelude.{◌≡◌, ◌<◌, true};
+ghost use Rattle.futures.specs.Task.{IsArmed, Keeps};
 
 use crate::buffer::mail::{MailReply, MailStep};
 use crate::buffer::mailbox::Mailbox;
+use futures::task::Context;
 use std::alloc::Global;
 use std::marker::Model;
-use tower_latch::Core;
+use tower_latch::held::Pollable;
+use tower_latch::{Core, Latch};
 
 /// Messages on their way to a worker, the places for them, and those who wait for places.
 ///
@@ -13,6 +16,21 @@ use tower_latch::Core;
 /// error may find no memory.
 pub struct MailCore<Request, F, E: Clone> {
     mail: Mailbox<Request, F, E>,
+}
+
+/// Messages whose futures may be polled.
+pub type Mail<Request, F, E> = MailCore<Request, Pollable<F>, E>;
+
+// A step that may wait, of a core without places.
+#[inline(always)]
+pub fn waited<C: Core, L: Latch<C>>(latch: &L, step: C::Step, cx: &mut Context<'_>) -> C::Reply
+    requires admitted { C.admits step }
+    requires unpaid { (reply : C.Reply) → C.paid step reply ≡ 0 }
+    ensures gave { L.gave latch.now step result }
+    ensures armed { C.is_wait result ≡ true → IsArmed cx.new }
+    ensures kept { Keeps cx.old cx.new }
+{
+    latch.wait(step, cx).0
 }
 
 impl<Request, F, E: Clone> Model for MailCore<Request, F, E> {

@@ -8,7 +8,7 @@ ghost use Rattle.tower_pool.specs.WorkerOrder.{Orderly};
 ghost use Rattle.tower_pool.specs.Worker.{HandsOn, Pass, Serves, Stepped, WorkerView};
 
 use crate::buffer::mail::{MailReply, MailStep};
-use crate::buffer::mail_core::MailCore;
+use crate::buffer::mail_core::{Mail, waited};
 use futures::future::Future;
 use futures::task::{Context, Poll};
 use std::marker::{Model, PhantomData};
@@ -16,9 +16,6 @@ use tower_base::passes::TURNS;
 use tower_base::service::{Service, Steps};
 use tower_latch::Latch;
 use tower_latch::held::Pollable;
-
-/// The core behind the latch of a worker.
-type Mail<Request, F, E> = MailCore<Request, Pollable<F>, E>;
 
 /// Takes one message after another, waits until the service is ready, and calls it: the Rust's
 /// `tower::buffer::Worker`. It is handed to an executor, and ends once no message will come any more.
@@ -112,8 +109,7 @@ where
         ensures armed { result ≡ Some Pending → IsArmed cx.new }
         ensures kept { Keeps cx.old cx.new }
     {
-        let (reply, _) = self.latch.wait(MailStep::Take, cx);
-        match reply {
+        match waited(&self.latch, MailStep::Take, cx) {
             MailReply::Message(id, request) => {
                 if self.has_failed {
                     self.latch.step(MailStep::FailStored(id));
