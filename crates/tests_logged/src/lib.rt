@@ -22,6 +22,8 @@ mod random;
 #[cfg(test)]
 mod random_mail;
 #[cfg(test)]
+mod run;
+#[cfg(test)]
 mod slot;
 #[cfg(test)]
 mod storm;

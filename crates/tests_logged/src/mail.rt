@@ -1,17 +1,13 @@
 //! The mail of a buffer behind a logged latch, from threads.
-ghost use Rattle.std.specs.Prelude.{◌≡◌, Some};
-ghost use Rattle.tower_pool.specs.Mailbox.{Opens};
 
-use crate::fixtures::{LOOKS, compare, rest, told};
+use crate::fixtures::{LOOKS, rest};
 use crate::plain_mail::{PlainMail, Reply, Step};
+use crate::run::{Job, Run, Turn, one_pass_is_missing, threads_run, two_passes_run};
 use std::alloc::{AllocError, Global};
 use std::marker::Brand;
-use std::process::Abort;
 use std::sync::Wait;
 use std::sync::ledger::Blank;
 use std::test::Fail;
-use std::thread;
-use std::thread::Threads;
 use std::time::Clock;
 use tower_latch::{Log, LogTable, Logged, Pass};
 use tower_pool::buffer::{MailCore, MailReply, MailStep};
@@ -28,12 +24,34 @@ const STRIDE: u64 = 1000;
 // What is sent by all senders.
 const ALL: u64 = SENDERS * SENDS;
 
+// Two ask for one place, of which the second answers the message of the first. The first key and the first id are 0.
+const SEVEN_STEPS: [Turn<Step, Reply>; 7] = [
+    (0, MailStep::Reserve, MailReply::Place),
+    (1, MailStep::Reserve, MailReply::Waiting(0)),
+    (0, MailStep::Send(7), MailReply::Sent(0)),
+    (1, MailStep::Take, MailReply::Message(0, 7)),
+    (1, MailStep::Look(0), MailReply::Place),
+    (1, MailStep::Answer(0, 14), MailReply::Done),
+    (0, MailStep::Outcome(0), MailReply::Future(14)),
+];
+
+// By the plain mail so many places are free, and no message is left.
+fn left_free(alloc: Global, bound: usize, run: &Run<Step, Reply>, free: usize) -> Result<(), Fail> {
+    let mail = PlainMail::replay(alloc, bound, run.history.entries())?;
+    if mail.free() != free || !mail.is_empty() {
+        return Err("a place is held, or a message is left".into());
+    }
+    Ok(())
+}
+
 #[test]
 fn seven_steps_of_two_passes(rt: HostRuntime) -> Result<(), Fail> {
     let alloc = rt.alloc();
     let table = LogTable::new(alloc)?;
     let mail = MailCore::new(alloc, 1);
-    seven_steps::<Brand, _>(rt, alloc, Blank::new(2), table, mail, true)
+    let blank = Blank::new(2);
+    let run = two_passes_run::<Mail, Brand, _>(rt, alloc, blank, table, mail, &SEVEN_STEPS[..])?;
+    left_free(alloc, 1, &run, 0)
 }
 
 #[test]
@@ -41,76 +59,8 @@ fn a_pass_is_missing(rt: HostRuntime) -> Result<(), Fail> {
     let alloc = rt.alloc();
     let table = LogTable::new(alloc)?;
     let mail = MailCore::new(alloc, 1);
-    seven_steps::<Brand, _>(rt, alloc, Blank::new(2), table, mail, false)
-}
-
-// Seven steps of two passes, which both come back, or only the first.
-fn seven_steps<K: Log<Mail>, R: Wait + Abort + Copy>(
-    rt: R,
-    alloc: Global,
-    blank: Blank,
-    table: LogTable<Step, Reply>,
-    mail: Mail,
-    both: bool,
-) -> Result<(), Fail>
-    requires name { blank.name ≡ K.name }
-    requires parts { (blank.parts ≡ K.parts) × (blank.parts ≡ 2) }
-    requires opening { K.opening ≡ Some mail }
-    requires opens { Opens mail }
-    requires table { table ≡ K.table }
-{
-    let (log, mut passes) = Logged::<Mail, K, R>::open(rt, alloc, blank, table, mail, 2)?;
-    let mut b = passes.pop().ok_or("a pass")?;
-    let mut a = passes.pop().ok_or("a pass")?;
-    let place = log.step(&mut a, MailStep::Reserve)?;
-    assert!(rt; place.place == 0 && place.reply == MailReply::Place);
-    let waits = log.step(&mut b, MailStep::Reserve)?;
-    let MailReply::Waiting(key) = waits.reply else {
-        return Err("the second waits".into());
-    };
-    assert_eq!(rt; waits.place, 1);
-    let sent = log.step(&mut a, MailStep::Send(7))?;
-    let MailReply::Sent(id) = sent.reply else {
-        return Err("the message is sent".into());
-    };
-    assert_eq!(rt; sent.place, 2);
-    let taken = log.step(&mut b, MailStep::Take)?;
-    assert!(rt; taken.place == 3 && taken.reply == MailReply::Message(id, 7));
-    let looks = log.step(&mut b, MailStep::Look(key))?;
-    assert!(rt; looks.place == 4 && looks.reply == MailReply::Place);
-    let done = log.step(&mut b, MailStep::Answer(id, 14))?;
-    assert!(rt; done.place == 5 && done.reply == MailReply::Done);
-    let outcome = log.step(&mut a, MailStep::Outcome(id))?;
-    assert!(rt; outcome.place == 6 && outcome.reply == MailReply::Future(14));
-    passes.push(a)?;
-    if both {
-        passes.push(b)?;
-    }
-    let receipts = told(alloc, &passes)?;
-    match log.close(passes) {
-        Ok(history) => {
-            assert!(rt; both);
-            let want = [
-                (MailStep::Reserve, MailReply::Place),
-                (MailStep::Reserve, MailReply::Waiting(key)),
-                (MailStep::Send(7), MailReply::Sent(id)),
-                (MailStep::Take, MailReply::Message(id, 7)),
-                (MailStep::Look(key), MailReply::Place),
-                (MailStep::Answer(id, 14), MailReply::Done),
-                (MailStep::Outcome(id), MailReply::Future(14)),
-            ];
-            assert!(rt; history.entries() == &want[..]);
-            compare(alloc, history.entries(), &receipts)?;
-            let mail = PlainMail::replay(alloc, 1, history.entries())?;
-            assert_eq!(rt; mail.free(), 0);
-            assert!(rt; mail.is_empty());
-        }
-        Err(missing) => {
-            assert!(rt; !both);
-            assert!(rt; format!(in alloc; "{missing}")?.as_str() == "pass is missing");
-        }
-    }
-    Ok(())
+    let blank = Blank::new(2);
+    one_pass_is_missing::<Mail, Brand, _>(rt, alloc, blank, table, mail, &SEVEN_STEPS[..])
 }
 
 // Waits for a place. The last reply.
@@ -194,18 +144,22 @@ fn answer_all<K: Log<Mail>, R: Clock + Wait + Drop>(
     Ok(pass)
 }
 
-// The sender of number 0 is the one that takes.
-fn part<K: Log<Mail>, R: Clock + Wait + Drop>(
-    rt: &R,
-    log: &Logged<Mail, K, R>,
-    alloc: Global,
-    number: u64,
-    pass: Pass<Mail, K>,
-) -> Result<Pass<Mail, K>, AllocError> {
-    if number == 0 {
-        return answer_all(rt, log, pass);
+struct SendsOrAnswers;
+
+impl Job<Mail> for SendsOrAnswers {
+    // The sender of number 0 is the one that takes.
+    fn work<K: Log<Mail>, R: Clock + Wait + Drop>(
+        rt: &R,
+        alloc: Global,
+        log: &Logged<Mail, K, R>,
+        number: u64,
+        pass: Pass<Mail, K>,
+    ) -> Result<Pass<Mail, K>, AllocError> {
+        if number == 0 {
+            return answer_all(rt, log, pass);
+        }
+        send_all(rt, log, alloc, pass, number.saturating_mul(STRIDE))
     }
-    send_all(rt, log, alloc, pass, number.saturating_mul(STRIDE))
 }
 
 // The numbers that were taken of each sender come in its own order, all of them.
@@ -249,51 +203,28 @@ fn each_answered(receipts: &[(usize, Step, Reply)], first: u64) -> Result<(), Fa
     Ok(())
 }
 
+fn each_sender(told: &[Vec<(usize, Step, Reply)>]) -> Result<(), Fail> {
+    for sender in 1..SENDERS + 1 {
+        let receipts = told.get(sender as usize).ok_or("a sender")?;
+        each_answered(receipts, sender.saturating_mul(STRIDE))?;
+    }
+    Ok(())
+}
+
 #[test]
 fn four_senders_and_one_that_answers(rt: HostRuntime) -> Result<(), Fail> {
     let alloc = rt.alloc();
     let table = LogTable::new(alloc)?;
-    let mail = MailCore::new(alloc, 2);
-    four_senders::<Brand, _>(rt, alloc, Blank::new(5), table, mail)
-}
-
-fn four_senders<K: Log<Mail> + Send + Sync, R: Threads + Clock + Wait + Abort + Copy + Send + Sync>(
-    rt: R,
-    alloc: Global,
-    blank: Blank,
-    table: LogTable<Step, Reply>,
-    mail: Mail,
-) -> Result<(), Fail>
-    requires name { blank.name ≡ K.name }
-    requires parts { (blank.parts ≡ K.parts) × (blank.parts ≡ 5) }
-    requires opening { K.opening ≡ Some mail }
-    requires opens { Opens mail }
-    requires table { table ≡ K.table }
-{
-    let (log, passes) = Logged::<Mail, K, R>::open(rt, alloc, blank, table, mail, 5)?;
-    let mut parts = Vec::new(alloc);
-    for (number, pass) in passes.into_iter().enumerate() {
-        parts.push((number as u64, pass))?;
-    }
-    let shared = &log;
-    let mut back = Vec::new(alloc);
-    for pass in thread::map_vec(
-        &rt,
-        parts,
-        &|(number, pass)| part(&rt, shared, alloc, number, pass),
-    )? {
-        back.push(pass?)?;
-    }
-    let receipts = told(alloc, &back)?;
-    let history = log.close(back).map_err(|_| "a pass is missing")?;
-    let entries = history.entries();
-    compare(alloc, entries, &receipts)?;
-    each_in_order(entries)?;
-    for (sender, receipts) in receipts.iter().enumerate().skip(1) {
-        each_answered(receipts, (sender as u64).saturating_mul(STRIDE))?;
-    }
-    let mail = PlainMail::replay(alloc, 2, entries)?;
-    assert_eq!(rt; mail.free(), 2);
-    assert!(rt; mail.is_empty());
-    Ok(())
+    let run = threads_run::<Mail, SendsOrAnswers, Brand, _>(
+        rt,
+        alloc,
+        Blank::new(6),
+        table,
+        MailCore::new(alloc, 2),
+        6,
+        None,
+    )?;
+    each_in_order(run.history.entries())?;
+    each_sender(&run.told)?;
+    left_free(alloc, 2, &run, 2)
 }

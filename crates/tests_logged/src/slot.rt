@@ -1,18 +1,14 @@
 //! The slot of a spawned task behind a logged latch, from threads.
-ghost use Rattle.std.specs.Prelude.{◌≡◌, Some};
-ghost use Rattle.tower.specs.declared.spawn_ready.slot_core.Slot.{Slot as SlotCase};
 
-use crate::fixtures::{LOOKS, compare, rest, told};
+use crate::fixtures::{LOOKS, rest};
+use crate::run::{Job, threads_run};
 use futures::future::{Ready, ready};
 use futures::task::{Context, Poll};
 use std::alloc::{AllocError, Global};
 use std::marker::Brand;
-use std::process::Abort;
 use std::sync::Wait;
 use std::sync::ledger::Blank;
 use std::test::Fail;
-use std::thread;
-use std::thread::Threads;
 use std::time::Clock;
 use tower::spawn_ready::{SlotCore, SlotReply, SlotStep};
 use tower_base::service::Service;
@@ -87,25 +83,30 @@ fn post<K: Log<Slot>, R: Clock + Wait + Drop>(
     Ok(false)
 }
 
-// The threads of the first numbers put services there, the others look for them. One that gives up ends.
-fn side<K: Log<Slot>, R: Clock + Wait + Drop>(
-    rt: &R,
-    log: &Logged<Slot, K, R>,
-    thread: u64,
-    mut pass: Pass<Slot, K>,
-) -> Result<Pass<Slot, K>, AllocError> {
-    let first = thread.saturating_mul(ROUNDS);
-    for number in first..first.saturating_add(ROUNDS) {
-        let is_done = if thread < SIDES {
-            post(rt, log, &mut pass, number)?
-        } else {
-            look(rt, log, &mut pass)?
-        };
-        if !is_done {
-            return Ok(pass);
+struct PostsOrLooks;
+
+impl Job<Slot> for PostsOrLooks {
+    // The threads of the first numbers put services there, the others look for them. One that gives up ends.
+    fn work<K: Log<Slot>, R: Clock + Wait + Drop>(
+        rt: &R,
+        _alloc: Global,
+        log: &Logged<Slot, K, R>,
+        thread: u64,
+        mut pass: Pass<Slot, K>,
+    ) -> Result<Pass<Slot, K>, AllocError> {
+        let first = thread.saturating_mul(ROUNDS);
+        for number in first..first.saturating_add(ROUNDS) {
+            let is_done = if thread < SIDES {
+                post(rt, log, &mut pass, number)?
+            } else {
+                look(rt, log, &mut pass)?
+            };
+            if !is_done {
+                return Ok(pass);
+            }
         }
+        Ok(pass)
     }
-    Ok(pass)
 }
 
 // The plain slot: whether it runs, and the service that it holds.
@@ -182,39 +183,14 @@ fn each_in_order(came: &[u64]) -> Result<(), Fail> {
 fn eight_threads_one_slot(rt: HostRuntime) -> Result<(), Fail> {
     let alloc = rt.alloc();
     let table = LogTable::new(alloc)?;
-    one_slot::<Brand, _>(rt, alloc, Blank::new(8), table, Slot::new())
-}
-
-fn one_slot<K: Log<Slot> + Send + Sync, R: Threads + Clock + Wait + Abort + Copy + Send + Sync>(
-    rt: R,
-    alloc: Global,
-    blank: Blank,
-    table: LogTable<Step, Reply>,
-    slot: Slot,
-) -> Result<(), Fail>
-    requires name { blank.name ≡ K.name }
-    requires parts { (blank.parts ≡ K.parts) × (blank.parts ≡ 8) }
-    requires opening { K.opening ≡ Some slot }
-    requires opens { slot ≡ SlotCase.Idle }
-    requires table { table ≡ K.table }
-{
-    let (log, passes) = Logged::<Slot, K, R>::open(rt, alloc, blank, table, slot, 8)?;
-    let mut parts = Vec::new(alloc);
-    for (thread, pass) in passes.into_iter().enumerate() {
-        parts.push((thread as u64, pass))?;
-    }
-    let shared = &log;
-    let mut back = Vec::new(alloc);
-    for pass in thread::map_vec(
-        &rt,
-        parts,
-        &|(thread, pass)| side(&rt, shared, thread, pass),
-    )? {
-        back.push(pass?)?;
-    }
-    let receipts = told(alloc, &back)?;
-    let history = log.close(back).map_err(|_| "a pass is missing")?;
-    let entries = history.entries();
-    compare(alloc, entries, &receipts)?;
-    each_in_order(replay(alloc, entries)?.as_slice())
+    let run = threads_run::<Slot, PostsOrLooks, Brand, _>(
+        rt,
+        alloc,
+        Blank::new(9),
+        table,
+        Slot::new(),
+        9,
+        None,
+    )?;
+    each_in_order(replay(alloc, run.history.entries())?.as_slice())
 }

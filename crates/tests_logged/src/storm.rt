@@ -1,17 +1,13 @@
 //! Threads that ask for permits of one logged line at once.
-ghost use Rattle.std.specs.Prelude.{◌≡◌, Some};
-ghost use Rattle.tower_limit.specs.LineCore.{Opens};
 
-use crate::fixtures::{LOOKS, compare, rest, told};
+use crate::fixtures::{LOOKS, rest};
 use crate::plain_line::PlainLine;
+use crate::run::{Job, threads_run};
 use std::alloc::{AllocError, Global};
 use std::marker::Brand;
-use std::process::Abort;
 use std::sync::Wait;
 use std::sync::ledger::Blank;
 use std::test::Fail;
-use std::thread;
-use std::thread::Threads;
 use std::time::Clock;
 use tower_latch::{Log, LogTable, Logged, Pass};
 use tower_limit::limit::concurrency::{LineCore, LineReply, LineStep};
@@ -40,18 +36,24 @@ fn round<K: Log<LineCore>, R: Clock + Wait + Drop>(
     Ok(true)
 }
 
-// All rounds, or those before the first that gave up.
-fn rounds<K: Log<LineCore>, R: Clock + Wait + Drop>(
-    rt: &R,
-    log: &Logged<LineCore, K, R>,
-    mut pass: Pass<LineCore, K>,
-) -> Result<Pass<LineCore, K>, AllocError> {
-    for _ in 0..ROUNDS {
-        if !round(rt, log, &mut pass)? {
-            return Ok(pass);
+struct Rounds;
+
+impl Job<LineCore> for Rounds {
+    // All rounds, or those before the first that gave up.
+    fn work<K: Log<LineCore>, R: Clock + Wait + Drop>(
+        rt: &R,
+        _alloc: Global,
+        log: &Logged<LineCore, K, R>,
+        _number: u64,
+        mut pass: Pass<LineCore, K>,
+    ) -> Result<Pass<LineCore, K>, AllocError> {
+        for _ in 0..ROUNDS {
+            if !round(rt, log, &mut pass)? {
+                return Ok(pass);
+            }
         }
+        Ok(pass)
     }
-    Ok(pass)
 }
 
 // How often a permit was got, or none if more are free than there are.
@@ -71,46 +73,28 @@ fn granted(entries: &[(LineStep, LineReply)]) -> Result<u32, Fail> {
     Ok(granted)
 }
 
+// Each thread got a permit in each round, and all are free in the end.
+fn all_came(alloc: Global, entries: &[(LineStep, LineReply)]) -> Result<(), Fail> {
+    let is_told = entries.last() == Some(&(LineStep::Free, LineReply::Count(3)));
+    let free = PlainLine::replay(alloc, 3, entries)?.free();
+    if (is_told, free, granted(entries)?) != (true, 3, 8 * ROUNDS) {
+        return Err("a permit is held, or wasn't got".into());
+    }
+    Ok(())
+}
+
 #[test]
 fn eight_threads_three_permits(rt: HostRuntime) -> Result<(), Fail> {
     let alloc = rt.alloc();
     let table = LogTable::new(alloc)?;
-    let line = LineCore::new(alloc, 3);
-    three_permits::<Brand, _>(rt, alloc, Blank::new(9), table, line)
-}
-
-fn three_permits<
-    K: Log<LineCore> + Send + Sync,
-    R: Threads + Clock + Wait + Abort + Copy + Send + Sync,
->(
-    rt: R,
-    alloc: Global,
-    blank: Blank,
-    table: LogTable<LineStep, LineReply>,
-    line: LineCore,
-) -> Result<(), Fail>
-    requires name { blank.name ≡ K.name }
-    requires parts { (blank.parts ≡ K.parts) × (blank.parts ≡ 9) }
-    requires opening { K.opening ≡ Some line }
-    requires opens { Opens line }
-    requires table { table ≡ K.table }
-{
-    let (log, mut passes) = Logged::<LineCore, K, R>::open(rt, alloc, blank, table, line, 9)?;
-    let mut last = passes.pop().ok_or("a pass")?;
-    let shared = &log;
-    let mut back = Vec::new(alloc);
-    for pass in thread::map_vec(&rt, passes, &|pass| rounds(&rt, shared, pass))? {
-        back.push(pass?)?;
-    }
-    let free = log.step(&mut last, LineStep::Free)?;
-    assert_eq!(rt; free.reply, LineReply::Count(3));
-    back.push(last)?;
-    let receipts = told(alloc, &back)?;
-    let history = log.close(back).map_err(|_| "a pass is missing")?;
-    let entries = history.entries();
-    compare(alloc, entries, &receipts)?;
-    let line = PlainLine::replay(alloc, 3, entries)?;
-    assert_eq!(rt; line.free(), 3);
-    assert_eq!(rt; granted(entries)?, 8 * ROUNDS);
-    Ok(())
+    let run = threads_run::<LineCore, Rounds, Brand, _>(
+        rt,
+        alloc,
+        Blank::new(9),
+        table,
+        LineCore::new(alloc, 3),
+        9,
+        Some(LineStep::Free),
+    )?;
+    all_came(alloc, run.history.entries())
 }

@@ -1,8 +1,8 @@
 use Rattle.std.specs.Prelude.{Some}
 use Rattle.tests_logged.proofs.line.a_pass_is_missing.Given as goal
 
-abbrev pub ghosts-four_steps-K-Log : goal.ghosts-four_steps-K-Log
-ghosts-four_steps-K-Log g a = record { opening = Some a.line; table = a.table }
+abbrev pub ghosts-one_pass_is_missing-K-Log : goal.ghosts-one_pass_is_missing-K-Log
+ghosts-one_pass_is_missing-K-Log g a = record { opening = Some a.core; table = a.table }
 
-abbrev pub ghosts-four_steps-K-Ledger : goal.ghosts-four_steps-K-Ledger
-ghosts-four_steps-K-Ledger g a = record { name = a.blank.name; parts = a.blank.parts }
+abbrev pub ghosts-one_pass_is_missing-K-Ledger : goal.ghosts-one_pass_is_missing-K-Ledger
+ghosts-one_pass_is_missing-K-Ledger g a = record { name = a.blank.name; parts = a.blank.parts }

@@ -1,8 +1,8 @@
 use Rattle.std.specs.Prelude.{Some}
 use Rattle.tests_logged.proofs.mail.a_pass_is_missing.Given as goal
 
-abbrev pub ghosts-seven_steps-K-Log : goal.ghosts-seven_steps-K-Log
-ghosts-seven_steps-K-Log g a = record { opening = Some a.mail; table = a.table }
+abbrev pub ghosts-one_pass_is_missing-K-Log : goal.ghosts-one_pass_is_missing-K-Log
+ghosts-one_pass_is_missing-K-Log g a = record { opening = Some a.core; table = a.table }
 
-abbrev pub ghosts-seven_steps-K-Ledger : goal.ghosts-seven_steps-K-Ledger
-ghosts-seven_steps-K-Ledger g a = record { name = a.blank.name; parts = a.blank.parts }
+abbrev pub ghosts-one_pass_is_missing-K-Ledger : goal.ghosts-one_pass_is_missing-K-Ledger
+ghosts-one_pass_is_missing-K-Ledger g a = record { name = a.blank.name; parts = a.blank.parts }
