@@ -1,12 +1,15 @@
 //! Permits of one semaphore, gathered from its shares: never more than it has.
 ghost use Rattle.std.specs.Prelude.{◌≤◌, IfOk};
 
+use crate::server::Server;
 use futures::task::{Context, Doorbell, Poll, Solo};
 use std::alloc::{AllocError, AllocGlobal, Global};
 use std::io;
+use std::random::RandomSource;
 use std::sync::Wait;
+use tower::Service;
 use tower::latch::Latch;
-use tower::limit::concurrency::{LineCore, Permit, PollSemaphore, Semaphore};
+use tower::limit::concurrency::{ConcurrencyLimit, LineCore, Permit, PollSemaphore, Semaphore};
 
 // Of so many shares each asks for a permit. How many were there at once?
 fn gathered<L: Latch<LineCore>>(
@@ -27,15 +30,38 @@ fn gathered<L: Latch<LineCore>>(
     Ok(semaphore.release_all(permits))
 }
 
-/// Five ask for three permits.
+// A response's permit, which outlives it.
+fn of_a_response<S, L>(
+    limit: &mut ConcurrencyLimit<S, L>,
+    cx: &mut Context<'_>,
+) -> Option<Permit<L>>
+where
+    S: Service<u32>,
+    L: Latch<LineCore>,
+    requires { S.sound limit.old.inner }
+{
+    match limit.poll_ready(cx) {
+        Poll::Ready(Ok(())) => limit.call(1).into_permit(),
+        _ => None,
+    }
+}
+
+/// Five ask for three permits, and a response keeps one.
 pub fn hold_three<R>(rt: R) -> io::Result<()>
 where
-    R: Wait + AllocGlobal + Print + Copy,
+    R: Wait + RandomSource + AllocGlobal + Print + Copy,
 {
     let semaphore = Semaphore::new(rt, rt.alloc(), 3)?;
+    let mut limit = ConcurrencyLimit::with_semaphore(Server(1), semaphore.share()?);
     let solo = Solo::new(&rt, Doorbell::spinning())?;
     let mut cx = solo.begin();
     let held = gathered(rt.alloc(), &semaphore, 5, &mut cx);
+    let kept = of_a_response(&mut limit, &mut cx);
     cx.cancel();
-    println!(rt; "permits: {} of 3", held?)
+    let free = semaphore.available_permits();
+    drop(kept);
+    println!(rt;
+        "permits: {} of 3 at once, {free} free beside a response's",
+        held?
+    )
 }
