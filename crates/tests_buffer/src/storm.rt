@@ -224,6 +224,7 @@ fn callers<R, K, L>(
 where
     R: Threads + Wait + RandomSource + AllocGlobal + Sync,
     K: Latch<LineCore> + Send + Sync,
+    K::Token: Send,
     L: Latch<Mail> + Send,
 {
     let clones = clones_of(rt.alloc(), buffer)?;
@@ -245,6 +246,7 @@ fn run_all<R, K, L>(
 where
     R: Threads + Wait + RandomSource + AllocGlobal + Sync,
     K: Latch<LineCore> + Send + Sync,
+    K::Token: Send,
     L: Latch<Mail> + Send,
 {
     let (ended, told) = thread::join(
@@ -266,6 +268,7 @@ fn storm_of<R, K, L>(
 where
     R: Threads + Wait + RandomSource + AllocGlobal + Sync,
     K: Latch<LineCore> + Send + Sync,
+    K::Token: Send,
     L: Latch<Mail> + Send,
 {
     let theirs = Arc::try_clone(calls)?;
