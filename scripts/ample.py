@@ -61,10 +61,10 @@ RateCore::new                 tests_limit/src/rate.rt                  RateCore:
 RateLimit::new                scripted_limit/data/rate_limit.script    rate_limit 1 
 drive_within_rate             tests_limit/src/driven.rt                drive_within_rate(
 RateLimitLayer::layer RateLimitLayer::clone  scripted_limit/data/rate_limit.script  rate_limit 2 10 layer
-HistoCore::step               tests_refused/src/hedge.rt               fn ample_latency
-RotatingHistogram::new        tests_hedge/src/histogram.rt             RotatingHistogram::new(
-RotatingHistogram::clone      tests_hedge/src/histogram.rt             histogram.clone()?
-PendingRequests::new          tests_load/src/pending_requests.rt       PendingRequests::new(
+HistoCore::step               tests_refused/src/histogram.rt           fn ample_latency
+RotatingHistogram::new        tests_retry/src/histogram.rt             RotatingHistogram::new(
+RotatingHistogram::clone      tests_retry/src/histogram.rt             histogram.clone()?
+PendingRequests::new          tests_limit/src/pending_requests.rt       PendingRequests::new(
 PendingRequests::call         scripted_balance/data/load.script        latch shared; latch stepped Take; s called 1
 PendingRequestsDiscover::poll_discover  tests_refused/src/load.rt      fn ample_counts
 TpsBudget::new                scripted_retry/data/budget.script        budget 
@@ -86,21 +86,21 @@ Latency::call                 scripted_hedge/data/latency.script       n cloned 
 Latency::clone                scripted_hedge/data/latency.script       clone          => b
 Delay::call                   scripted_hedge/data/delay.script         clock read 3; s cloned s1
 MailCore::step                tests_refused/src/slabs.rt               fn ample_places
-Buffer::pair                  tests_refused/src/pool.rt                fn ample_place
+Buffer::pair                  scripted_tower/data/buffers.script       buffer_beside_a_stream
 Buffer::new                   tests_buffer/src/making.rt               Buffer::new(rt, rt.alloc(), Echo, 1, &bench)
 Buffer::with_latch            scripted_buffer/data/buffer.script       buffer 1
 Buffer::poll_ready            scripted_buffer/data/buffer.script       poll           => ready                     | Reserve
 Buffer::call                  scripted_buffer/data/buffer.script       call 7         => call 0                    | Send
 Buffer::clone                 scripted_buffer/data/buffer.script       clone          => b                         | Join
 BufferLayer::layer BufferLayer::clone  tests_buffer/src/making.rt      let copy = layer.clone()?;
-ReadyCache::push ReadyCache::poll_pending  tests_refused/src/pool.rt   fn ample_endpoint
-Balance::poll_ready           tests_refused/src/pool.rt                fn ample_change
+ReadyCache::push ReadyCache::poll_pending  scripted_balance/data/one_endpoint.script  push 4 a
+Balance::poll_ready           scripted_balance/data/one_endpoint.script  poll           => ready                     | discovery inserted 4 a
 MakeBalance::call MakeFuture::step  scripted_balance/data/make_balance.script  call 2         => call 0                    | w cloned w1; m called 2
 MakeBalance::clone MakeBalanceLayer::layer MakeBalanceLayer::clone  scripted_balance/data/make_balance.script  clone          => b                         | m cloned m3; w2 cloned w4
 ServiceBuilder::service       scripted_tower/data/builder.script       no_layers
 ServiceBuilder::service_fn    tests_tower/src/builder.rt               service_fn(
 ServiceBuilder::layer         tests_tower/src/builder.rt               .layer(
-SpawnReady::new               tests_refused/src/pool.rt                fn ample_slot
+SpawnReady::new               scripted_spawn/data/no_task.script       spawn_ready_layer; readiness pending
 SpawnReady::poll_ready        scripted_spawn/data/spawn_ready.script   s pending; latch shared; Start; spawned; Look
 SpawnReadyLayer::layer SpawnReadyLayer::clone  scripted_spawn/data/spawn_ready.script  spawn_ready_layer cloned
 """

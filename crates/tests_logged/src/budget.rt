@@ -6,6 +6,8 @@ use std::marker::Brand;
 use std::sync::Wait;
 use std::sync::ledger::Blank;
 use std::test::Fail;
+use std::thread;
+use std::thread::Threads;
 use std::time::Clock;
 use tower_base::service::Fraction;
 use tower_latch::{Log, Log, LogTable, LogTable, Logged, Logged, Pass, Pass};
@@ -15,20 +17,26 @@ const MADE: u64 = 7;
 
 const TAKES: u32 = 1000;
 
+fn withdraw_all<K: Log<BudgetCore>, R: Wait + Drop>(
+    log: &Logged<BudgetCore, K, R>,
+    mut pass: Pass<BudgetCore, K>,
+) -> Result<Pass<BudgetCore, K>, AllocError> {
+    for _ in 0..TAKES {
+        log.step(&mut pass, BudgetStep::Withdraw(MADE))?;
+    }
+    Ok(pass)
+}
+
 struct Takes;
 
 impl Job<BudgetCore> for Takes {
-    fn work<K: Log<BudgetCore>, R: Clock + Wait + Drop>(
-        _rt: &R,
+    fn on_threads<K: Log<BudgetCore> + Send + Sync, R: Threads + Clock + Wait + Copy + Send + Sync>(
+        rt: &R,
         _alloc: Global,
         log: &Logged<BudgetCore, K, R>,
-        _number: u64,
-        mut pass: Pass<BudgetCore, K>,
-    ) -> Result<Pass<BudgetCore, K>, AllocError> {
-        for _ in 0..TAKES {
-            log.step(&mut pass, BudgetStep::Withdraw(MADE))?;
-        }
-        Ok(pass)
+        passes: Vec<(u64, Pass<BudgetCore, K>)>,
+    ) -> Result<Vec<Result<Pass<BudgetCore, K>, AllocError>>, AllocError> {
+        thread::map_vec(rt, passes, &|(_number, pass)| withdraw_all(log, pass))
     }
 }
 

@@ -6,27 +6,35 @@ use std::marker::Brand;
 use std::sync::Wait;
 use std::sync::ledger::Blank;
 use std::test::Fail;
+use std::thread;
+use std::thread::Threads;
 use std::time::Clock;
 use tower_latch::{Log, LogTable, Logged, Pass};
 use tower_limit::load::pending_requests::{CountCore, CountReply, CountStep};
 
 const ROUNDS: u32 = 500;
 
+fn take_and_give<K: Log<CountCore>, R: Wait + Drop>(
+    log: &Logged<CountCore, K, R>,
+    mut pass: Pass<CountCore, K>,
+) -> Result<Pass<CountCore, K>, AllocError> {
+    for _ in 0..ROUNDS {
+        log.step(&mut pass, CountStep::Take)?;
+        log.step(&mut pass, CountStep::Give)?;
+    }
+    Ok(pass)
+}
+
 struct Rounds;
 
 impl Job<CountCore> for Rounds {
-    fn work<K: Log<CountCore>, R: Clock + Wait + Drop>(
-        _rt: &R,
+    fn on_threads<K: Log<CountCore> + Send + Sync, R: Threads + Clock + Wait + Copy + Send + Sync>(
+        rt: &R,
         _alloc: Global,
         log: &Logged<CountCore, K, R>,
-        _number: u64,
-        mut pass: Pass<CountCore, K>,
-    ) -> Result<Pass<CountCore, K>, AllocError> {
-        for _ in 0..ROUNDS {
-            log.step(&mut pass, CountStep::Take)?;
-            log.step(&mut pass, CountStep::Give)?;
-        }
-        Ok(pass)
+        passes: Vec<(u64, Pass<CountCore, K>)>,
+    ) -> Result<Vec<Result<Pass<CountCore, K>, AllocError>>, AllocError> {
+        thread::map_vec(rt, passes, &|(_number, pass)| take_and_give(log, pass))
     }
 }
 

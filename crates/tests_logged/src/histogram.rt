@@ -6,6 +6,8 @@ use std::marker::Brand;
 use std::sync::Wait;
 use std::sync::ledger::Blank;
 use std::test::Fail;
+use std::thread;
+use std::thread::Threads;
 use std::time::Clock;
 use tower_latch::{Log, LogTable, Logged, Pass};
 use tower_limit::hedge::rotating_histogram::{HistoCore, HistoReply, HistoStep};
@@ -14,20 +16,26 @@ const PERIOD: u64 = 10;
 
 const RECORDS: u32 = 1000;
 
+fn record_all<K: Log<HistoCore>, R: Wait + Drop>(
+    log: &Logged<HistoCore, K, R>,
+    mut pass: Pass<HistoCore, K>,
+) -> Result<Pass<HistoCore, K>, AllocError> {
+    for _ in 0..RECORDS {
+        log.step(&mut pass, HistoStep::Record(0, 1))?;
+    }
+    Ok(pass)
+}
+
 struct Records;
 
 impl Job<HistoCore> for Records {
-    fn work<K: Log<HistoCore>, R: Clock + Wait + Drop>(
-        _rt: &R,
+    fn on_threads<K: Log<HistoCore> + Send + Sync, R: Threads + Clock + Wait + Copy + Send + Sync>(
+        rt: &R,
         _alloc: Global,
         log: &Logged<HistoCore, K, R>,
-        _number: u64,
-        mut pass: Pass<HistoCore, K>,
-    ) -> Result<Pass<HistoCore, K>, AllocError> {
-        for _ in 0..RECORDS {
-            log.step(&mut pass, HistoStep::Record(0, 1))?;
-        }
-        Ok(pass)
+        passes: Vec<(u64, Pass<HistoCore, K>)>,
+    ) -> Result<Vec<Result<Pass<HistoCore, K>, AllocError>>, AllocError> {
+        thread::map_vec(rt, passes, &|(_number, pass)| record_all(log, pass))
     }
 }
 

@@ -8,6 +8,8 @@ use std::marker::Brand;
 use std::sync::Wait;
 use std::sync::ledger::Blank;
 use std::test::Fail;
+use std::thread;
+use std::thread::Threads;
 use std::time::Clock;
 use tower_latch::{Log, LogTable, Logged, Pass};
 use tower_pool::buffer::{MailCore, MailReply, MailStep};
@@ -144,21 +146,34 @@ fn answer_all<K: Log<Mail>, R: Clock + Wait + Drop>(
     Ok(pass)
 }
 
+// The sender of number 0 is the one that takes.
+fn part<K: Log<Mail>, R: Clock + Wait + Drop>(
+    rt: &R,
+    log: &Logged<Mail, K, R>,
+    alloc: Global,
+    number: u64,
+    pass: Pass<Mail, K>,
+) -> Result<Pass<Mail, K>, AllocError> {
+    if number == 0 {
+        return answer_all(rt, log, pass);
+    }
+    send_all(rt, log, alloc, pass, number.saturating_mul(STRIDE))
+}
+
 struct SendsOrAnswers;
 
 impl Job<Mail> for SendsOrAnswers {
-    // The sender of number 0 is the one that takes.
-    fn work<K: Log<Mail>, R: Clock + Wait + Drop>(
+    fn on_threads<K: Log<Mail> + Send + Sync, R: Threads + Clock + Wait + Copy + Send + Sync>(
         rt: &R,
         alloc: Global,
         log: &Logged<Mail, K, R>,
-        number: u64,
-        pass: Pass<Mail, K>,
-    ) -> Result<Pass<Mail, K>, AllocError> {
-        if number == 0 {
-            return answer_all(rt, log, pass);
-        }
-        send_all(rt, log, alloc, pass, number.saturating_mul(STRIDE))
+        passes: Vec<(u64, Pass<Mail, K>)>,
+    ) -> Result<Vec<Result<Pass<Mail, K>, AllocError>>, AllocError> {
+        thread::map_vec(
+            rt,
+            passes,
+            &|(number, pass)| part(rt, log, alloc, number, pass),
+        )
     }
 }
 

@@ -1,5 +1,5 @@
 //! Runs of any core behind a logged latch: by threads, and step by step.
-ghost use Rattle.std.specs.Prelude.{◌≡◌, ◌×◌, ◌<◌, Some, IfSome};
+ghost use Rattle.std.specs.Prelude.{◌≡◌, ◌<◌, Some, IfSome};
 
 use crate::fixtures::{Told, compare, told};
 use std::alloc::{AllocError, Global};
@@ -7,7 +7,6 @@ use std::process::Abort;
 use std::sync::Wait;
 use std::sync::ledger::Blank;
 use std::test::Fail;
-use std::thread;
 use std::thread::Threads;
 use std::time::Clock;
 use tower_latch::{Core, History, Log, LogTable, Logged, Pass};
@@ -19,15 +18,14 @@ pub struct Run<S, R> {
     pub told: Told<S, R>,
 }
 
-/// What each thread does with its pass.
+/// What the threads do, each with its pass and with its number. (Only at the type of its core may a pass be sent to a thread.)
 pub trait Job<C: Core> {
-    fn work<K: Log<C>, R: Clock + Wait + Drop>(
+    fn on_threads<K: Log<C> + Send + Sync, R: Threads + Clock + Wait + Copy + Send + Sync>(
         rt: &R,
         alloc: Global,
         log: &Logged<C, K, R>,
-        number: u64,
-        pass: Pass<C, K>,
-    ) -> Result<Pass<C, K>, AllocError>;
+        passes: Vec<(u64, Pass<C, K>)>,
+    ) -> Result<Vec<Result<Pass<C, K>, AllocError>>, AllocError>;
 }
 
 fn numbered<T: Drop>(alloc: Global, items: Vec<T>) -> Result<Vec<(u64, T)>, AllocError> {
@@ -47,29 +45,6 @@ fn gathered<T: Drop>(
         all.push(answer?)?;
     }
     Ok(all)
-}
-
-fn on_threads<C, J, K, R>(
-    rt: &R,
-    alloc: Global,
-    log: &Logged<C, K, R>,
-    passes: Vec<Pass<C, K>>,
-) -> Result<Vec<Pass<C, K>>, AllocError>
-where
-    C: Core + Send,
-    C::Step: Copy + Send + Sync,
-    C::Reply: Copy + Send + Sync,
-    J: Job<C>,
-    K: Log<C> + Send + Sync,
-    R: Threads + Clock + Wait + Copy + Send + Sync,
-{
-    let passes = numbered(alloc, passes)?;
-    let answers = thread::map_vec(
-        rt,
-        passes,
-        &|(number, pass)| J::work(rt, alloc, log, number, pass),
-    )?;
-    gathered(alloc, answers)
 }
 
 // Closes the log, and compares the receipts with its history.
@@ -102,9 +77,9 @@ pub fn threads_run<C, J, K, R>(
     last: Option<C::Step>,
 ) -> Result<Run<C::Step, C::Reply>, Fail>
 where
-    C: Core + Send,
-    C::Step: Copy + PartialEq + Send + Sync,
-    C::Reply: Copy + PartialEq + Send + Sync,
+    C: Core,
+    C::Step: Copy + PartialEq,
+    C::Reply: Copy + PartialEq,
     J: Job<C>,
     K: Log<C> + Send + Sync,
     R: Threads + Clock + Wait + Abort + Copy + Send + Sync,
@@ -118,7 +93,8 @@ where
 {
     let (log, mut passes) = Logged::<C, K, R>::open(rt, alloc, blank, table, core, count)?;
     let mut own = passes.pop().ok_or("a pass")?;
-    let mut back = on_threads::<C, J, K, R>(&rt, alloc, &log, passes)?;
+    let answers = J::on_threads(&rt, alloc, &log, numbered(alloc, passes)?)?;
+    let mut back = gathered(alloc, answers)?;
     if let Some(step) = last {
         log.step(&mut own, step)?;
     }

@@ -9,6 +9,8 @@ use std::marker::Brand;
 use std::sync::Wait;
 use std::sync::ledger::Blank;
 use std::test::Fail;
+use std::thread;
+use std::thread::Threads;
 use std::time::Clock;
 use tower::spawn_ready::{SlotCore, SlotReply, SlotStep};
 use tower_base::service::Service;
@@ -83,29 +85,37 @@ fn post<K: Log<Slot>, R: Clock + Wait + Drop>(
     Ok(false)
 }
 
+// The threads of the first numbers put services there, the others look for them. One that gives up ends.
+fn side<K: Log<Slot>, R: Clock + Wait + Drop>(
+    rt: &R,
+    log: &Logged<Slot, K, R>,
+    thread: u64,
+    mut pass: Pass<Slot, K>,
+) -> Result<Pass<Slot, K>, AllocError> {
+    let first = thread.saturating_mul(ROUNDS);
+    for number in first..first.saturating_add(ROUNDS) {
+        let is_done = if thread < SIDES {
+            post(rt, log, &mut pass, number)?
+        } else {
+            look(rt, log, &mut pass)?
+        };
+        if !is_done {
+            return Ok(pass);
+        }
+    }
+    Ok(pass)
+}
+
 struct PostsOrLooks;
 
 impl Job<Slot> for PostsOrLooks {
-    // The threads of the first numbers put services there, the others look for them. One that gives up ends.
-    fn work<K: Log<Slot>, R: Clock + Wait + Drop>(
+    fn on_threads<K: Log<Slot> + Send + Sync, R: Threads + Clock + Wait + Copy + Send + Sync>(
         rt: &R,
         _alloc: Global,
         log: &Logged<Slot, K, R>,
-        thread: u64,
-        mut pass: Pass<Slot, K>,
-    ) -> Result<Pass<Slot, K>, AllocError> {
-        let first = thread.saturating_mul(ROUNDS);
-        for number in first..first.saturating_add(ROUNDS) {
-            let is_done = if thread < SIDES {
-                post(rt, log, &mut pass, number)?
-            } else {
-                look(rt, log, &mut pass)?
-            };
-            if !is_done {
-                return Ok(pass);
-            }
-        }
-        Ok(pass)
+        passes: Vec<(u64, Pass<Slot, K>)>,
+    ) -> Result<Vec<Result<Pass<Slot, K>, AllocError>>, AllocError> {
+        thread::map_vec(rt, passes, &|(thread, pass)| side(rt, log, thread, pass))
     }
 }
 

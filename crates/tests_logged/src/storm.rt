@@ -8,6 +8,8 @@ use std::marker::Brand;
 use std::sync::Wait;
 use std::sync::ledger::Blank;
 use std::test::Fail;
+use std::thread;
+use std::thread::Threads;
 use std::time::Clock;
 use tower_latch::{Log, LogTable, Logged, Pass};
 use tower_limit::limit::concurrency::{LineCore, LineReply, LineStep};
@@ -36,23 +38,30 @@ fn round<K: Log<LineCore>, R: Clock + Wait + Drop>(
     Ok(true)
 }
 
+// All rounds, or those before the first that gave up.
+fn all_rounds<K: Log<LineCore>, R: Clock + Wait + Drop>(
+    rt: &R,
+    log: &Logged<LineCore, K, R>,
+    mut pass: Pass<LineCore, K>,
+) -> Result<Pass<LineCore, K>, AllocError> {
+    for _ in 0..ROUNDS {
+        if !round(rt, log, &mut pass)? {
+            return Ok(pass);
+        }
+    }
+    Ok(pass)
+}
+
 struct Rounds;
 
 impl Job<LineCore> for Rounds {
-    // All rounds, or those before the first that gave up.
-    fn work<K: Log<LineCore>, R: Clock + Wait + Drop>(
+    fn on_threads<K: Log<LineCore> + Send + Sync, R: Threads + Clock + Wait + Copy + Send + Sync>(
         rt: &R,
         _alloc: Global,
         log: &Logged<LineCore, K, R>,
-        _number: u64,
-        mut pass: Pass<LineCore, K>,
-    ) -> Result<Pass<LineCore, K>, AllocError> {
-        for _ in 0..ROUNDS {
-            if !round(rt, log, &mut pass)? {
-                return Ok(pass);
-            }
-        }
-        Ok(pass)
+        passes: Vec<(u64, Pass<LineCore, K>)>,
+    ) -> Result<Vec<Result<Pass<LineCore, K>, AllocError>>, AllocError> {
+        thread::map_vec(rt, passes, &|(_number, pass)| all_rounds(rt, log, pass))
     }
 }
 

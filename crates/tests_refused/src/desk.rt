@@ -1,29 +1,27 @@
-//! What each test begins with.
+//! What each test begins with, and how it ends.
 
 use futures::task::Solo;
-use std::alloc::AllocGlobal;
+use std::alloc::{AllocError, AllocGlobal};
 use std::random::RandomSource;
 use std::test::Fail;
 use tests_support::log::Log;
 use tests_support::run::task;
 
-/// A log and a task. There is none where their room is refused, and may be.
-pub fn desk<R: RandomSource + AllocGlobal>(
-    rt: &R,
-    again: bool,
-) -> Result<Option<(Log, Solo)>, Fail> {
-    match (Log::new(rt.alloc()), task(rt)) {
-        (Ok(log), Ok(solo)) => Ok(Some((log, solo))),
-        _ if again => Ok(None),
-        _ => Err("no room for the test".into()),
+/// A log and a task.
+pub fn desk<R: RandomSource + AllocGlobal>(rt: &R) -> Result<(Log, Solo), AllocError> {
+    let log = Log::new(rt.alloc())?;
+    match task(rt) {
+        Ok(solo) => Ok((log, solo)),
+        Err(_) => Err(AllocError),
     }
 }
 
-/// What is made, or none where that is refused, and may be.
-pub fn made<T, E: Drop>(answer: Result<T, E>, again: bool) -> Result<Option<T>, Fail> {
-    match answer {
-        Ok(made) => Ok(Some(made)),
-        Err(_) if again => Ok(None),
-        Err(_) => Err("not made".into()),
+/// A run passes if all came as it should, or if it ended for want of memory where that is refused.
+pub fn judged(run: Result<bool, AllocError>, is_refused: bool) -> Result<(), Fail> {
+    match run {
+        Ok(true) => Ok(()),
+        Ok(false) => Err("something else came".into()),
+        Err(AllocError) if is_refused => Ok(()),
+        Err(AllocError) => Err("no room for the test".into()),
     }
 }

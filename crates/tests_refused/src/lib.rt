@@ -5,13 +5,13 @@
 #[cfg(test)]
 mod desk;
 #[cfg(test)]
-mod hedge;
+mod histogram;
+#[cfg(test)]
+mod keys;
 #[cfg(test)]
 mod load;
 #[cfg(test)]
 mod logged;
-#[cfg(test)]
-mod pool;
 #[cfg(test)]
 mod shared;
 #[cfg(test)]

@@ -1,4 +1,4 @@
-//! Tests of `tower::retry`.
+//! Tests of `tower::retry` and of the histogram of `tower::hedge`.
 #![tactic(auto)]
 
 #[cfg(test)]
@@ -9,6 +9,8 @@ mod backoff;
 mod budget;
 #[cfg(test)]
 mod counting_latch;
+#[cfg(test)]
+mod histogram;
 #[cfg(test)]
 mod nest;
 #[cfg(test)]

@@ -1,4 +1,4 @@
-//! Tests of `tower::ServiceBuilder` and of the methods that wait: what no script asks.
+//! Tests of `tower::ServiceBuilder`, of the methods that wait, and of `tower::balance`: what no script asks.
 #![tactic(auto)]
 
 #[cfg(test)]
@@ -6,4 +6,10 @@ mod builder;
 #[cfg(test)]
 mod clones;
 #[cfg(test)]
+mod errors;
+#[cfg(test)]
+mod stress;
+#[cfg(test)]
 mod waits;
+#[cfg(test)]
+mod wakes;

@@ -1,5 +1,0 @@
-//! Tests of `tower::hedge`: the histogram.
-#![tactic(auto)]
-
-#[cfg(test)]
-mod histogram;
