@@ -7,7 +7,6 @@ use std::convert::Infallible;
 use std::random::RandomSource;
 use std::sync::Wait;
 use std::test::Fail;
-use tests_support::log::Log;
 use tests_support::script::Script;
 use tests_support::service::Scripted;
 use tower::discover::{Change, Discover, ServiceList};
@@ -50,31 +49,19 @@ fn inserts<D: Discover<Error = Error<Infallible>>>(
     }
 }
 
-fn one_service<R>(rt: R, log: &Log, solo: &Solo, again: bool) -> Result<bool, AllocError>
-where
-    R: Wait + AllocGlobal + Copy,
-{
-    let alloc = rt.alloc();
-    let script = Script::new(log);
-    let services = vec![in alloc; Scripted::new(&script, 'a')]?;
-    let list = ServiceList::new(services);
-    let discovery = PendingRequestsDiscover::new(rt, alloc, list, CompleteOnResponse);
-    Ok(inserts(solo, discovery, again))
-}
-
 fn counted<R>(rt: R, again: bool) -> Result<bool, AllocError>
 where
     R: Wait + RandomSource + AllocGlobal + Copy,
 {
+    let alloc = rt.alloc();
     let (log, solo) = desk(&rt)?;
     let script = Script::new(&log);
-    PendingRequests::new(
-        rt,
-        rt.alloc(),
-        Scripted::new(&script, 's'),
-        CompleteOnResponse,
-    )?;
-    one_service(rt, &log, &solo, again)
+    PendingRequests::new(rt, alloc, Scripted::new(&script, 's'), CompleteOnResponse)?;
+    let other = Script::new(&log);
+    let services = vec![in alloc; Scripted::new(&other, 'a')]?;
+    let list = ServiceList::new(services);
+    let discovery = PendingRequestsDiscover::new(rt, alloc, list, CompleteOnResponse);
+    Ok(inserts(&solo, discovery, again))
 }
 
 #[test]
