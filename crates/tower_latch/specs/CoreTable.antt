@@ -4,7 +4,9 @@ use Rattle.std.specs.List.{sum_by}
 use mathlib.Core.Option.{Option, none, some}
 use lib.ListN.{get_elem?}
 use Rattle.atomic_table.specs.Table.{State, Me, Step}
+use Rattle.tower_latch.specs.BadgeViews.{out_by}
 use Rattle.tower_latch.specs.declared.guarded.table.View.{View}
+use Rattle.tower_latch.specs.declared.guarded.token.Token.{Token}
 
 -- no token, and no core
 abbrev pub fresh : ℕ → View
@@ -38,6 +40,10 @@ module _ {K : Type 0} (size out : K → ℕ) where
   abbrev pub Holds : View → Me K View → Type 0
   Holds v me = (k : K) × (me ≡ (record v { has = true; held = out k }, (0, k) ∷ [])) × (size k ≡ v.size)
 
+  -- so of a seat that was a badge
+  abbrev pub HoldsBadge : List View → Me K View → Type 0
+  HoldsBadge views me = (v : View) × (views ≡ v ∷ []) × Holds v me
+
   -- who found 0 has the core now
   abbrev pub Taken : Step K → Me K View → ℕ → Me K View → Type 0
   Taken at old found new = (found ≡ 0 → Holds old.0 new) × (found ≢ 0 → new ≡ old)
@@ -61,3 +67,11 @@ module _ {K : Type 0} (out : K → ℕ) where
 
   abbrev pub Freed : Step K → Me K View → ℕ → Me K View → Type 0
   Freed at old found new = Leaves old new
+
+  -- so the views of its badge
+  abbrev pub LeavesBadge : Me K View → List View → Type 0
+  LeavesBadge old views = (k : K) × (old.1 ≡ (0, k) ∷ []) × (views ≡ left old.0 k ∷ []) × (old.0.out ≤ old.0.held)
+
+-- so many places a token has
+abbrev pub places : Token → ℕ
+places token = out_by token.badge.views

@@ -1,3 +1,4 @@
+pub mod BadgeViews
 pub mod CoreTable
 pub mod Guarded
 pub mod Held

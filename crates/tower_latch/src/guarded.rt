@@ -4,19 +4,20 @@ ghost use Rattle.std.specs.Arc.{arc_value};
 ghost use Rattle.futures.specs.Task.{IsArmed, Keeps};
 ghost use Rattle.tower_latch.specs.Latch.{Reached, Came};
 ghost use Rattle.tower_latch.specs.Guarded.{Rests, IsKept, Counted};
-ghost use Rattle.tower_latch.specs.CoreTable.{fresh, Holds, HasCore, MayFree, Leaves};
+ghost use Rattle.tower_latch.specs.CoreTable.{fresh, Holds, HoldsBadge, HasCore, MayFree, LeavesBadge, places};
+ghost use Rattle.tower_latch.specs.BadgeViews.{size_by};
 
 mod table;
 mod token;
 mod waiters;
 
 use crate::guarded::table::{CoreTable, Frees, Gathers, Seat, Takes};
-use crate::guarded::token::Token;
 use crate::{Core, Latch};
 use futures::task::{Context, Source};
 use std::alloc::{AllocError, Global};
 use std::sync::atomic::{AtomicU64, Ordering};
 use std::sync::{Arc, Wait};
+pub use token::Token;
 use waiters::{Waiters, Woken};
 
 /// A `Latch` of one lock around the one core that it was handed.
@@ -112,13 +113,13 @@ impl<C: Core, R: Wait + Copy> Guarded<C, R> {
 
     // The token's holder takes the core.
     #[inline(always)]
-    fn lock_with(&self, token: Token<C>) -> Seat<C>
-        requires its { token.seat.table_id ≡ (arc_value self.now.shared).table.shared.table_id }
-        requires size { token.seat.me.0.size ≡ (arc_value self.now.shared).table.shared.key }
-        ensures has { Holds (λ k. C.size k.core) (λ k. C.out k.core) token.seat.me.0 result.me }
+    fn lock_with(&self, token: Token) -> Seat<C>
+        requires its { token.badge.table_id ≡ (arc_value self.now.shared).table.shared.table_id }
+        requires size { size_by token.badge.views ≡ (arc_value self.now.shared).table.shared.key }
+        ensures has { HoldsBadge (λ k. C.size k.core) (λ k. C.out k.core) token.badge.views result.me }
         ensures its { result.table_id ≡ (arc_value self.now.shared).table.shared.table_id }
     {
-        let Token { mut seat } = token;
+        let mut seat = token.into_seat::<C>();
         if self.shared.table.shared.swap::<Takes>(&mut seat, 0, 1) != 0 {
             self.lock_late(&mut seat);
         }
@@ -128,16 +129,16 @@ impl<C: Core, R: Wait + Copy> Guarded<C, R> {
     // A step with wakers beside the core. Each is woken once the lock is free, unless the reply waits.
     #[cold]
     #[inline(never)]
-    fn step_and_wake(&self, mut seat: Seat<C>, step: C::Step) -> (C::Reply, Token<C>)
+    fn step_and_wake(&self, mut seat: Seat<C>, step: C::Step) -> (C::Reply, Token)
         requires admitted { C.admits step }
         requires paid { (reply : C.Reply) → C.paid step reply ≤ seat.me.0.out }
         requires its { seat.table_id ≡ (arc_value self.now.shared).table.shared.table_id }
         requires has { seat.me.0.has ≡ true }
         requires core { HasCore (λ k. C.size k.core) (λ k. C.out k.core) (arc_value self.now.shared).table.shared.key seat.me }
         ensures came { Came C.opens C.steps C.size (arc_value self.now.shared).table.shared.key step result.0 }
-        ensures its { result.1.seat.table_id ≡ (arc_value self.now.shared).table.shared.table_id }
-        ensures size { result.1.seat.me.0.size ≡ seat.me.0.size }
-        ensures places { result.1.seat.me.0.out + C.paid step result.0 ≡ seat.me.0.out + C.gained result.0 }
+        ensures its { result.1.badge.table_id ≡ (arc_value self.now.shared).table.shared.table_id }
+        ensures size { size_by result.1.badge.views ≡ seat.me.0.size }
+        ensures places { places result.1 + C.paid step result.0 ≡ seat.me.0.out + C.gained result.0 }
     {
         let (reply, woken) = seat.slot_mut(&self.shared.table.shared, 0).step(step);
         let token = self.free(seat);
@@ -149,17 +150,19 @@ impl<C: Core, R: Wait + Copy> Guarded<C, R> {
 
     // Puts the core back, and wakes a thread that waits for it.
     #[inline(always)]
-    fn free(&self, mut seat: Seat<C>) -> Token<C>
+    fn free(&self, mut seat: Seat<C>) -> Token
         requires its { seat.table_id ≡ (arc_value self.now.shared).table.shared.table_id }
         requires has { seat.me.0.has ≡ true }
         requires core { MayFree (λ k. C.size k.core) (λ k. C.out k.core) (arc_value self.now.shared).table.shared.key seat.me }
-        ensures its { result.seat.table_id ≡ (arc_value self.now.shared).table.shared.table_id }
-        ensures left { Leaves (λ k. C.out k.core) seat.me result.seat.me }
+        ensures its { result.badge.table_id ≡ (arc_value self.now.shared).table.shared.table_id }
+        ensures left { LeavesBadge (λ k. C.out k.core) seat.me result.badge.views }
     {
         if self.shared.table.shared.swap::<Frees>(&mut seat, 0, 0) == 2 {
             self.shared.table.shared.wake_one(0);
         }
-        Token { seat }
+        Token {
+            badge: seat.into_badge(),
+        }
     }
 }
 
@@ -272,8 +275,6 @@ impl<C: Core> Kept<C> {
 }
 
 impl<C: Core, R: Wait + Copy> Latch<C> for Guarded<C, R> {
-    type Token = Token<C>;
-
     // Somewhere in a run of a core of this size from an opening one, the step had this reply.
     ghost gave = { λ latch step reply. Came C.opens C.steps C.size (arc_value latch.shared).table.shared.key step reply };
 
@@ -284,9 +285,7 @@ impl<C: Core, R: Wait + Copy> Latch<C> for Guarded<C, R> {
 
     ghost size = { λ latch. (arc_value latch.shared).table.shared.key };
 
-    ghost its = { λ latch token. (token.seat.table_id ≡ (arc_value latch.shared).table.shared.table_id) × (token.seat.me.0.size ≡ (arc_value latch.shared).table.shared.key) };
-
-    ghost places = { λ token. token.seat.me.0.out };
+    ghost its = { λ latch token. (token.badge.table_id ≡ (arc_value latch.shared).table.shared.table_id) × (size_by token.badge.views ≡ (arc_value latch.shared).table.shared.key) };
 
     ghost honest = { λ _ _ _ given. given };
 
@@ -304,7 +303,7 @@ impl<C: Core, R: Wait + Copy> Latch<C> for Guarded<C, R> {
     }
 
     #[inline(always)]
-    fn wait(&self, step: C::Step, cx: &mut Context<'_>) -> (C::Reply, Token<C>) {
+    fn wait(&self, step: C::Step, cx: &mut Context<'_>) -> (C::Reply, Token) {
         let mut seat = self.lock();
         let kept = seat.slot_mut(&self.shared.table.shared, 0);
         if kept.is_alone() {
@@ -320,7 +319,7 @@ impl<C: Core, R: Wait + Copy> Latch<C> for Guarded<C, R> {
     }
 
     #[inline(always)]
-    fn give(&self, step: C::Step, token: Token<C>) -> (C::Reply, Token<C>) {
+    fn give(&self, step: C::Step, token: Token) -> (C::Reply, Token) {
         let mut seat = self.lock_with(token);
         let kept = seat.slot_mut(&self.shared.table.shared, 0);
         if kept.is_alone() {
@@ -330,17 +329,17 @@ impl<C: Core, R: Wait + Copy> Latch<C> for Guarded<C, R> {
         self.step_and_wake(seat, step)
     }
 
-    fn empty(&self) -> Token<C> {
+    fn empty(&self) -> Token {
         self.free(self.lock())
     }
 
-    fn merge(&self, token: Token<C>, other: Token<C>) -> Token<C> {
+    fn merge(&self, token: Token, other: Token) -> Token {
         let mut seat = self.lock_with(token);
         seat.slot_mut(&self.shared.table.shared, 0).looked_at();
         self.shared
             .table
             .shared
-            .join_seat::<Gathers>(&mut seat, other.seat);
+            .join_seat::<Gathers>(&mut seat, other.into_seat());
         self.free(seat)
     }
 

@@ -4,6 +4,8 @@
 ghost use Rattle.std.specs.Prelude.{◌≡◌, ◌≤◌, ◌+◌, ℕ, Bool, true, ⊤, IfOk, Result};
 ghost use Rattle.std.specs.declared.alloc.AllocError.{AllocError};
 ghost use Rattle.tower_latch.specs.Latch.{Came};
+ghost use Rattle.tower_latch.specs.CoreTable.{places};
+ghost use Rattle.tower_latch.specs.declared.guarded.token.Token.{Token as TokenValue};
 ghost use Rattle.futures.specs.Task.{IsArmed, Keeps};
 
 mod guarded;
@@ -12,7 +14,7 @@ mod logged;
 pub mod wait_queue;
 
 use futures::task::Context;
-pub use guarded::Guarded;
+pub use guarded::{Guarded, Token};
 pub use logged::{History, Log, LogTable, Logged, Missing, Pass, Receipt};
 use std::alloc::AllocError;
 
@@ -71,9 +73,6 @@ pub trait Core: Drop {
 
 /// A share of one core. Nothing else gives a reply.
 pub trait Latch<C: Core>: Sized + Drop {
-    /// Shows that its holder has so many of the core's places.
-    type Token: Drop;
-
     // A step that was made at this latch gave this reply.
     ghost gave: { Self → C.Step → C.Reply → Type 0 };
 
@@ -87,10 +86,7 @@ pub trait Latch<C: Core>: Sized + Drop {
     ghost size: { Self → ℕ };
 
     // The token is of its core.
-    ghost its: { Self → Self.Token → Type 0 };
-
-    // So many places its holder has.
-    ghost places: { Self.Token → ℕ };
+    ghost its: { Self → TokenValue → Type 0 };
 
     /// Makes one step of the core. Places that the reply hands out are lost.
     fn step(&self, step: C::Step) -> C::Reply
@@ -100,7 +96,7 @@ pub trait Latch<C: Core>: Sized + Drop {
 
     /// As `step`, with a token of the places that the reply hands out. If the reply waits, the task is polled again after a step
     /// whose reply doesn't.
-    fn wait(&self, step: C::Step, cx: &mut Context<'_>) -> (C::Reply, Self::Token)
+    fn wait(&self, step: C::Step, cx: &mut Context<'_>) -> (C::Reply, Token)
         requires admitted { C.admits step }
         requires unpaid { (reply : C.Reply) → C.paid step reply ≡ 0 }
         ensures gave { gave self.now step result.0 }
@@ -110,7 +106,7 @@ pub trait Latch<C: Core>: Sized + Drop {
         ensures kept { Keeps cx.old cx.new };
 
     /// As `step`, by the holder of the token: the token that it returns has what the reply pays less, and what it hands out more.
-    fn give(&self, step: C::Step, token: Self::Token) -> (C::Reply, Self::Token)
+    fn give(&self, step: C::Step, token: Token) -> (C::Reply, Token)
         requires admitted { C.admits step }
         requires paid { (reply : C.Reply) → C.paid step reply ≤ places token }
         requires its { its self.now token }
@@ -119,12 +115,12 @@ pub trait Latch<C: Core>: Sized + Drop {
         ensures places { places result.1 + C.paid step result.0 ≡ places token + C.gained result.0 };
 
     /// A token of no place.
-    fn empty(&self) -> Self::Token
+    fn empty(&self) -> Token
         ensures its { its self.now result }
         ensures places { places result ≡ 0 };
 
     /// One token of the places of both. All that one can gather are never more than the core has.
-    fn merge(&self, token: Self::Token, other: Self::Token) -> Self::Token
+    fn merge(&self, token: Token, other: Token) -> Token
         requires its { its self.now token }
         requires others { its self.now other }
         ensures its { its self.now result }
@@ -135,7 +131,7 @@ pub trait Latch<C: Core>: Sized + Drop {
     fn share(&self) -> Result<Self, AllocError>
         ensures shares { shares self.now result }
         ensures same { IfOk result (λ other. (step : _) (reply : _) → gave other step reply → gave self.now step reply) }
-        ensures tokens { IfOk result (λ other. (size other ≡ size self.now) × ((token : _) → its other token → its self.now token) × ((token : _) → its self.now token → its other token)) };
+        ensures tokens { IfOk result (λ other. (size other ≡ size self.now) × ((token : TokenValue) → its other token → its self.now token) × ((token : TokenValue) → its self.now token → its other token)) };
 
     // A reply is one of a run of the core, of so many places, from an opening one.
     ghost honest: { (latch : Self) (s : C.Step) (r : C.Reply) → gave latch s r → Came C.opens C.steps C.size (size latch) s r };

@@ -4,7 +4,6 @@ ghost use Rattle.futures.specs.Task.{IsArmed, Keeps};
 ghost use Rattle.tower_latch.specs.Guarded.{IsKept};
 ghost use Rattle.tower_latch.specs.declared.guarded.waiters.Waiter.{Waiter};
 
-use crate::Core;
 use crate::guarded::token::Token;
 use futures::task::{Context, Poll, Source, Waker};
 use std::alloc::{AllocError, Global};
@@ -48,7 +47,7 @@ impl Woken {
     /// Wakes each: a waiter is woken when it is dropped.
     #[cold]
     #[inline(never)]
-    pub fn wake<C: Core>(self, _free: &Token<C>) {
+    pub fn wake(self, _free: &Token) {
         let Woken { last, others } = self;
         drop(last);
         drop(others);
