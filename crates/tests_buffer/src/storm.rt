@@ -16,9 +16,9 @@ use std::thread::Threads;
 use std::{io, thread};
 use tests_support::checks::Checks;
 use tower::util::{block_on, block_on_call, block_on_ready};
-use tower_base::latch::held::Pollable;
-use tower_base::latch::{Guarded, Latch};
 use tower_base::service::{Polled, Service, Steps};
+use tower_latch::held::Pollable;
+use tower_latch::{Guarded, Latch};
 use tower_limit::limit::concurrency::{LineCore, Permit, PollSemaphore, Semaphore};
 use tower_pool::buffer::{Buffer, Error, MailCore, Worker};
 
@@ -224,6 +224,7 @@ fn callers<R, K, L>(
 where
     R: Threads + Wait + RandomSource + AllocGlobal + Sync,
     K: Latch<LineCore> + Send + Sync,
+    K::Token: Send,
     L: Latch<Mail> + Send,
 {
     let clones = clones_of(rt.alloc(), buffer)?;
@@ -245,6 +246,7 @@ fn run_all<R, K, L>(
 where
     R: Threads + Wait + RandomSource + AllocGlobal + Sync,
     K: Latch<LineCore> + Send + Sync,
+    K::Token: Send,
     L: Latch<Mail> + Send,
 {
     let (ended, told) = thread::join(
@@ -266,6 +268,7 @@ fn storm_of<R, K, L>(
 where
     R: Threads + Wait + RandomSource + AllocGlobal + Sync,
     K: Latch<LineCore> + Send + Sync,
+    K::Token: Send,
     L: Latch<Mail> + Send,
 {
     let theirs = Arc::try_clone(calls)?;

@@ -4,7 +4,7 @@ use Rattle.std.specs.declared.alloc.AllocError.{AllocError}
 use Rattle.futures.specs.declared.task.Poll.{Poll}
 use Rattle.futures.specs.declared.task.Poll.TheVariants.{Ready, Pending}
 use Rattle.tower_base.specs.AnswersLemmas.{answered_ok}
-use Rattle.tower_base.specs.declared.latch.Latch.{Ghosts as LatchOf}
+use Rattle.tower_latch.specs.declared.Latch.{Ghosts as LatchOf}
 use Rattle.tower_base.specs.declared.service.Service.{Ghosts as ServiceOf}
 use Rattle.tower_limit.specs.Concurrency.{PermitView, ConcurrencyLimitView, Polled, Goes}
 use Rattle.tower_limit.specs.declared.limit.concurrency.error.Error.TheVariants.{Inner}
@@ -12,7 +12,7 @@ use Rattle.tower_limit.specs.declared.limit.concurrency.line_core.LineCore.{Line
 use Rattle.tower_limit.specs.declared.limit.concurrency.line_core.LineStep.{LineStep}
 use Rattle.tower_limit.specs.declared.limit.concurrency.line_core.LineReply.{LineReply}
 
-module _ {L : Type 0} (l : LatchOf L LineCore LineStep LineReply) where
+module _ {L T : Type 0} (l : LatchOf L LineCore T LineStep LineReply) where
   module _ {S Q A E F : Type 0} (s : ServiceOf S Q A E F) where
     went : (got : Poll (Result (PermitView L) AllocError)) (old new : ConcurrencyLimitView S L) → ((v w : S) → s.polled v (Ready (Ok tt)) w → s.ready w)
         → Goes l s got old (Ready (Ok tt)) new → IsSome new.permit × s.ready new.inner

@@ -3,7 +3,7 @@ use Rattle.std.specs.Prelude.{◌≡◌, ◌⊎◌, ℕ, Option, None, Some, Res
 use Rattle.std.specs.declared.alloc.AllocError.{AllocError}
 use Rattle.futures.specs.declared.task.Poll.{Poll}
 use Rattle.futures.specs.declared.task.Poll.TheVariants.{Ready}
-use Rattle.tower_base.specs.declared.latch.Latch.{Ghosts as LatchOf}
+use Rattle.tower_latch.specs.declared.Latch.{Ghosts as LatchOf}
 use Rattle.tower_base.specs.declared.service.Service.{Ghosts as ServiceOf}
 use Rattle.tower_limit.specs.Completion.{TrackCompletionFutureView}
 use Rattle.tower_limit.specs.Discover.{Found, changed}
@@ -36,7 +36,7 @@ pub record New {S L C : Type 0} (is_first : L → Type 0) (service : S) (complet
   pub same : made.completion ≡ completion
   pub first : is_first made.latch
 
-module _ {L : Type 0} (l : LatchOf L CountCore CountStep CountReply) where
+module _ {L T : Type 0} (l : LatchOf L CountCore T CountStep CountReply) where
   -- the second is a share of the first, which that made: what it gave, the first gave
   pub record IsShare (latch other : L) : Type 0 where
     pub shared : l.shares latch (Ok other)
