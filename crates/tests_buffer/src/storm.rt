@@ -224,7 +224,6 @@ fn callers<R, K, L>(
 where
     R: Threads + Wait + RandomSource + AllocGlobal + Sync,
     K: Latch<LineCore> + Send + Sync,
-    K::Token: Send,
     L: Latch<Mail> + Send,
 {
     let clones = clones_of(rt.alloc(), buffer)?;
@@ -246,7 +245,6 @@ fn run_all<R, K, L>(
 where
     R: Threads + Wait + RandomSource + AllocGlobal + Sync,
     K: Latch<LineCore> + Send + Sync,
-    K::Token: Send,
     L: Latch<Mail> + Send,
 {
     let (ended, told) = thread::join(
@@ -268,7 +266,6 @@ fn storm_of<R, K, L>(
 where
     R: Threads + Wait + RandomSource + AllocGlobal + Sync,
     K: Latch<LineCore> + Send + Sync,
-    K::Token: Send,
     L: Latch<Mail> + Send,
 {
     let theirs = Arc::try_clone(calls)?;

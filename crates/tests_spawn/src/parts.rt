@@ -6,7 +6,7 @@ use tests_support::log::Log;
 use tests_support::run::stepped;
 use tower::spawn_ready::{SlotCore, SlotReply, SlotStep};
 use tower_base::service::{Executor, Steps};
-use tower_latch::Latch;
+use tower_latch::{Latch, Token};
 use tower_latch::held::Pollable;
 
 /// Where an executor keeps its task for the test.
@@ -110,13 +110,9 @@ fn word<S, E>(step: &SlotStep<S, E>) -> &'static str {
 impl<'a, S: Drop, E: Drop, L: Latch<SlotCore<S, E>>> Latch<SlotCore<S, E>> for Told<'a, L> {
     ghost gave = { λ latch step reply. L.gave latch.inner step reply };
 
-    type Token = L::Token;
-
     ghost size = { λ latch. L.size latch.inner };
 
     ghost its = { λ latch token. L.its latch.inner token };
-
-    ghost places = { L.places };
 
     ghost honest = { λ latch step reply given. L.honest latch.inner step reply given };
 
@@ -125,21 +121,21 @@ impl<'a, S: Drop, E: Drop, L: Latch<SlotCore<S, E>>> Latch<SlotCore<S, E>> for T
         self.inner.step(step)
     }
 
-    fn wait(&self, step: SlotStep<S, E>, cx: &mut Context<'_>) -> (SlotReply<S, E>, L::Token) {
+    fn wait(&self, step: SlotStep<S, E>, cx: &mut Context<'_>) -> (SlotReply<S, E>, Token) {
         self.log.note(word(&step));
         self.inner.wait(step, cx)
     }
 
-    fn give(&self, step: SlotStep<S, E>, token: L::Token) -> (SlotReply<S, E>, L::Token) {
+    fn give(&self, step: SlotStep<S, E>, token: Token) -> (SlotReply<S, E>, Token) {
         self.log.note(word(&step));
         self.inner.give(step, token)
     }
 
-    fn empty(&self) -> L::Token {
+    fn empty(&self) -> Token {
         self.inner.empty()
     }
 
-    fn merge(&self, token: L::Token, other: L::Token) -> L::Token {
+    fn merge(&self, token: Token, other: Token) -> Token {
         self.inner.merge(token, other)
     }
 

@@ -6,7 +6,7 @@ use futures::task::Context;
 use std::alloc::AllocError;
 use std::cell::Cell;
 use std::fmt::Debug;
-use tower_latch::{Core, Latch};
+use tower_latch::{Core, Latch, Token};
 
 /// A latch over another. It notes its steps, shares and drop, and its shares may be refused.
 pub struct Noting<'a, L: Drop> {
@@ -30,13 +30,9 @@ where
 {
     ghost gave = { λ latch step reply. L.gave latch.inner step reply };
 
-    type Token = L::Token;
-
     ghost size = { λ latch. L.size latch.inner };
 
     ghost its = { λ latch token. L.its latch.inner token };
-
-    ghost places = { L.places };
 
     ghost honest = { λ latch step reply given. L.honest latch.inner step reply given };
 
@@ -45,21 +41,21 @@ where
         self.inner.step(step)
     }
 
-    fn wait(&self, step: C::Step, cx: &mut Context<'_>) -> (C::Reply, L::Token) {
+    fn wait(&self, step: C::Step, cx: &mut Context<'_>) -> (C::Reply, Token) {
         self.log.note(format_args!("latch waited {step:?}"));
         self.inner.wait(step, cx)
     }
 
-    fn give(&self, step: C::Step, token: L::Token) -> (C::Reply, L::Token) {
+    fn give(&self, step: C::Step, token: Token) -> (C::Reply, Token) {
         self.log.note(format_args!("latch stepped {step:?}"));
         self.inner.give(step, token)
     }
 
-    fn empty(&self) -> L::Token {
+    fn empty(&self) -> Token {
         self.inner.empty()
     }
 
-    fn merge(&self, token: L::Token, other: L::Token) -> L::Token {
+    fn merge(&self, token: Token, other: Token) -> Token {
         self.inner.merge(token, other)
     }
 

@@ -21,7 +21,7 @@ use Rattle.tower.specs.declared.spawn_ready.slot_core.SlotReply.TheVariants.{Don
 use Rattle.tower.specs.declared.spawn_ready.task.Held.{Held}
 use Rattle.tower.specs.declared.spawn_ready.task.ReadyTask.{ReadyTask}
 
-module _ {S Q A E F L T : Type 0} (s : ServiceOf S Q A E F) (l : LatchOf L (Slot S E) T (SlotStep S E) (SlotReply S E)) where
+module _ {S Q A E F L : Type 0} (s : ServiceOf S Q A E F) (l : LatchOf L (Slot S E) (SlotStep S E) (SlotReply S E)) where
   extended : (old : Option S) (mid new : S) → FromHere s l old mid → RunInside (relations s) (λ x. x ≡ []) mid new → FromHere s l old new
   extended (Some service) mid new first second = after (relations s) service mid new first second
   extended None mid new first second = first
@@ -39,7 +39,7 @@ module _ {S Q A E F L T : Type 0} (s : ServiceOf S Q A E F) (l : LatchOf L (Slot
   stays latch (Some service) = inl (no_action (relations s) service service refl refl)
   stays latch None = tt
 
-  module _ {X : Type 0} (x : ExecutorOf X (ReadyTask S Q E L A F T)) where
+  module _ {X : Type 0} (x : ExecutorOf X (ReadyTask S Q E L A F)) where
     abbrev View : Type 0
     View = SpawnReadyView S X L
 
@@ -66,7 +66,7 @@ module _ {S Q A E F L T : Type 0} (s : ServiceOf S Q A E F) (l : LatchOf L (Slot
     looked old (Truth b) answer new away gave h = left_by None None old new (ap (λ v. v.latch) h.1) (ap (λ v. v.service) h.1 ∙ away) tt
     looked old Lost answer new away gave h = left_by None None old new (ap (λ v. v.latch) h.1) (ap (λ v. v.service) h.1 ∙ away) tt
 
-    spawned : (service left : S) (old running : View) (taken : Result (Unit {0}) (ReadyTask S Q E L A F T)) (answer : Answer) (new : View) → running.latch ≡ old.latch
+    spawned : (service left : S) (old running : View) (taken : Result (Unit {0}) (ReadyTask S Q E L A F)) (answer : Answer) (new : View) → running.latch ≡ old.latch
         → RunInside (relations s) (λ x. x ≡ []) service left → AfterSpawn s l x running left taken answer new → Left (Some service) old new
     spawned service left old running (Ok u) answer new latch run h = left_by (Some service) None old new (ap (λ v. v.latch) h.1 ∙ latch) (ap (λ v. v.service) h.1) tt
     spawned service left old running (Err task) answer new latch run h =

@@ -104,7 +104,7 @@ module _ {N Q A E F : Type 0} (n : ServiceOf N Q A (SelectError E (DelayError (F
   hedge old (Action.poll answer) new takes = one_poll (relations n) old new takes.inner takes.polled refl
   hedge old (Action.call request future) new takes = one_call (relations n) old new request future takes.0 takes.1 refl
 
-module _ {S Q A E F L T : Type 0} (s : ServiceOf S Q A E F) (l : LatchOf L (Slot S E) T (SlotStep S E) (SlotReply S E)) where
+module _ {S Q A E F L : Type 0} (s : ServiceOf S Q A E F) (l : LatchOf L (Slot S E) (SlotStep S E) (SlotReply S E)) where
   -- a run without calls from the service that was here
   abbrev pub FromHere : Option S → S → Type 0
   FromHere (Some old) new = RunInside (relations s) (λ x. x ≡ []) old new

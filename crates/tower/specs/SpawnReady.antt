@@ -30,11 +30,11 @@ pub record SpawnReadyView (S X L : Type 0) : Type 0 where
   pub latch : L
 
 -- what it shows
-abbrev pub view_of : {S Q E X L A F T : Type 0} → SpawnReady S Q E X L A F T → SpawnReadyView S X L
+abbrev pub view_of : {S Q E X L A F : Type 0} → SpawnReady S Q E X L A F → SpawnReadyView S X L
 view_of v = record { service = v.service; is_running = v.is_running; executor = v.executor; latch = v.latch }
 
 -- what a task shows: its service and its share of the slot, until it is done
-abbrev pub held_of : {S Q E L A F T : Type 0} → ReadyTask S Q E L A F T → Option (Held S L)
+abbrev pub held_of : {S Q E L A F : Type 0} → ReadyTask S Q E L A F → Option (Held S L)
 held_of task = task.held
 
 -- what is made: the service is here, and no task had it
@@ -51,16 +51,16 @@ CanPoll sound (Some held) = sound held.service
 CanPoll sound None = ⊥
 
 -- a service that is here is sound, and the executor takes each task that may be polled
-pub record Sound {S Q E L A F T X : Type 0} (sound : S → Type 0) (x : ExecutorOf X (ReadyTask S Q E L A F T)) (v : SpawnReadyView S X L) : Type 0 where
+pub record Sound {S Q E L A F X : Type 0} (sound : S → Type 0) (x : ExecutorOf X (ReadyTask S Q E L A F)) (v : SpawnReadyView S X L) : Type 0 where
   pub service : IfSome v.service sound
-  pub spawns : (task : ReadyTask S Q E L A F T) → CanPoll sound (held_of task) → x.can_spawn v.executor task
+  pub spawns : (task : ReadyTask S Q E L A F) → CanPoll sound (held_of task) → x.can_spawn v.executor task
 
 -- the reply says that it is so
 abbrev pub tells : {S E : Type 0} → SlotReply S E → Bool
 tells (Truth b) = b
 tells _ = false
 
-module _ {S E L T : Type 0} (l : LatchOf L (Slot S E) T (SlotStep S E) (SlotReply S E)) where
+module _ {S E L : Type 0} (l : LatchOf L (Slot S E) (SlotStep S E) (SlotReply S E)) where
   -- this step is made there
   abbrev pub StepMade : L → SlotStep S E → Type 0
   StepMade latch step = (reply : SlotReply S E) × l.gave latch step reply
@@ -87,8 +87,8 @@ module _ {S E L T : Type 0} (l : LatchOf L (Slot S E) T (SlotStep S E) (SlotRepl
     TaskStepped (Some held) answer new = (reply : SlotReply S E) × l.gave held.latch Aborted reply × Drives (tells reply) held answer new
     TaskStepped None answer new = ⊥
 
-module _ {S Q A E F L T X : Type 0} (s : ServiceOf S Q A E F) (l : LatchOf L (Slot S E) T (SlotStep S E) (SlotReply S E))
-    (x : ExecutorOf X (ReadyTask S Q E L A F T)) where
+module _ {S Q A E F L X : Type 0} (s : ServiceOf S Q A E F) (l : LatchOf L (Slot S E) (SlotStep S E) (SlotReply S E))
+    (x : ExecutorOf X (ReadyTask S Q E L A F)) where
   -- what comes of one pass: no answer yet, or the poll's
   abbrev pub Answer : Type 0
   Answer = Option (Poll (Result (Unit {0}) (Error E)))
@@ -113,7 +113,7 @@ module _ {S Q A E F L T X : Type 0} (s : ServiceOf S Q A E F) (l : LatchOf L (Sl
   Starts old new = StartsAt old.is_running old.latch × (new ≡ record old { is_running = true })
 
   -- a task that is given back has the service still
-  abbrev pub AfterSpawn : SpawnReadyView S X L → S → Result (Unit {0}) (ReadyTask S Q E L A F T) → Answer → SpawnReadyView S X L → Type 0
+  abbrev pub AfterSpawn : SpawnReadyView S X L → S → Result (Unit {0}) (ReadyTask S Q E L A F) → Answer → SpawnReadyView S X L → Type 0
   AfterSpawn old service (Ok u) answer new = (answer ≡ None) × (new ≡ record old { service = None })
   AfterSpawn old service (Err task) answer new = (answer ≡ Some (Ready (Err NotSpawned))) × (new ≡ record old { service = Some service })
 
@@ -127,9 +127,9 @@ module _ {S Q A E F L T X : Type 0} (s : ServiceOf S Q A E F) (l : LatchOf L (Sl
   -- a task with the share and the service is handed over, while the slot runs
   pub record HandsTo (old : SpawnReadyView S X L) (share : L) (service : S) (answer : Answer) (new : SpawnReadyView S X L) : Type 0 where
     pub runs : old.is_running ≡ true
-    pub task : ReadyTask S Q E L A F T
+    pub task : ReadyTask S Q E L A F
     pub holds : held_of task ≡ Some (record { service = service; latch = share })
-    pub taken : Result (Unit {0}) (ReadyTask S Q E L A F T)
+    pub taken : Result (Unit {0}) (ReadyTask S Q E L A F)
     pub spawned : x.spawned old.executor task taken
     pub after : AfterSpawn old service taken answer new
 

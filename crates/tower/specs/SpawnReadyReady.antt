@@ -14,8 +14,8 @@ use Rattle.tower.specs.declared.spawn_ready.slot_core.SlotReply.{SlotReply}
 use Rattle.tower.specs.declared.spawn_ready.slot_core.SlotReply.TheVariants.{Done, Back, Truth, Waiting, Service, Error, Lost, Unknown}
 use Rattle.tower.specs.declared.spawn_ready.task.ReadyTask.{ReadyTask}
 
-module _ {S Q A E F L T X : Type 0} (s : ServiceOf S Q A E F) (l : LatchOf L (Slot S E) T (SlotStep S E) (SlotReply S E))
-    (x : ExecutorOf X (ReadyTask S Q E L A F T)) (readies : (old new : S) → s.polled old (Ready (Ok tt)) new → s.ready new) where
+module _ {S Q A E F L X : Type 0} (s : ServiceOf S Q A E F) (l : LatchOf L (Slot S E) (SlotStep S E) (SlotReply S E))
+    (x : ExecutorOf X (ReadyTask S Q E L A F)) (readies : (old new : S) → s.polled old (Ready (Ok tt)) new → s.ready new) where
   after_reply : (old new : SpawnReadyView S X L) (reply : SlotReply S E) → AfterReply s l x old reply (Some (Ready (Ok tt))) new → ⊥
   after_reply old new Waiting h = let e = h.0 in cc
   after_reply old new (Service service) h = let e = h.0 in cc
@@ -26,7 +26,7 @@ module _ {S Q A E F L T X : Type 0} (s : ServiceOf S Q A E F) (l : LatchOf L (Sl
   after_reply old new Lost h = let e = h.0 in cc
   after_reply old new Unknown h = let e = h.0 in cc
 
-  after_spawn : (old new : SpawnReadyView S X L) (service : S) (taken : Result (Unit {0}) (ReadyTask S Q E L A F T))
+  after_spawn : (old new : SpawnReadyView S X L) (service : S) (taken : Result (Unit {0}) (ReadyTask S Q E L A F))
       → AfterSpawn s l x old service taken (Some (Ready (Ok tt))) new → ⊥
   after_spawn old new service (Ok u) h = let e = h.0 in cc
   after_spawn old new service (Err task) h = let e = h.0 in cc
@@ -44,8 +44,8 @@ module _ {S Q A E F L T X : Type 0} (s : ServiceOf S Q A E F) (l : LatchOf L (Sl
   pass_ok (Some service) old new h = after_poll old new service h.1 h.0 h.2 h.3
   pass_ok None old new h = absurd (after_reply old new h.0 h.2)
 
-pub polled_ok : {S Q A E F L T X : Type 0} {s : ServiceOf S Q A E F} {l : LatchOf L (Slot S E) T (SlotStep S E) (SlotReply S E)}
-    {x : ExecutorOf X (ReadyTask S Q E L A F T)} → ((old new : S) → s.polled old (Ready (Ok tt)) new → s.ready new)
+pub polled_ok : {S Q A E F L X : Type 0} {s : ServiceOf S Q A E F} {l : LatchOf L (Slot S E) (SlotStep S E) (SlotReply S E)}
+    {x : ExecutorOf X (ReadyTask S Q E L A F)} → ((old new : S) → s.polled old (Ready (Ok tt)) new → s.ready new)
     → (old new : SpawnReadyView S X L) → Polled s l x old (Ready (Ok tt)) new → IsSomeAnd new.service s.ready
 polled_ok {s = s} {l = l} {x = x} readies old new p =
     pass_ok s l x readies p.passes.last.service p.passes.last new

@@ -7,7 +7,8 @@ use lib.ListN.{get_elem?}
 use Rattle.atomic_table.specs.Table.{State, Me, Act, step, Valid, stepped, rest, homes_after, carried_after, Allows, Arrives, Joins, keeps, takes, gives, opening}
 use Rattle.atomic_table.proofs.Lists.{at_set, at_snoc, set_again}
 use Rattle.tower_latch.specs.declared.guarded.table.View.{View}
-use Rattle.tower_latch.specs.CoreTable.{fresh, spent_view, with_those, one_if, has_of, out_of, Agree, Holds, Taken, left, Freed, HasCore, MayFree, Leaves}
+use Rattle.tower_latch.specs.BadgeViews.{out_by, size_by}
+use Rattle.tower_latch.specs.CoreTable.{fresh, spent_view, with_those, one_if, has_of, out_of, Agree, Holds, HoldsBadge, Taken, left, Freed, HasCore, MayFree, LeavesBadge}
 
 sum_set : (f : View → ℕ) (xs : List View) (i : ℕ) (a b : View) → get_elem? xs i ≡ some a → sum_by f (set xs i b) + f a ≡ sum_by f xs + f b
 sum_set f [] i a b e = absurd (some-ne-none a (sym e))
@@ -279,6 +280,11 @@ module _ {K : Type 0} (size out : K → ℕ) where
   pub has_core : (tokens : ℕ) (v : View) (me : Me K View) → v.size ≡ tokens → Holds size out v me → HasCore size out tokens me
   has_core tokens v me its h = (h.0, ap (λ (m : Me K View). m.1) h.1, h.2 ∙ its, ap (λ (m : Me K View). m.0.held) h.1)
 
+  -- so of a seat that was a badge, which has the places of the badge
+  pub badge_core : (tokens : ℕ) (views : List View) (me : Me K View) → size_by views ≡ tokens → HoldsBadge size out views me → HasCore size out tokens me × (me.0.out ≡ out_by views)
+  badge_core tokens views me its h =
+      (has_core tokens h.0 me (sym (ap size_by h.1) ∙ its) h.2, ap (λ (m : Me K View). m.0.out) h.2.1 ∙ sym (ap out_by h.1))
+
   -- the slot is lent, and unchanged so far
   pub still : (tokens : ℕ) (me : Me K View) (m : K) → HasCore size out tokens me → me.1 ≡ (0, m) ∷ rest me.1 → HasCore size out tokens (me.0, (0, m) ∷ rest me.1)
   still tokens me m h lent =
@@ -298,13 +304,13 @@ module _ {K : Type 0} (size out : K → ℕ) where
       lemma : (held o n was g : ℕ) → held ≡ was → n + paid ≡ was + g → paid ≤ o → held ≤ o + n
       lemma held o n was g a b c = omega (arith, a, b, c)
 
-  -- what the seat has after a step that counts its places
-  pub after_step : (tokens : ℕ) (me : Me K View) (m new : K) (after : Me K View) (paid gained : ℕ) → HasCore size out tokens me → me.1 ≡ (0, m) ∷ rest me.1
-      → (size new ≡ size m) × (out new + paid ≡ out m + gained) → paid ≤ me.0.out → Leaves out (me.0, (0, new) ∷ rest me.1) after → after.0.out + paid ≡ me.0.out + gained
+  -- what the badge has after a step that counts its places
+  pub after_step : (tokens : ℕ) (me : Me K View) (m new : K) (after : List View) (paid gained : ℕ) → HasCore size out tokens me → me.1 ≡ (0, m) ∷ rest me.1
+      → (size new ≡ size m) × (out new + paid ≡ out m + gained) → paid ≤ me.0.out → LeavesBadge out (me.0, (0, new) ∷ rest me.1) after → out_by after + paid ≡ me.0.out + gained
   after_step tokens me m new after paid gained h lent counted enough leaves =
       let same : m ≡ h.0 = same_slot me.1 h.0 m h.1 lent in
       let which : leaves.0 ≡ new = sym (same_slot ((0, new) ∷ rest me.1) leaves.0 new leaves.1 refl) in
-      lemma _ _ _ _ _ _ (ap (λ (x : Me K View). x.0.out) leaves.2) (h.3 ∙ ap out (sym same)) counted.1 (ap out which) enough
+      lemma _ _ _ _ _ _ (ap out_by leaves.2) (h.3 ∙ ap out (sym same)) counted.1 (ap out which) enough
     where
       lemma : (o held n k was a : ℕ) → a ≡ (o + k) - held → held ≡ was → n + paid ≡ was + gained → k ≡ n → paid ≤ o → a + paid ≡ o + gained
       lemma o held n k was a e b c d p = omega (arith, e, b, c, d, p)
@@ -313,11 +319,11 @@ module _ {K : Type 0} (size out : K → ℕ) where
   unfolding first_of
   same_first l k m e f = ap (first_of k) (sym f ∙ e)
 
-  -- what a seat that had the core has when it goes back unchanged
-  pub after_none : (tokens : ℕ) (me after : Me K View) → HasCore size out tokens me → Leaves out me after → after.0.out ≡ me.0.out
+  -- what the badge of a seat has that had the core and puts it back unchanged
+  pub after_none : (tokens : ℕ) (me : Me K View) (after : List View) → HasCore size out tokens me → LeavesBadge out me after → out_by after ≡ me.0.out
   after_none tokens me after h leaves =
       let which : leaves.0 ≡ h.0 = same_first me.1 h.0 leaves.0 h.1 leaves.1 in
-      lemma _ _ _ _ (ap (λ (x : Me K View). x.0.out) leaves.2) h.3 (ap out which)
+      lemma _ _ _ _ (ap out_by leaves.2) h.3 (ap out which)
     where
       lemma : (o held k a : ℕ) → a ≡ (o + k) - held → held ≡ out h.0 → k ≡ out h.0 → a ≡ o
       lemma o held k a e b c = omega (arith, e, b, c)

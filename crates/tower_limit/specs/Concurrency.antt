@@ -5,6 +5,7 @@ use Rattle.futures.specs.declared.task.Poll.{Poll}
 use Rattle.futures.specs.declared.task.Poll.TheVariants.{Ready, Pending}
 use Rattle.tower_base.specs.Answers.{answered}
 use Rattle.tower_latch.specs.declared.Latch.{Ghosts as LatchOf}
+use Rattle.tower_latch.specs.declared.guarded.token.Token.{Token}
 use Rattle.tower_base.specs.declared.service.Service.{Ghosts as ServiceOf}
 use Rattle.tower_base.specs.declared.service.Steps.{Ghosts as StepsOf}
 use Rattle.tower_limit.specs.declared.limit.concurrency.error.Error.{Error}
@@ -61,17 +62,17 @@ RanOut (Ready (Err e)) = Unit {0}
 RanOut (Ready (Ok x)) = ⊥
 RanOut Pending = ⊥
 
-module _ {L T : Type 0} (l : LatchOf L LineCore T LineStep LineReply) where
+module _ {L : Type 0} (l : LatchOf L LineCore LineStep LineReply) where
   -- the second is a share of the first: what it gave, the first gave, and their tokens are the same
   pub record Shares (latch other : L) : Type 0 where
     pub gives : (step : LineStep) (reply : LineReply) → l.gave other step reply → l.gave latch step reply
     pub size : l.size other ≡ l.size latch
-    pub its : (token : T) → l.its other token → l.its latch token
-    pub takes : (token : T) → l.its latch token → l.its other token
+    pub its : (token : Token) → l.its other token → l.its latch token
+    pub takes : (token : Token) → l.its latch token → l.its other token
 
   -- the permit is one of the semaphore's: tokens of its latch are tokens of the semaphore's
   abbrev pub IsOf : SemaphoreView L → PermitView L → Type 0
-  IsOf semaphore permit = (token : T) → l.its permit.latch token → l.its semaphore.latch token
+  IsOf semaphore permit = (token : Token) → l.its permit.latch token → l.its semaphore.latch token
 
   -- a semaphore that shares the permits of the first, by a share that its latch made
   pub record SharesPermits (semaphore other : SemaphoreView L) : Type 0 where

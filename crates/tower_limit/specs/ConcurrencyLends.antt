@@ -9,5 +9,5 @@ use Rattle.tower_limit.specs.declared.limit.concurrency.line_core.LineReply.{Lin
 use Rattle.tower_limit.specs.contracts.limit.concurrency.service.ConcurrencyLimit.{the_row}
 
 -- t ends with the last value behind r as its inner service
-abbrev pub LendsInner : (S L T : RattleType) → LatchOf L.Denot LineCore T.Denot LineStep LineReply → MutBor (ConcurrencyLimitView S.Denot L.Denot) → MutBor S.Denot → Fml
-LendsInner S L T latch t r = Lends (the_row S L T latch) S t r (λ w. record t.now { inner = w })
+abbrev pub LendsInner : (S L : RattleType) → LatchOf L.Denot LineCore LineStep LineReply → MutBor (ConcurrencyLimitView S.Denot L.Denot) → MutBor S.Denot → Fml
+LendsInner S L latch t r = Lends (the_row S L latch) S t r (λ w. record t.now { inner = w })

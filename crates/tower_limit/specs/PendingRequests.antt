@@ -36,7 +36,7 @@ pub record New {S L C : Type 0} (is_first : L → Type 0) (service : S) (complet
   pub same : made.completion ≡ completion
   pub first : is_first made.latch
 
-module _ {L T : Type 0} (l : LatchOf L CountCore T CountStep CountReply) where
+module _ {L : Type 0} (l : LatchOf L CountCore CountStep CountReply) where
   -- the second is a share of the first, which that made: what it gave, the first gave
   pub record IsShare (latch other : L) : Type 0 where
     pub shared : l.shares latch (Ok other)

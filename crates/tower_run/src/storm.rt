@@ -105,7 +105,6 @@ impl Storm {
     where
         H: Threads + Wait + RandomSource + AllocGlobal + Copy + Send + Drop + 'static,
         L: Latch<LineCore> + Send + 'static,
-        L::Token: Send,
         G: Gate + Clone + Send + Drop + 'static,
     {
         let semaphore = semaphore.share().map_err(|_| Fault::Memory)?;

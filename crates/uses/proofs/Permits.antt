@@ -10,7 +10,7 @@ use Rattle.tower_limit.specs.declared.limit.concurrency.line_core.LineStep.{Line
 use Rattle.tower_limit.specs.declared.limit.concurrency.line_core.LineReply.{LineReply}
 use Rattle.tower_limit.specs.declared.limit.concurrency.line_core.LineReply.TheVariants.{Granted, Waiting, Left, Count, Unknown, Memory}
 
-module _ {L T : Type 0} (l : LatchOf L LineCore T LineStep LineReply) where
+module _ {L : Type 0} (l : LatchOf L LineCore LineStep LineReply) where
   replied : (old : PollSemaphoreView L) (share : L) (reply : LineReply) (permit : PermitView L) (key : Option ℕ) → Replies l old share reply (Ready (Ok permit)) key → permit.latch ≡ share
   replied old share Granted permit key told = told.0
   replied old share (Waiting place) permit key told = absurd told

@@ -1,6 +1,7 @@
 //! Permits, and those who ask for them.
 ghost use Rattle.std.specs.Prelude.{◌≡◌, ◌<◌, ◌≤◌, All, IfOk, IfErr, IfSome, None, Err, vec_len};
 ghost use Rattle.tower_limit.specs.Concurrency.{SemaphoreView, PermitView, PollSemaphoreView, SharesPermits, IsOf, Acquired};
+ghost use Rattle.tower_latch.specs.CoreTable.{places};
 ghost use Rattle.futures.specs.Task.{IsArmed, Keeps};
 ghost use Rattle.futures.specs.Poll.{OnPending};
 
@@ -10,7 +11,7 @@ use std::alloc::{AllocError, Global};
 use std::marker::Model;
 use std::sync::Wait;
 use tower_latch::held::{Fact, open};
-use tower_latch::{Guarded, Latch};
+use tower_latch::{Guarded, Latch, Token};
 
 /// A share of a line of permits: what the Rust has `tokio::sync::Semaphore` for.
 #[derive(Drop)]
@@ -99,13 +100,13 @@ impl<L: Latch<LineCore>> Semaphore<L> {
 pub struct Permit<L: Latch<LineCore>> {
     place: Placed<L>,
     ghost its: { ∥ L.its place.latch place.token ∥₁ },
-    ghost one: { L.places place.token ≡ 1 },
+    ghost one: { places place.token ≡ 1 },
 }
 
 // A share of the latch, and a token of it.
 struct Placed<L: Latch<LineCore>> {
     latch: L,
-    token: L::Token,
+    token: Token,
 }
 
 // The token is one of the latch's core.
@@ -123,9 +124,9 @@ impl<L: Latch<LineCore>> Model for Permit<L> {
 
 impl<L: Latch<LineCore>> Permit<L> {
     // What shows that it is held.
-    fn into_token(self) -> L::Token
+    fn into_token(self) -> Token
         ensures its { L.its self.latch result }
-        ensures one { L.places result ≡ 1 }
+        ensures one { places result ≡ 1 }
     {
         let Permit { place } = self;
         let Placed { latch: _, token } = open::<Placed<L>, IsIts>(place);

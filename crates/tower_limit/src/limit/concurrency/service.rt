@@ -152,7 +152,7 @@ impl<S, L: Latch<LineCore>> ConcurrencyLimit<S, L> {
 
     /// The inner service, to be changed.
     pub fn get_mut(&mut self) -> &mut S
-        ensures* writes_back { sem 𝓛 (LendsInner S.row L.row L.Token.row L.Latch self.entry result) }
+        ensures* writes_back { sem 𝓛 (LendsInner S.row L.row L.Latch self.entry result) }
         ensures value { result.now ≡ self.old.inner }
     {
         &mut self.inner
