@@ -1,10 +1,10 @@
 -- Each step at a core's place keeps its rule.
-use Rattle.std.proofs.Common.{◌≡◌, ◌≢◌, ◌⊎◌, ◌≤◌, ◌<◌, ℕ, zero, suc, ◌+◌, ◌-◌, List, [], ◌∷◌, ◌++◌, length, set, Bool, true, false, true≢false, refl, sym, ap, ◌∙◌, subst, ⊎_elim, arith, slice_index, slice_set}
+use Rattle.std.proofs.Common.{◌≡◌, ◌≢◌, ◌≤◌, ℕ, zero, suc, ◌+◌, ◌-◌, List, [], ◌∷◌, ◌++◌, set, true, false, true≢false, refl, sym, ap, ◌∙◌, subst, ⊎_elim, arith, slice_index, slice_set}
 use Rattle.std.specs.List.{sum_by}
 use Rattle.std.proofs.lemmas.List.Sums.{sum_by-cons, sum_by_push}
 use mathlib.Core.Option.{Option, none, some, some-ne-none, some-injective}
 use lib.ListN.{get_elem?}
-use Rattle.atomic_table.specs.Table.{State, Me, Act, step, Valid, stepped, rest, homes_after, carried_after, Allows, Arrives, Joins, keeps, takes, gives, opening}
+use Rattle.atomic_table.specs.Table.{Me, Act, step, Valid, stepped, rest, homes_after, carried_after, Allows, Arrives, Joins, keeps, takes, gives, opening}
 use Rattle.atomic_table.proofs.Lists.{at_set, at_snoc, set_again}
 use Rattle.tower_latch.specs.declared.guarded.table.View.{View}
 use Rattle.tower_latch.specs.BadgeViews.{out_by, size_by}

@@ -1,7 +1,7 @@
 -- The place of a core under its lock: what it keeps, and what each step at it tells.
 use Rattle.std.specs.Prelude.{◌≡◌, ◌≢◌, ◌≤◌, ◌+◌, ◌-◌, ℕ, List, [], ◌∷◌, Bool, true, false}
 use Rattle.std.specs.List.{sum_by}
-use mathlib.Core.Option.{Option, none, some}
+use mathlib.Core.Option.{Option, some}
 use lib.ListN.{get_elem?}
 use Rattle.atomic_table.specs.Table.{State, Me, Step}
 use Rattle.tower_latch.specs.BadgeViews.{out_by}

@@ -18,3 +18,8 @@ swap-requires g c =
       subst (λ n. Allows (Agree (λ k. g.C.Core.size k.core) (λ k. g.C.Core.out k.core) place.key) n c.args.seat.id c.args.seat.me 0 (λ _. 0) (Freed (λ k. g.C.Core.out k.core) (step n 0 0 0 none) c.args.seat.me)) (sym c.deref.result.now.one.1)
           (frees_at (λ k. g.C.Core.size k.core) (λ k. g.C.Core.out k.core) place.key c.args.seat.id c.args.seat.me.0 h.0 c.args.seat.me me c.requires.has size h.3),
     )
+
+pub returns-clause-left : goal.returns-clause-left
+returns-clause-left g c =
+    let left = c.swap.ensures.2 in
+    (left.0, left.1, c.into_badge.ensures.2 ∙ ap (λ m. m.0 ∷ []) left.2, left.3)
