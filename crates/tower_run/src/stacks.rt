@@ -126,13 +126,29 @@ where
     C: Clock,
     requires { S.sound inner }
 {
-    let layers = ServiceBuilder::new()
-        .timeout(10, clock.share())
-        .load_shed()
+    let limits = ServiceBuilder::new()
         .concurrency_limit(rt, alloc, 1)
-        .rate_limit(alloc, 2, 10, clock);
-    let service = layers.service(inner)?;
-    perform(alloc, state, service, commands)
+        .rate_limit(alloc, 2, 10, clock.share());
+    let service = limits.service(inner)?;
+    shed(alloc, state, service, clock, commands)
+}
+
+// Under `Timeout` 10 and `LoadShed`.
+fn shed<'a, S, C>(
+    alloc: Global,
+    state: &State<'a>,
+    inner: S,
+    clock: C,
+    commands: Vec<Command<'a>>,
+) -> Result<String, AllocError>
+where
+    S: Service<Word<'a>, Response = Word<'a>>,
+    S::Error: Refusal,
+    C: Clock,
+    requires { S.sound inner }
+{
+    let layers = ServiceBuilder::new().timeout(10, clock).load_shed();
+    perform(alloc, state, layers.service(inner)?, commands)
 }
 
 // Drives the service by the commands, and prints what came of it.
