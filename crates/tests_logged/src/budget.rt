@@ -1,16 +1,18 @@
 //! A retry budget behind a logged latch, from threads.
+ghost use Rattle.std.specs.Prelude.{◌≡◌, Some};
+ghost use Rattle.tower_retry.specs.BudgetCore.{Opens};
 
-use crate::run::{Job, threads_run};
+use crate::run::{Run, ended, last_apart};
 use std::alloc::{AllocError, Global};
 use std::marker::Brand;
+use std::process::Abort;
 use std::sync::Wait;
 use std::sync::ledger::Blank;
 use std::test::Fail;
 use std::thread;
 use std::thread::Threads;
-use std::time::Clock;
+use tower_latch::{Log, LogTable, Logged, Pass};
 use tower_base::service::Fraction;
-use tower_latch::{Log, Log, LogTable, LogTable, Logged, Logged, Pass, Pass};
 use tower_retry::retry::budget::{BudgetCore, BudgetReply, BudgetStep};
 
 const MADE: u64 = 7;
@@ -25,19 +27,6 @@ fn withdraw_all<K: Log<BudgetCore>, R: Wait + Drop>(
         log.step(&mut pass, BudgetStep::Withdraw(MADE))?;
     }
     Ok(pass)
-}
-
-struct Takes;
-
-impl Job<BudgetCore> for Takes {
-    fn on_threads<K: Log<BudgetCore> + Send + Sync, R: Threads + Clock + Wait + Copy + Send + Sync>(
-        rt: &R,
-        _alloc: Global,
-        log: &Logged<BudgetCore, K, R>,
-        passes: Vec<(u64, Pass<BudgetCore, K>)>,
-    ) -> Result<Vec<Result<Pass<BudgetCore, K>, AllocError>>, AllocError> {
-        thread::map_vec(rt, passes, &|(_number, pass)| withdraw_all(log, pass))
-    }
 }
 
 // The withdrawals that were made, by a plain list of their amounts. The reserve is 500, and a withdrawal takes 5.
@@ -69,6 +58,26 @@ fn hundred_made(alloc: Global, entries: &[(BudgetStep, BudgetReply)]) -> Result<
     Ok(())
 }
 
+fn one_budget<K: Log<BudgetCore> + Send + Sync, R: Threads + Wait + Abort + Copy + Send + Sync>(
+    rt: R,
+    alloc: Global,
+    blank: Blank,
+    table: LogTable<BudgetStep, BudgetReply>,
+    budget: BudgetCore,
+) -> Result<Run<BudgetStep, BudgetReply>, Fail>
+    requires name { blank.name ≡ K.name }
+    requires parts { (blank.parts ≡ K.parts) × (blank.parts ≡ 9) }
+    requires opening { K.opening ≡ Some budget }
+    requires opens { Opens budget }
+    requires table { table ≡ K.table }
+{
+    let (log, passes) = Logged::<BudgetCore, K, R>::open(rt, alloc, blank, table, budget, 9)?;
+    let (last, passes) = last_apart(alloc, passes)?;
+    let shared = &log;
+    let answers = thread::map_vec(&rt, passes, &|(_number, pass)| withdraw_all(shared, pass))?;
+    ended(alloc, log, answers, last, None)
+}
+
 #[test]
 fn eight_threads_one_budget(rt: HostRuntime) -> Result<(), Fail> {
     let alloc = rt.alloc();
@@ -78,14 +87,6 @@ fn eight_threads_one_budget(rt: HostRuntime) -> Result<(), Fail> {
     };
     let budget = BudgetCore::new(alloc, 10_000_000_000, 10, part, MADE)?;
     let table = LogTable::new(alloc)?;
-    let run = threads_run::<BudgetCore, Takes, Brand, _>(
-        rt,
-        alloc,
-        Blank::new(9),
-        table,
-        budget,
-        9,
-        None,
-    )?;
+    let run = one_budget::<Brand, _>(rt, alloc, Blank::new(9), table, budget)?;
     hundred_made(alloc, run.history.entries())
 }

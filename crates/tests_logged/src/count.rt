@@ -1,14 +1,16 @@
 //! The count of pending requests behind a logged latch, from threads.
+ghost use Rattle.std.specs.Prelude.{◌≡◌, Some};
+ghost use Rattle.tower_limit.specs.CountCore.{Opens};
 
-use crate::run::{Job, threads_run};
+use crate::run::{Run, ended, last_apart};
 use std::alloc::{AllocError, Global};
 use std::marker::Brand;
+use std::process::Abort;
 use std::sync::Wait;
 use std::sync::ledger::Blank;
 use std::test::Fail;
 use std::thread;
 use std::thread::Threads;
-use std::time::Clock;
 use tower_latch::{Log, LogTable, Logged, Pass};
 use tower_limit::load::pending_requests::{CountCore, CountReply, CountStep};
 
@@ -23,19 +25,6 @@ fn take_and_give<K: Log<CountCore>, R: Wait + Drop>(
         log.step(&mut pass, CountStep::Give)?;
     }
     Ok(pass)
-}
-
-struct Rounds;
-
-impl Job<CountCore> for Rounds {
-    fn on_threads<K: Log<CountCore> + Send + Sync, R: Threads + Clock + Wait + Copy + Send + Sync>(
-        rt: &R,
-        _alloc: Global,
-        log: &Logged<CountCore, K, R>,
-        passes: Vec<(u64, Pass<CountCore, K>)>,
-    ) -> Result<Vec<Result<Pass<CountCore, K>, AllocError>>, AllocError> {
-        thread::map_vec(rt, passes, &|(_number, pass)| take_and_give(log, pass))
-    }
 }
 
 // How many hold a part in the end, by a plain list of the places at which they took it.
@@ -67,18 +56,30 @@ fn none_is_left(alloc: Global, entries: &[(CountStep, CountReply)]) -> Result<()
     Ok(())
 }
 
+fn one_count<K: Log<CountCore> + Send + Sync, R: Threads + Wait + Abort + Copy + Send + Sync>(
+    rt: R,
+    alloc: Global,
+    blank: Blank,
+    table: LogTable<CountStep, CountReply>,
+    count: CountCore,
+) -> Result<Run<CountStep, CountReply>, Fail>
+    requires name { blank.name ≡ K.name }
+    requires parts { (blank.parts ≡ K.parts) × (blank.parts ≡ 9) }
+    requires opening { K.opening ≡ Some count }
+    requires opens { Opens count }
+    requires table { table ≡ K.table }
+{
+    let (log, passes) = Logged::<CountCore, K, R>::open(rt, alloc, blank, table, count, 9)?;
+    let (last, passes) = last_apart(alloc, passes)?;
+    let shared = &log;
+    let answers = thread::map_vec(&rt, passes, &|(_number, pass)| take_and_give(shared, pass))?;
+    ended(alloc, log, answers, last, Some(CountStep::Load))
+}
+
 #[test]
 fn eight_threads_one_count(rt: HostRuntime) -> Result<(), Fail> {
     let alloc = rt.alloc();
     let table = LogTable::new(alloc)?;
-    let run = threads_run::<CountCore, Rounds, Brand, _>(
-        rt,
-        alloc,
-        Blank::new(9),
-        table,
-        CountCore::new(),
-        9,
-        Some(CountStep::Load),
-    )?;
+    let run = one_count::<Brand, _>(rt, alloc, Blank::new(9), table, CountCore::new())?;
     none_is_left(alloc, run.history.entries())
 }

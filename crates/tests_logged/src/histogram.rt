@@ -1,14 +1,16 @@
 //! A rotating histogram behind a logged latch, from threads.
+ghost use Rattle.std.specs.Prelude.{◌≡◌, Some};
+ghost use Rattle.tower_limit.specs.HistoCore.{Opens};
 
-use crate::run::{Job, threads_run};
+use crate::run::{Run, ended, last_apart};
 use std::alloc::{AllocError, Global};
 use std::marker::Brand;
+use std::process::Abort;
 use std::sync::Wait;
 use std::sync::ledger::Blank;
 use std::test::Fail;
 use std::thread;
 use std::thread::Threads;
-use std::time::Clock;
 use tower_latch::{Log, LogTable, Logged, Pass};
 use tower_limit::hedge::rotating_histogram::{HistoCore, HistoReply, HistoStep};
 
@@ -24,19 +26,6 @@ fn record_all<K: Log<HistoCore>, R: Wait + Drop>(
         log.step(&mut pass, HistoStep::Record(0, 1))?;
     }
     Ok(pass)
-}
-
-struct Records;
-
-impl Job<HistoCore> for Records {
-    fn on_threads<K: Log<HistoCore> + Send + Sync, R: Threads + Clock + Wait + Copy + Send + Sync>(
-        rt: &R,
-        _alloc: Global,
-        log: &Logged<HistoCore, K, R>,
-        passes: Vec<(u64, Pass<HistoCore, K>)>,
-    ) -> Result<Vec<Result<Pass<HistoCore, K>, AllocError>>, AllocError> {
-        thread::map_vec(rt, passes, &|(_number, pass)| record_all(log, pass))
-    }
 }
 
 // How many points there are in the end, by a plain list of the periods in which they are read.
@@ -72,18 +61,36 @@ fn all_are_read(alloc: Global, entries: &[(HistoStep, HistoReply)]) -> Result<()
     Ok(())
 }
 
+fn one_histogram<K: Log<HistoCore> + Send + Sync, R: Threads + Wait + Abort + Copy + Send + Sync>(
+    rt: R,
+    alloc: Global,
+    blank: Blank,
+    table: LogTable<HistoStep, HistoReply>,
+    histogram: HistoCore,
+) -> Result<Run<HistoStep, HistoReply>, Fail>
+    requires name { blank.name ≡ K.name }
+    requires parts { (blank.parts ≡ K.parts) × (blank.parts ≡ 9) }
+    requires opening { K.opening ≡ Some histogram }
+    requires opens { Opens histogram }
+    requires table { table ≡ K.table }
+{
+    let (log, passes) = Logged::<HistoCore, K, R>::open(rt, alloc, blank, table, histogram, 9)?;
+    let (last, passes) = last_apart(alloc, passes)?;
+    let shared = &log;
+    let answers = thread::map_vec(&rt, passes, &|(_number, pass)| record_all(shared, pass))?;
+    ended(alloc, log, answers, last, Some(HistoStep::Points(PERIOD)))
+}
+
 #[test]
 fn eight_threads_one_histogram(rt: HostRuntime) -> Result<(), Fail> {
     let alloc = rt.alloc();
     let table = LogTable::new(alloc)?;
-    let run = threads_run::<HistoCore, Records, Brand, _>(
+    let run = one_histogram::<Brand, _>(
         rt,
         alloc,
         Blank::new(9),
         table,
         HistoCore::new(alloc, PERIOD, 0),
-        9,
-        Some(HistoStep::Points(PERIOD)),
     )?;
     all_are_read(alloc, run.history.entries())
 }

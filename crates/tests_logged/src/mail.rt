@@ -1,10 +1,13 @@
 //! The mail of a buffer behind a logged latch, from threads.
+ghost use Rattle.std.specs.Prelude.{◌≡◌, Some};
+ghost use Rattle.tower_pool.specs.Mailbox.{Opens};
 
 use crate::fixtures::{LOOKS, rest};
 use crate::plain_mail::{PlainMail, Reply, Step};
-use crate::run::{Job, Run, Turn, one_pass_is_missing, threads_run, two_passes_run};
+use crate::run::{Run, Turn, ended, last_apart, one_pass_is_missing, two_passes_run};
 use std::alloc::{AllocError, Global};
 use std::marker::Brand;
+use std::process::Abort;
 use std::sync::Wait;
 use std::sync::ledger::Blank;
 use std::test::Fail;
@@ -160,23 +163,6 @@ fn part<K: Log<Mail>, R: Clock + Wait + Drop>(
     send_all(rt, log, alloc, pass, number.saturating_mul(STRIDE))
 }
 
-struct SendsOrAnswers;
-
-impl Job<Mail> for SendsOrAnswers {
-    fn on_threads<K: Log<Mail> + Send + Sync, R: Threads + Clock + Wait + Copy + Send + Sync>(
-        rt: &R,
-        alloc: Global,
-        log: &Logged<Mail, K, R>,
-        passes: Vec<(u64, Pass<Mail, K>)>,
-    ) -> Result<Vec<Result<Pass<Mail, K>, AllocError>>, AllocError> {
-        thread::map_vec(
-            rt,
-            passes,
-            &|(number, pass)| part(rt, log, alloc, number, pass),
-        )
-    }
-}
-
 // The numbers that were taken of each sender come in its own order, all of them.
 fn each_in_order(entries: &[(Step, Reply)]) -> Result<(), Fail> {
     for sender in 1..SENDERS + 1 {
@@ -226,19 +212,35 @@ fn each_sender(told: &[Vec<(usize, Step, Reply)>]) -> Result<(), Fail> {
     Ok(())
 }
 
+fn four_senders<K: Log<Mail> + Send + Sync, R: Threads + Clock + Wait + Abort + Copy + Send + Sync>(
+    rt: R,
+    alloc: Global,
+    blank: Blank,
+    table: LogTable<Step, Reply>,
+    mail: Mail,
+) -> Result<Run<Step, Reply>, Fail>
+    requires name { blank.name ≡ K.name }
+    requires parts { (blank.parts ≡ K.parts) × (blank.parts ≡ 6) }
+    requires opening { K.opening ≡ Some mail }
+    requires opens { Opens mail }
+    requires table { table ≡ K.table }
+{
+    let (log, passes) = Logged::<Mail, K, R>::open(rt, alloc, blank, table, mail, 6)?;
+    let (last, passes) = last_apart(alloc, passes)?;
+    let shared = &log;
+    let answers = thread::map_vec(
+        &rt,
+        passes,
+        &|(number, pass)| part(&rt, shared, alloc, number, pass),
+    )?;
+    ended(alloc, log, answers, last, None)
+}
+
 #[test]
 fn four_senders_and_one_that_answers(rt: HostRuntime) -> Result<(), Fail> {
     let alloc = rt.alloc();
     let table = LogTable::new(alloc)?;
-    let run = threads_run::<Mail, SendsOrAnswers, Brand, _>(
-        rt,
-        alloc,
-        Blank::new(6),
-        table,
-        MailCore::new(alloc, 2),
-        6,
-        None,
-    )?;
+    let run = four_senders::<Brand, _>(rt, alloc, Blank::new(6), table, MailCore::new(alloc, 2))?;
     each_in_order(run.history.entries())?;
     each_sender(&run.told)?;
     left_free(alloc, 2, &run, 2)

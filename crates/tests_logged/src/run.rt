@@ -1,5 +1,5 @@
 //! Runs of any core behind a logged latch: by threads, and step by step.
-ghost use Rattle.std.specs.Prelude.{◌≡◌, ◌<◌, Some, IfSome};
+ghost use Rattle.std.specs.Prelude.{◌≡◌, Some, IfSome};
 
 use crate::fixtures::{Told, compare, told};
 use std::alloc::{AllocError, Global};
@@ -7,8 +7,6 @@ use std::process::Abort;
 use std::sync::Wait;
 use std::sync::ledger::Blank;
 use std::test::Fail;
-use std::thread::Threads;
-use std::time::Clock;
 use tower_latch::{Core, History, Log, LogTable, Logged, Pass};
 
 /// What a run leaves: the history, with which the receipts of all passes agree.
@@ -16,16 +14,6 @@ use tower_latch::{Core, History, Log, LogTable, Logged, Pass};
 pub struct Run<S, R> {
     pub history: History<S, R>,
     pub told: Told<S, R>,
-}
-
-/// What the threads do, each with its pass and with its number. (Only at the type of its core may a pass be sent to a thread.)
-pub trait Job<C: Core> {
-    fn on_threads<K: Log<C> + Send + Sync, R: Threads + Clock + Wait + Copy + Send + Sync>(
-        rt: &R,
-        alloc: Global,
-        log: &Logged<C, K, R>,
-        passes: Vec<(u64, Pass<C, K>)>,
-    ) -> Result<Vec<Result<Pass<C, K>, AllocError>>, AllocError>;
 }
 
 fn numbered<T: Drop>(alloc: Global, items: Vec<T>) -> Result<Vec<(u64, T)>, AllocError> {
@@ -66,39 +54,36 @@ where
     Ok(Run { history, told })
 }
 
-/// All passes but the last work on threads of their own. Then the last one makes a step, if there is one.
-pub fn threads_run<C, J, K, R>(
-    rt: R,
+/// The last pass, and the others with their numbers.
+pub fn last_apart<T: Drop>(
     alloc: Global,
-    blank: Blank,
-    table: LogTable<C::Step, C::Reply>,
-    core: C,
-    count: usize,
-    last: Option<C::Step>,
+    mut passes: Vec<T>,
+) -> Result<(T, Vec<(u64, T)>), AllocError> {
+    let last = passes.pop().ok_or(AllocError)?;
+    Ok((last, numbered(alloc, passes)?))
+}
+
+/// Once the threads have given their passes back, the last pass makes this step, if there is one, and the log is closed.
+pub fn ended<C, K, R>(
+    alloc: Global,
+    log: Logged<C, K, R>,
+    answers: Vec<Result<Pass<C, K>, AllocError>>,
+    mut last: Pass<C, K>,
+    step: Option<C::Step>,
 ) -> Result<Run<C::Step, C::Reply>, Fail>
 where
     C: Core,
     C::Step: Copy + PartialEq,
     C::Reply: Copy + PartialEq,
-    J: Job<C>,
-    K: Log<C> + Send + Sync,
-    R: Threads + Clock + Wait + Abort + Copy + Send + Sync,
-    requires name { blank.name ≡ K.name }
-    requires parts { (blank.parts ≡ K.parts) × (blank.parts ≡ count) }
-    requires some { 0 < count }
-    requires opening { K.opening ≡ Some core }
-    requires opens { C.opens core }
-    requires last { IfSome last C.admits }
-    requires table { table ≡ K.table }
+    K: Log<C>,
+    R: Wait + Drop,
+    requires { IfSome step C.admits }
 {
-    let (log, mut passes) = Logged::<C, K, R>::open(rt, alloc, blank, table, core, count)?;
-    let mut own = passes.pop().ok_or("a pass")?;
-    let answers = J::on_threads(&rt, alloc, &log, numbered(alloc, passes)?)?;
     let mut back = gathered(alloc, answers)?;
-    if let Some(step) = last {
-        log.step(&mut own, step)?;
+    if let Some(step) = step {
+        log.step(&mut last, step)?;
     }
-    back.push(own)?;
+    back.push(last)?;
     closed(alloc, log, back)
 }
 

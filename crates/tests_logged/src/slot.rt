@@ -1,11 +1,14 @@
 //! The slot of a spawned task behind a logged latch, from threads.
+ghost use Rattle.std.specs.Prelude.{◌≡◌, Some};
+ghost use Rattle.tower.specs.declared.spawn_ready.slot_core.Slot.{Slot as SlotCase};
 
 use crate::fixtures::{LOOKS, rest};
-use crate::run::{Job, threads_run};
+use crate::run::{Run, ended, last_apart};
 use futures::future::{Ready, ready};
 use futures::task::{Context, Poll};
 use std::alloc::{AllocError, Global};
 use std::marker::Brand;
+use std::process::Abort;
 use std::sync::Wait;
 use std::sync::ledger::Blank;
 use std::test::Fail;
@@ -106,19 +109,6 @@ fn side<K: Log<Slot>, R: Clock + Wait + Drop>(
     Ok(pass)
 }
 
-struct PostsOrLooks;
-
-impl Job<Slot> for PostsOrLooks {
-    fn on_threads<K: Log<Slot> + Send + Sync, R: Threads + Clock + Wait + Copy + Send + Sync>(
-        rt: &R,
-        _alloc: Global,
-        log: &Logged<Slot, K, R>,
-        passes: Vec<(u64, Pass<Slot, K>)>,
-    ) -> Result<Vec<Result<Pass<Slot, K>, AllocError>>, AllocError> {
-        thread::map_vec(rt, passes, &|(thread, pass)| side(rt, log, thread, pass))
-    }
-}
-
 // The plain slot: whether it runs, and the service that it holds.
 #[derive(Drop)]
 struct PlainSlot {
@@ -189,18 +179,34 @@ fn each_in_order(came: &[u64]) -> Result<(), Fail> {
     Ok(())
 }
 
+fn one_slot<K: Log<Slot> + Send + Sync, R: Threads + Clock + Wait + Abort + Copy + Send + Sync>(
+    rt: R,
+    alloc: Global,
+    blank: Blank,
+    table: LogTable<Step, Reply>,
+    slot: Slot,
+) -> Result<Run<Step, Reply>, Fail>
+    requires name { blank.name ≡ K.name }
+    requires parts { (blank.parts ≡ K.parts) × (blank.parts ≡ 9) }
+    requires opening { K.opening ≡ Some slot }
+    requires opens { slot ≡ SlotCase.Idle }
+    requires table { table ≡ K.table }
+{
+    let (log, passes) = Logged::<Slot, K, R>::open(rt, alloc, blank, table, slot, 9)?;
+    let (last, passes) = last_apart(alloc, passes)?;
+    let shared = &log;
+    let answers = thread::map_vec(
+        &rt,
+        passes,
+        &|(thread, pass)| side(&rt, shared, thread, pass),
+    )?;
+    ended(alloc, log, answers, last, None)
+}
+
 #[test]
 fn eight_threads_one_slot(rt: HostRuntime) -> Result<(), Fail> {
     let alloc = rt.alloc();
     let table = LogTable::new(alloc)?;
-    let run = threads_run::<Slot, PostsOrLooks, Brand, _>(
-        rt,
-        alloc,
-        Blank::new(9),
-        table,
-        Slot::new(),
-        9,
-        None,
-    )?;
+    let run = one_slot::<Brand, _>(rt, alloc, Blank::new(9), table, Slot::new())?;
     each_in_order(replay(alloc, run.history.entries())?.as_slice())
 }

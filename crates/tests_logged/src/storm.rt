@@ -1,10 +1,13 @@
 //! Threads that ask for permits of one logged line at once.
+ghost use Rattle.std.specs.Prelude.{◌≡◌, Some};
+ghost use Rattle.tower_limit.specs.LineCore.{Opens};
 
 use crate::fixtures::{LOOKS, rest};
 use crate::plain_line::PlainLine;
-use crate::run::{Job, threads_run};
+use crate::run::{Run, ended, last_apart};
 use std::alloc::{AllocError, Global};
 use std::marker::Brand;
+use std::process::Abort;
 use std::sync::Wait;
 use std::sync::ledger::Blank;
 use std::test::Fail;
@@ -52,19 +55,6 @@ fn all_rounds<K: Log<LineCore>, R: Clock + Wait + Drop>(
     Ok(pass)
 }
 
-struct Rounds;
-
-impl Job<LineCore> for Rounds {
-    fn on_threads<K: Log<LineCore> + Send + Sync, R: Threads + Clock + Wait + Copy + Send + Sync>(
-        rt: &R,
-        _alloc: Global,
-        log: &Logged<LineCore, K, R>,
-        passes: Vec<(u64, Pass<LineCore, K>)>,
-    ) -> Result<Vec<Result<Pass<LineCore, K>, AllocError>>, AllocError> {
-        thread::map_vec(rt, passes, &|(_number, pass)| all_rounds(rt, log, pass))
-    }
-}
-
 // How often a permit was got, or none if more are free than there are.
 fn granted(entries: &[(LineStep, LineReply)]) -> Result<u32, Fail> {
     let mut granted = 0u32;
@@ -92,18 +82,37 @@ fn all_came(alloc: Global, entries: &[(LineStep, LineReply)]) -> Result<(), Fail
     Ok(())
 }
 
+fn three_permits<
+    K: Log<LineCore> + Send + Sync,
+    R: Threads + Clock + Wait + Abort + Copy + Send + Sync,
+>(
+    rt: R,
+    alloc: Global,
+    blank: Blank,
+    table: LogTable<LineStep, LineReply>,
+    line: LineCore,
+) -> Result<Run<LineStep, LineReply>, Fail>
+    requires name { blank.name ≡ K.name }
+    requires parts { (blank.parts ≡ K.parts) × (blank.parts ≡ 9) }
+    requires opening { K.opening ≡ Some line }
+    requires opens { Opens line }
+    requires table { table ≡ K.table }
+{
+    let (log, passes) = Logged::<LineCore, K, R>::open(rt, alloc, blank, table, line, 9)?;
+    let (last, passes) = last_apart(alloc, passes)?;
+    let shared = &log;
+    let answers = thread::map_vec(
+        &rt,
+        passes,
+        &|(_number, pass)| all_rounds(&rt, shared, pass),
+    )?;
+    ended(alloc, log, answers, last, Some(LineStep::Free))
+}
+
 #[test]
 fn eight_threads_three_permits(rt: HostRuntime) -> Result<(), Fail> {
     let alloc = rt.alloc();
     let table = LogTable::new(alloc)?;
-    let run = threads_run::<LineCore, Rounds, Brand, _>(
-        rt,
-        alloc,
-        Blank::new(9),
-        table,
-        LineCore::new(alloc, 3),
-        9,
-        Some(LineStep::Free),
-    )?;
+    let run = three_permits::<Brand, _>(rt, alloc, Blank::new(9), table, LineCore::new(alloc, 3))?;
     all_came(alloc, run.history.entries())
 }

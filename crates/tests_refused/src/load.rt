@@ -56,12 +56,12 @@ where
     let alloc = rt.alloc();
     let (log, solo) = desk(&rt)?;
     let script = Script::new(&log);
-    PendingRequests::new(rt, alloc, Scripted::new(&script, 's'), CompleteOnResponse)?;
-    let other = Script::new(&log);
-    let services = vec![in alloc; Scripted::new(&other, 'a')]?;
+    let services = vec![in alloc; Scripted::new(&script, 'a')]?;
     let list = ServiceList::new(services);
     let discovery = PendingRequestsDiscover::new(rt, alloc, list, CompleteOnResponse);
-    Ok(inserts(&solo, discovery, again))
+    let is_found = inserts(&solo, discovery, again);
+    PendingRequests::new(rt, alloc, Scripted::new(&script, 's'), CompleteOnResponse)?;
+    Ok(is_found)
 }
 
 #[test]

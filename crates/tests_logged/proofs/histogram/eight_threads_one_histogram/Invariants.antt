@@ -1,8 +1,8 @@
 use Rattle.std.specs.Prelude.{Some}
 use Rattle.tests_logged.proofs.histogram.eight_threads_one_histogram.Given as goal
 
-abbrev pub ghosts-threads_run-K-Log : goal.ghosts-threads_run-K-Log
-ghosts-threads_run-K-Log g a = record { opening = Some a.core; table = a.table }
+abbrev pub ghosts-one_histogram-K-Log : goal.ghosts-one_histogram-K-Log
+ghosts-one_histogram-K-Log g a = record { opening = Some a.histogram; table = a.table }
 
-abbrev pub ghosts-threads_run-K-Ledger : goal.ghosts-threads_run-K-Ledger
-ghosts-threads_run-K-Ledger g a = record { name = a.blank.name; parts = a.blank.parts }
+abbrev pub ghosts-one_histogram-K-Ledger : goal.ghosts-one_histogram-K-Ledger
+ghosts-one_histogram-K-Ledger g a = record { name = a.blank.name; parts = a.blank.parts }
