@@ -67,11 +67,7 @@ where
         self.inner.step(step)
     }
 
-    fn wait(
-        &self,
-        step: MailStep<Q, F, E>,
-        cx: &mut Context<'_>,
-    ) -> (MailReply<Q, F, E>, Token) {
+    fn wait(&self, step: MailStep<Q, F, E>, cx: &mut Context<'_>) -> (MailReply<Q, F, E>, Token) {
         self.note(&step);
         self.inner.wait(step, cx)
     }

@@ -80,11 +80,7 @@ impl<Q: Drop, F: Drop, E: Clone, L: Latch<MailCore<Q, F, E>>> Latch<MailCore<Q, 
         self.inner.step(step)
     }
 
-    fn wait(
-        &self,
-        step: MailStep<Q, F, E>,
-        cx: &mut Context<'_>,
-    ) -> (MailReply<Q, F, E>, Token) {
+    fn wait(&self, step: MailStep<Q, F, E>, cx: &mut Context<'_>) -> (MailReply<Q, F, E>, Token) {
         let (reply, token) = self.inner.wait(step, cx);
         self.places.told(&reply);
         (reply, token)

@@ -6,8 +6,8 @@ use tests_support::log::Log;
 use tests_support::run::stepped;
 use tower::spawn_ready::{SlotCore, SlotReply, SlotStep};
 use tower_base::service::{Executor, Steps};
-use tower_latch::{Latch, Token};
 use tower_latch::held::Pollable;
+use tower_latch::{Latch, Token};
 
 /// Where an executor keeps its task for the test.
 #[derive(Drop)]
