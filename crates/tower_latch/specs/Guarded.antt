@@ -3,7 +3,14 @@ use Rattle.std.specs.Prelude.{◌≡◌, ◌⊎◌, ◌+◌, ℕ, Bool, true, Li
 use Rattle.futures.specs.Task.{Wakes}
 use Rattle.futures.specs.declared.task.context.Context.{Context}
 use Rattle.tower_latch.specs.Latch.{Reached}
+use Rattle.atomic_table.specs.Seated.{TableId}
 use Rattle.tower_latch.specs.declared.guarded.waiters.Waiter.{Waiter}
+
+-- a `Guarded`: its number among the shares, the table that has the core, and how many places that has
+pub record GuardedView : Type 0 where
+  pub share : ℕ
+  pub table : TableId
+  pub size : ℕ
 
 module _ {C S R : Type 0} (opens : C → Type 0) (steps : C → S → R → C → Type 0) (is_wait : R → Bool) where
   -- a run from an opening value leads to this one by a step whose reply waits

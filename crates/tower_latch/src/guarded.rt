@@ -3,7 +3,7 @@ ghost use Rattle.std.specs.Prelude.{◌≡◌, ◌↔◌, ◌≤◌, ◌+◌, tr
 ghost use Rattle.std.specs.Arc.{arc_value};
 ghost use Rattle.futures.specs.Task.{IsArmed, Keeps};
 ghost use Rattle.tower_latch.specs.Latch.{Reached, Came};
-ghost use Rattle.tower_latch.specs.Guarded.{Rests, IsKept, Counted};
+ghost use Rattle.tower_latch.specs.Guarded.{GuardedView, Rests, IsKept, Counted};
 ghost use Rattle.tower_latch.specs.CoreTable.{fresh, Holds, HoldsBadge, HasCore, MayFree, LeavesBadge, places};
 ghost use Rattle.tower_latch.specs.BadgeViews.{size_by};
 
@@ -15,6 +15,7 @@ use crate::guarded::table::{CoreTable, Frees, Gathers, Seat, Takes};
 use crate::{Core, Latch};
 use futures::task::{Context, Source};
 use std::alloc::{AllocError, Global};
+use std::marker::Model;
 use std::sync::atomic::{AtomicU64, Ordering};
 use std::sync::{Arc, Wait};
 pub use token::Token;
@@ -31,6 +32,12 @@ pub struct Guarded<C: Core, R> {
     // 0 at the first alone.
     share: u64,
     shared: Arc<Shared<C>, Global>,
+}
+
+impl<C: Core, R> Model for Guarded<C, R> {
+    ghost Value = { GuardedView };
+
+    ghost view = { λ g. record { share = g.share; table = (arc_value g.shared).table.shared.table_id; size = (arc_value g.shared).table.shared.key } };
 }
 
 #[derive(Drop)]
@@ -81,8 +88,8 @@ impl<C: Core, R: Wait + Copy> Guarded<C, R> {
     // Takes the core.
     #[inline(always)]
     fn lock(&self) -> Seat<C>
-        ensures has { Holds (λ k. C.size k.core) (λ k. C.out k.core) (fresh (arc_value self.now.shared).table.shared.key) result.me }
-        ensures its { result.table_id ≡ (arc_value self.now.shared).table.shared.table_id }
+        ensures has { Holds (λ k. C.size k.core) (λ k. C.out k.core) (fresh self.now.size) result.me }
+        ensures its { result.table_id ≡ self.now.table }
     {
         let (found, mut seat) = self.shared.table.shared.swap_new_seat::<Takes>(0, 1);
         if found != 0 {
@@ -97,8 +104,8 @@ impl<C: Core, R: Wait + Copy> Guarded<C, R> {
     fn lock_late(&self, seat: &mut Seat<C>)
         requires free { seat.old.me ≡ (seat.old.me.0, []) }
         requires without { seat.old.me.0.has ≡ false }
-        requires size { seat.old.me.0.size ≡ (arc_value self.now.shared).table.shared.key }
-        requires its { seat.old.table_id ≡ (arc_value self.now.shared).table.shared.table_id }
+        requires size { seat.old.me.0.size ≡ self.now.size }
+        requires its { seat.old.table_id ≡ self.now.table }
         ensures has { Holds (λ k. C.size k.core) (λ k. C.out k.core) seat.old.me.0 seat.new.me }
         ensures its { seat.new.table_id ≡ seat.old.table_id }
     {
@@ -114,10 +121,10 @@ impl<C: Core, R: Wait + Copy> Guarded<C, R> {
     // The token's holder takes the core.
     #[inline(always)]
     fn lock_with(&self, token: Token) -> Seat<C>
-        requires its { token.badge.table_id ≡ (arc_value self.now.shared).table.shared.table_id }
-        requires size { size_by token.badge.views ≡ (arc_value self.now.shared).table.shared.key }
+        requires its { token.badge.table_id ≡ self.now.table }
+        requires size { size_by token.badge.views ≡ self.now.size }
         ensures has { HoldsBadge (λ k. C.size k.core) (λ k. C.out k.core) token.badge.views result.me }
-        ensures its { result.table_id ≡ (arc_value self.now.shared).table.shared.table_id }
+        ensures its { result.table_id ≡ self.now.table }
     {
         let mut seat = token.into_seat::<C>();
         if self.shared.table.shared.swap::<Takes>(&mut seat, 0, 1) != 0 {
@@ -132,11 +139,11 @@ impl<C: Core, R: Wait + Copy> Guarded<C, R> {
     fn step_and_wake(&self, mut seat: Seat<C>, step: C::Step) -> (C::Reply, Token)
         requires admitted { C.admits step }
         requires paid { (reply : C.Reply) → C.paid step reply ≤ seat.me.0.out }
-        requires its { seat.table_id ≡ (arc_value self.now.shared).table.shared.table_id }
+        requires its { seat.table_id ≡ self.now.table }
         requires has { seat.me.0.has ≡ true }
-        requires core { HasCore (λ k. C.size k.core) (λ k. C.out k.core) (arc_value self.now.shared).table.shared.key seat.me }
-        ensures came { Came C.opens C.steps C.size (arc_value self.now.shared).table.shared.key step result.0 }
-        ensures its { result.1.badge.table_id ≡ (arc_value self.now.shared).table.shared.table_id }
+        requires core { HasCore (λ k. C.size k.core) (λ k. C.out k.core) self.now.size seat.me }
+        ensures came { Came C.opens C.steps C.size self.now.size step result.0 }
+        ensures its { result.1.badge.table_id ≡ self.now.table }
         ensures size { size_by result.1.badge.views ≡ seat.me.0.size }
         ensures places { places result.1 + C.paid step result.0 ≡ seat.me.0.out + C.gained result.0 }
     {
@@ -151,10 +158,10 @@ impl<C: Core, R: Wait + Copy> Guarded<C, R> {
     // Puts the core back, and wakes a thread that waits for it.
     #[inline(always)]
     fn free(&self, mut seat: Seat<C>) -> Token
-        requires its { seat.table_id ≡ (arc_value self.now.shared).table.shared.table_id }
+        requires its { seat.table_id ≡ self.now.table }
         requires has { seat.me.0.has ≡ true }
-        requires core { MayFree (λ k. C.size k.core) (λ k. C.out k.core) (arc_value self.now.shared).table.shared.key seat.me }
-        ensures its { result.badge.table_id ≡ (arc_value self.now.shared).table.shared.table_id }
+        requires core { MayFree (λ k. C.size k.core) (λ k. C.out k.core) self.now.size seat.me }
+        ensures its { result.badge.table_id ≡ self.now.table }
         ensures left { LeavesBadge (λ k. C.out k.core) seat.me result.badge.views }
     {
         if self.shared.table.shared.swap::<Frees>(&mut seat, 0, 0) == 2 {
@@ -276,16 +283,16 @@ impl<C: Core> Kept<C> {
 
 impl<C: Core, R: Wait + Copy> Latch<C> for Guarded<C, R> {
     // Somewhere in a run of a core of this size from an opening one, the step had this reply.
-    ghost gave = { λ latch step reply. Came C.opens C.steps C.size (arc_value latch.shared).table.shared.key step reply };
+    ghost gave = { λ latch step reply. Came C.opens C.steps C.size latch.size step reply };
 
     ghost is_first = { λ latch. latch.share ≡ 0 };
 
-    // Both are of one core, as the source beside it is one.
-    ghost shares = { λ latch made. IfOk made (λ other. arc_value other.shared ≡ arc_value latch.shared) };
+    // Both are of one core, as their table is one.
+    ghost shares = { λ latch made. IfOk made (λ other. (other.table ≡ latch.table) × (other.size ≡ latch.size)) };
 
-    ghost size = { λ latch. (arc_value latch.shared).table.shared.key };
+    ghost size = { λ latch. latch.size };
 
-    ghost its = { λ latch token. (token.badge.table_id ≡ (arc_value latch.shared).table.shared.table_id) × (size_by token.badge.views ≡ (arc_value latch.shared).table.shared.key) };
+    ghost its = { λ latch token. (token.badge.table_id ≡ latch.table) × (size_by token.badge.views ≡ latch.size) };
 
     ghost honest = { λ _ _ _ given. given };
 

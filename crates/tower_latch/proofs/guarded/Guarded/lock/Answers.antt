@@ -1,5 +1,4 @@
 use Rattle.std.proofs.Common.{◌≡◌, ◌<◌, [], arith, ap, sym, subst, ◌∙◌}
-use Rattle.std.specs.Arc.{arc_value}
 use Rattle.atomic_table.specs.Table.{Arrives, step}
 use mathlib.Core.Option.{none}
 use Rattle.tower_latch.specs.CoreTable.{Agree, Taken, Holds, fresh}
@@ -19,9 +18,9 @@ pub returns-then-found-ne0-clause-has : goal.returns-then-found-ne0-clause-has
 returns-then-found-ne0-clause-has g c =
     let place = c.deref.result.now.table.shared in
     let was : c.swap_new_seat-found.result.1.me ≡ (fresh place.key, []) = c.swap_new_seat-found.ensures.1.1 c.if-found-ne0.true in
-    let key : c.swap_new_seat-found.result.1.me.0 ≡ fresh (arc_value c.args.self.now.shared).table.shared.key = ap (λ m. m.0) was ∙ ap (λ t. fresh t.table.shared.key) c.deref.ensures in
+    let key : c.swap_new_seat-found.result.1.me.0 ≡ fresh c.args.self.now.size = ap (λ m. m.0) was ∙ ap (λ t. fresh t.table.shared.key) c.deref.ensures ∙ ap (λ v. fresh v.size) c.self.view_is in
     subst (λ v. Holds (λ k. g.C.Core.size k.core) (λ k. g.C.Core.out k.core) v c.lock_late.new.seat.me) key c.lock_late.ensures.has
 
 pub returns-else-found-ne0-clause-has : goal.returns-else-found-ne0-clause-has
 returns-else-found-ne0-clause-has g c =
-    subst (λ t. Holds (λ k. g.C.Core.size k.core) (λ k. g.C.Core.out k.core) (fresh t.table.shared.key) c.swap_new_seat-found.result.1.me) c.deref.ensures (c.swap_new_seat-found.ensures.1.0 c.if-found-ne0.false)
+    subst (λ n. Holds (λ k. g.C.Core.size k.core) (λ k. g.C.Core.out k.core) (fresh n) c.swap_new_seat-found.result.1.me) (ap (λ t. t.table.shared.key) c.deref.ensures ∙ ap (λ v. v.size) c.self.view_is) (c.swap_new_seat-found.ensures.1.0 c.if-found-ne0.false)

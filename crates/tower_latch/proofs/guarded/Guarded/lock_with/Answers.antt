@@ -11,9 +11,9 @@ swap-requires g c =
     let place = c.deref.result.now.table.shared in
     let room : 0 < place.table_id.words = omega (arith, c.deref.result.now.one.0) in
     let seat = c.into_seat-seat.result in
-    let tied : seat.table_id ≡ place.table_id = c.into_seat-seat.ensures.its ∙ c.requires.its ∙ sym (ap (λ t. t.table.shared.table_id) c.deref.ensures) in
+    let tied : seat.table_id ≡ place.table_id = c.into_seat-seat.ensures.its ∙ c.requires.its ∙ ap (λ v. v.table) (sym c.self.view_is) ∙ sym (ap (λ t. t.table.shared.table_id) c.deref.ensures) in
     let free : seat.me ≡ (seat.me.0, []) = ap (λ l. (seat.me.0, l)) c.into_seat-seat.ensures.away.0 in
-    let size : seat.me.0.size ≡ place.key = sym (ap size_by c.into_seat-seat.ensures.views) ∙ c.requires.size ∙ sym (ap (λ t. t.table.shared.key) c.deref.ensures) in (
+    let size : seat.me.0.size ≡ place.key = sym (ap size_by c.into_seat-seat.ensures.views) ∙ c.requires.size ∙ ap (λ v. v.size) (sym c.self.view_is) ∙ sym (ap (λ t. t.table.shared.key) c.deref.ensures) in (
       tied,
       room,
       subst (λ n. Allows (Agree (λ k. g.C.Core.size k.core) (λ k. g.C.Core.out k.core) place.key) n seat.id seat.me 0 (λ _. 1) (Taken (λ k. g.C.Core.size k.core) (λ k. g.C.Core.out k.core) (step n 0 1 0 none) seat.me)) (sym c.deref.result.now.one.1)

@@ -5,7 +5,7 @@ use Rattle.tower_latch.proofs.guarded.Guarded.step_and_wake.Goals as goal
 pub slot_mut-requires : goal.slot_mut-requires
 slot_mut-requires g c =
     let h = c.requires.core in
-    (c.requires.its ∙ sym (ap (λ t. t.table.shared.table_id) c.deref.ensures), (h.0, has_slot (λ k. g.C.Core.size k.core) (λ k. g.C.Core.out k.core) _ _ h.1))
+    (c.requires.its ∙ ap (λ v. v.table) (sym c.self.view_is) ∙ sym (ap (λ t. t.table.shared.table_id) c.deref.ensures), (h.0, has_slot (λ k. g.C.Core.size k.core) (λ k. g.C.Core.out k.core) _ _ h.1))
 
 pub free-token-requires-clause-core : goal.free-token-requires-clause-core
 free-token-requires-clause-core g c =
