@@ -1,8 +1,5 @@
-//! Transcripts, faults, limits and refused memory, each through `run`.
+//! What no run of the program shows; `scripts/programs.py` and `scripts/check.sh` play the rest.
 
-mod parts;
 mod program;
-mod refused;
-mod script;
 mod stacks;
 mod storm;

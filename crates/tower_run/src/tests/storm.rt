@@ -1,48 +1,10 @@
-//! Storms: what they print, and that two of their threads hold a permit at once.
-use crate::run;
+//! That two threads of a storm hold a permit at once.
 use crate::storm::{Gate, Storm};
-use crate::tests::parts::{Feed, check};
 use std::alloc::{AllocError, Global};
 use std::sync::Arc;
 use std::sync::atomic::{AtomicU64, Ordering};
 use std::test::Fail;
 use std::thread;
-
-#[test]
-fn a_storm_reports_its_rounds_and_its_permits(rt: HostRuntime) -> Result<(), Fail> {
-    // A storm reads nothing.
-    let nothing = Feed::failing(b"", 1, 0);
-    let report = b"threads 4 rounds 4000 free 2 of 2\n";
-    check(&rt, &["storm", "4", "1000", "2"], nothing, 0, report, b"")
-}
-
-#[test]
-fn a_storm_of_eight_threads(rt: HostRuntime) -> Result<(), Fail> {
-    let nothing = Feed::failing(b"", 1, 0);
-    let report = b"threads 8 rounds 80000 free 3 of 3\n";
-    check(&rt, &["storm", "8", "10000", "3"], nothing, 0, report, b"")
-}
-
-#[test]
-fn a_storm_of_no_round(rt: HostRuntime) -> Result<(), Fail> {
-    let nothing = Feed::failing(b"", 1, 0);
-    let report = b"threads 1 rounds 0 free 1 of 1\n";
-    check(&rt, &["storm", "1", "0", "1"], nothing, 0, report, b"")
-}
-
-#[test]
-fn a_storm_of_a_million_rounds(rt: HostRuntime) -> Result<(), Fail> {
-    let nothing = Feed::failing(b"", 1, 0);
-    let report = b"threads 1 rounds 1000000 free 1 of 1\n";
-    check(
-        &rt,
-        &["storm", "1", "1000000", "1"],
-        nothing,
-        0,
-        report,
-        b"",
-    )
-}
 
 const TURNS: u32 = 1_000_000;
 
