@@ -171,6 +171,26 @@ def check_storms(tower_run):
         tower_run.check(["storm", *words.split()], b"", 0, out, b"", FAIL_READ=1)
 
 
+def check_threads():
+    """A storm makes its rounds in its threads: each takes time of a processor."""
+    global runs
+    runs += 1
+    taken, ticks = {}, os.sysconf("SC_CLK_TCK")
+    with subprocess.Popen([TOWER_RUN, "storm", "4", "1000000", "4"], stdout=subprocess.PIPE) as storm:
+        while storm.poll() is None:
+            for thread in os.listdir(f"/proc/{storm.pid}/task"):
+                try:
+                    with open(f"/proc/{storm.pid}/task/{thread}/stat", encoding="utf-8") as it:
+                        told = it.read().rpartition(")")[2].split()
+                    taken[thread] = (int(told[11]) + int(told[12])) / ticks
+                except OSError:
+                    pass
+            time.sleep(0.005)
+        assert storm.stdout.read() == b"threads 4 rounds 4000000 free 4 of 4\n"
+    busy = [it for thread, it in taken.items() if int(thread) != storm.pid and it >= 0.02]
+    assert len(busy) == 4, taken
+
+
 def check_paced(paced):
     """The lines stay as their bytes; wrong arguments, refused memory, reads and writes that fail are told."""
     for text in (b"", b"\n", b"no line feed", b"\n\n\n", b"one\r\n\r\ntwo\r", bytes((128, 255, 0, 10, 195, 40, 10, 254))):
@@ -225,6 +245,7 @@ def main():
         tower_run, paced = Program(TOWER_RUN, io, (alloc, thread)), Program(PACED_LINES, io)
         for check in (check_arguments, check_lines, check_lengths, check_files, check_untold, check_refusals, check_storms):
             check(tower_run)
+        check_threads()
         for check in (check_paced, check_slow_writes, check_pace):
             check(paced)
         check_progress()

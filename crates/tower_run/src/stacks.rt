@@ -110,8 +110,8 @@ fn limited<'a, R: Wait + Copy>(
     perform(alloc, state, service, commands)
 }
 
-// Under all four, the time outermost and the rate innermost.
-pub(crate) fn layered<'a, R, S, C>(
+// Under all four, the time outermost and the rate innermost, as the type says.
+fn layered<'a, R, S, C>(
     rt: R,
     alloc: Global,
     state: &State<'a>,
@@ -131,7 +131,9 @@ where
         .load_shed()
         .concurrency_limit(rt, alloc, 1)
         .rate_limit(alloc, 2, 10, clock);
-    let service = layers.service(inner)?;
+    let service: Timeout<LoadShed<ConcurrencyLimit<RateLimit<S, C>, _>>, C> = layers.service(
+        inner,
+    )?;
     perform(alloc, state, service, commands)
 }
 
