@@ -57,7 +57,7 @@ echo "no such line" > "$room/bad"
 play "$room/bad" SHORT=0
 [ "$status" = 2 ] && [ -s "$room/err" ] || fail "a bad line: status $status"
 cp "$room/err" "$room/told"
-play "$room/bad" SHORT=1
+play "$room/bad" SHORT_ERROR=1
 [ "$status" = 2 ] && cmp -s "$room/told" "$room/err" || fail "a bad line, told byte by byte: status $status"
 play "$room/bad" FAIL_ERROR=1
 [ "$status" = 2 ] && [ ! -s "$room/err" ] || fail "a bad line that can't be told: status $status"

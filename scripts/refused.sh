@@ -3,7 +3,7 @@
 # or `rt test` left in out/ (each test in a process of its own, under scripts/fail_alloc.c). At each number every test `refused_..` has to
 # pass, and some `ample_..`, which makes the same calls, to fail, up to the last number at which one fails. The kit's strings ask for more
 # room than they need and do without it, so a few numbers may show nothing: it stops after four in a row at which none fails. Status 1 and
-# a line with the number where one isn't so. A crate with other tests keeps these in modules `refused`.
+# a line with the number where one isn't so.
 set -uo pipefail
 
 crate=${1:?usage: scripts/refused.sh CRATE}
@@ -25,7 +25,7 @@ fail() {
 
 # The crate's tests whose names begin so.
 tests() {
-    "$program" --list | sed -nE "s/^((.*::)?$1_[a-z0-9_]*): test\$/\1/p" | case $crate in tests_refused) cat ;; *) grep 'refused::' ;; esac
+    "$program" --list | sed -nE "s/^((.*::)?$1_[a-z0-9_]*): test\$/\1/p"
 }
 
 # Whether a test passes where the allocation of that number is refused.

@@ -5,8 +5,6 @@ mod fault;
 mod lines;
 mod pace;
 mod paced;
-#[cfg(test)]
-mod tests;
 mod writing;
 
 use fault::Fault;

@@ -53,10 +53,7 @@ where
         Ok(lines) => lines,
         Err(fault) => return report(fault, err),
     };
-    if let Err(fault) = copy(rt, service, lines, &mut err, shows_progress) {
-        return report(fault, err);
-    }
-    match flush(out) {
+    match copy(rt, service, lines, &mut err, shows_progress) {
         Ok(()) => 0,
         Err(fault) => report(fault, err),
     }
@@ -66,11 +63,6 @@ where
 pub fn report<E: Write + Drop>(fault: Fault, mut err: E) -> u8 {
     let _ = writeln!(err, "{fault}");
     fault.status()
-}
-
-fn flush<W: Write + Drop>(out: RefCell<W>) -> Result<(), Fault> {
-    let mut out = out.into_inner();
-    out.flush().map_err(|_| Fault::CannotWrite)
 }
 
 // Copies the lines, each once the service is ready for it. What is inside waits for a clock, which wakes nobody: the

@@ -8,8 +8,6 @@ mod script;
 mod scripted;
 mod stacks;
 mod storm;
-#[cfg(test)]
-mod tests;
 mod transcript;
 
 pub use program::run;

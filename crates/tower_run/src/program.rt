@@ -4,7 +4,7 @@ use crate::fault::Fault;
 use crate::script;
 use crate::script::MAX_BYTES;
 use crate::stacks::Stack;
-use crate::storm::{Open, Storm};
+use crate::storm::Storm;
 use std::alloc::{AllocGlobal, Global};
 use std::env;
 use std::io::{ErrorKind, Read, Write};
@@ -45,7 +45,7 @@ where
         [name] => name,
         [name, threads, rounds, permits] if name.as_str() == "storm" => {
             let storm = Storm::parse(threads.as_str(), rounds.as_str(), permits.as_str());
-            return storm.ok_or(Fault::Usage)?.run(rt, &Open);
+            return storm.ok_or(Fault::Usage)?.run(rt);
         }
         _ => return Err(Fault::Usage),
     };
@@ -80,8 +80,7 @@ fn read<R: Read + Drop>(alloc: Global, mut reader: R) -> Result<Vec<u8>, Fault> 
 
 fn write<O: Write + Drop>(mut out: O, text: &str) -> Result<(), Fault> {
     out.write_all(text.as_bytes())
-        .map_err(|_| Fault::CannotWrite)?;
-    out.flush().map_err(|_| Fault::CannotWrite)
+        .map_err(|_| Fault::CannotWrite)
 }
 
 /// The arguments after the program's name. One that isn't text is a wrong one.

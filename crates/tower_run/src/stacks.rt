@@ -110,8 +110,8 @@ fn limited<'a, R: Wait + Copy>(
     perform(alloc, state, service, commands)
 }
 
-// Under all four, the time outermost and the rate innermost.
-pub(crate) fn layered<'a, R, S, C>(
+// Under all four, the time outermost and the rate innermost, as the type says.
+fn layered<'a, R, S, C>(
     rt: R,
     alloc: Global,
     state: &State<'a>,
@@ -126,29 +126,15 @@ where
     C: Clock,
     requires { S.sound inner }
 {
-    let limits = ServiceBuilder::new()
+    let layers = ServiceBuilder::new()
+        .timeout(10, clock.share())
+        .load_shed()
         .concurrency_limit(rt, alloc, 1)
-        .rate_limit(alloc, 2, 10, clock.share());
-    let service = limits.service(inner)?;
-    shed(alloc, state, service, clock, commands)
-}
-
-// Under `Timeout` 10 and `LoadShed`.
-fn shed<'a, S, C>(
-    alloc: Global,
-    state: &State<'a>,
-    inner: S,
-    clock: C,
-    commands: Vec<Command<'a>>,
-) -> Result<String, AllocError>
-where
-    S: Service<Word<'a>, Response = Word<'a>>,
-    S::Error: Refusal,
-    C: Clock,
-    requires { S.sound inner }
-{
-    let layers = ServiceBuilder::new().timeout(10, clock).load_shed();
-    perform(alloc, state, layers.service(inner)?, commands)
+        .rate_limit(alloc, 2, 10, clock);
+    let service: Timeout<LoadShed<ConcurrencyLimit<RateLimit<S, C>, _>>, C> = layers.service(
+        inner,
+    )?;
+    perform(alloc, state, service, commands)
 }
 
 // Drives the service by the commands, and prints what came of it.

@@ -51,10 +51,9 @@ impl Storm {
     ///
     /// If a thread can't be started, the started ones end first, and the fault is `CannotStart`. If any
     /// of them, or this one, finds no memory, the fault is `Memory`.
-    pub fn run<H, G>(self, rt: &H, gate: &G) -> Result<String, Fault>
+    pub fn run<H>(self, rt: &H) -> Result<String, Fault>
     where
         H: Threads + Wait + RandomSource + AllocGlobal + Copy + Send + Drop + 'static,
-        G: Gate + Clone + Send + Drop + 'static,
     {
         let alloc = rt.alloc();
         let semaphore = Semaphore::new(*rt, alloc, self.permits as usize).map_err(
@@ -64,8 +63,8 @@ impl Storm {
             |_| Fault::Memory,
         )?;
         let mut fault = None;
-        for thread in 0..self.threads {
-            match self.start(rt, &semaphore, gate, thread) {
+        for _ in 0..self.threads {
+            match self.start(rt, &semaphore) {
                 Ok(handle) => threads.push(handle).map_err(|_| Fault::Memory)?,
                 Err(refusal) => {
                     fault = Some(refusal);
@@ -94,65 +93,36 @@ impl Storm {
         )
     }
 
-    // Starts the thread of this number.
-    fn start<H, L, G>(
+    // Starts a thread.
+    fn start<H, L>(
         self,
         rt: &H,
         semaphore: &Semaphore<L>,
-        gate: &G,
-        thread: u64,
     ) -> Result<JoinHandle<Result<u64, AllocError>>, Fault>
     where
         H: Threads + Wait + RandomSource + AllocGlobal + Copy + Send + Drop + 'static,
         L: Latch<LineCore> + Send + 'static,
-        G: Gate + Clone + Send + Drop + 'static,
     {
         let semaphore = semaphore.share().map_err(|_| Fault::Memory)?;
-        let gate = gate.clone().map_err(|_| Fault::Memory)?;
         let rt = *rt;
         let count = self.rounds;
-        thread::spawn(&rt, move || rounds(&rt, semaphore, &gate, thread, count)).map_err(
-            |_| Fault::CannotStart,
-        )
+        thread::spawn(&rt, move || rounds(&rt, semaphore, count)).map_err(|_| Fault::CannotStart)
     }
 }
 
-/// What a thread does in each round while it holds its permit.
-pub trait Gate {
-    /// Passes the gate in this round of this thread. Both are counted from 0.
-    fn pass(&self, thread: u64, round: u64);
-}
-
-/// The gate of the program, which does nothing.
-#[derive(Clone, Copy)]
-pub struct Open;
-
-impl Gate for Open {
-    fn pass(&self, _thread: u64, _round: u64) {}
-}
-
 // Makes the rounds of one thread, which sleeps while it waits. Returns how many it made.
-fn rounds<H, L, G>(
-    rt: &H,
-    semaphore: Semaphore<L>,
-    gate: &G,
-    thread: u64,
-    count: u64,
-) -> Result<u64, AllocError>
+fn rounds<H, L>(rt: &H, semaphore: Semaphore<L>, count: u64) -> Result<u64, AllocError>
 where
     H: Wait + RandomSource + AllocGlobal,
     L: Latch<LineCore>,
-    G: Gate,
 {
     let mut made = 0u64;
-    for round in 0..count {
+    for _ in 0..count {
         let asking = PollSemaphore::new(semaphore.share()?);
         let Ok(acquired) = block_on(rt, Acquire { asking }) else {
             return Err(AllocError);
         };
-        let permit = acquired?;
-        gate.pass(thread, round);
-        drop(permit);
+        drop(acquired?);
         made = made.saturating_add(1);
     }
     Ok(made)
