@@ -46,7 +46,7 @@ class Program:
         if found != (status, out, err):
             raise AssertionError(f"{os.path.basename(self.path)} {words} {fails} {script[:80]!r}: {found}, not {(status, out, err)}"[:2000])
 
-    def refuses(self, words, script, out):
+    def refuses(self, words, script, out, *other_ends):
         """If an allocation is refused, the program prints nothing and says so; if none is, it prints the whole. Each is refused in turn."""
         global runs
         quiet = refused = 0
@@ -54,7 +54,7 @@ class Program:
             runs += 1
             ran = self.run(words, script, FAIL_ALLOC=number)
             found = ran.returncode, ran.stdout, ran.stderr
-            if found == (1, b"", b"out of memory\n"):
+            if found in ((1, b"", b"out of memory\n"), *other_ends):
                 quiet, refused = 0, refused + 1
             elif found == (0, out, b""):
                 quiet += 1
@@ -136,6 +136,25 @@ def check_files(tower_run):
     tower_run.check(words, b"wrong", 2, b"", b"line 1: bad line\n", SHORT_ERROR=3, INTERRUPTED=1)
 
 
+def check_each_call(tower_run):
+    """Of a long script each read and each write fails in turn: what was written before stands. Calls of few bytes change nothing."""
+    global runs
+    with open(f"{HERE}/timeout.script", "rb") as it:
+        script = it.read() * 400
+    whole = tower_run.run(["timeout"], script).stdout
+    assert whole.count(b"\n") > 2000, whole
+    for failing, told, step in (("FAIL_READ", b"cannot read\n", 0), ("FAIL_WRITE", b"cannot write\n", 1000)):
+        for number in range(1, 1000):
+            runs += 1
+            ran = tower_run.run(["timeout"], script, SHORT=1000, **{failing: number})
+            if ran.returncode == 0:
+                break
+            assert (ran.returncode, ran.stdout, ran.stderr) == (3, whole[: step * (number - 1)], told), (failing, number, ran.stderr)
+        assert number > 3 and ran.stdout == whole, (failing, number)
+    for most in (1, 7, 4095):
+        tower_run.check(["timeout"], script, 0, whole, b"", SHORT=most)
+
+
 def check_untold(tower_run):
     """If a fault can't be told, the status is as it is."""
     storm, silent = ["storm", "4", "20", "2"], {"FAIL_ERROR": 1}
@@ -165,30 +184,36 @@ def check_refusals(tower_run):
 
 
 def check_storms(tower_run):
-    """A storm reads nothing, and reports its rounds and its permits."""
+    """A storm reads nothing, and reports its rounds and its permits. If a thread or an allocation is refused, it says so."""
     for words, out in (("4 1000 2", b"threads 4 rounds 4000 free 2 of 2\n"), ("8 10000 3", b"threads 8 rounds 80000 free 3 of 3\n"),
                        ("1 0 1", b"threads 1 rounds 0 free 1 of 1\n"), ("1 1000000 1", b"threads 1 rounds 1000000 free 1 of 1\n")):
         tower_run.check(["storm", *words.split()], b"", 0, out, b"", FAIL_READ=1)
+    words, out, unstarted = ["storm", "4", "20", "2"], b"threads 4 rounds 80 free 2 of 2\n", (3, b"", b"cannot start a thread\n")
+    for thread in range(1, 5):
+        tower_run.check(words, b"", *unstarted, FAIL_THREAD=thread)
+    tower_run.check(words, b"", 0, out, b"", FAIL_THREAD=5)
+    tower_run.refuses(words, b"", out, unstarted)
 
 
-def check_threads():
-    """A storm makes its rounds in its threads: each takes time of a processor."""
+def check_threads(program=TOWER_RUN):
+    """A storm makes its rounds in its threads, not in one after another: at one moment each of the four is there, and has taken time of a processor."""
     global runs
     runs += 1
-    taken, ticks = {}, os.sysconf("SC_CLK_TCK")
-    with subprocess.Popen([TOWER_RUN, "storm", "4", "1000000", "4"], stdout=subprocess.PIPE) as storm:
+    ticks, together = os.sysconf("SC_CLK_TCK"), 0
+    with subprocess.Popen([program, "storm", "4", "1000000", "4"], stdout=subprocess.PIPE) as storm:
         while storm.poll() is None:
+            busy = 0
             for thread in os.listdir(f"/proc/{storm.pid}/task"):
                 try:
                     with open(f"/proc/{storm.pid}/task/{thread}/stat", encoding="utf-8") as it:
                         told = it.read().rpartition(")")[2].split()
-                    taken[thread] = (int(told[11]) + int(told[12])) / ticks
                 except OSError:
-                    pass
+                    continue
+                busy += int(thread) != storm.pid and (int(told[11]) + int(told[12])) / ticks >= 0.02
+            together = max(together, busy)
             time.sleep(0.005)
         assert storm.stdout.read() == b"threads 4 rounds 4000000 free 4 of 4\n"
-    busy = [it for thread, it in taken.items() if int(thread) != storm.pid and it >= 0.02]
-    assert len(busy) == 4, taken
+    assert together == 4, together
 
 
 def check_paced(paced):
@@ -243,7 +268,7 @@ def main():
     with tempfile.TemporaryDirectory() as room:
         io, alloc, thread = (built(room, name) for name in ("fail_io", "fail_alloc", "fail_thread"))
         tower_run, paced = Program(TOWER_RUN, io, (alloc, thread)), Program(PACED_LINES, io)
-        for check in (check_arguments, check_lines, check_lengths, check_files, check_untold, check_refusals, check_storms):
+        for check in (check_arguments, check_lines, check_lengths, check_files, check_each_call, check_untold, check_refusals, check_storms):
             check(tower_run)
         check_threads()
         for check in (check_paced, check_slow_writes, check_pace):
