@@ -11,7 +11,7 @@ sys.dont_write_bytecode = True  # no folder of its own in the repository
 from must_fail import without_generics
 
 TOP = os.path.dirname(os.path.dirname(os.path.abspath(__file__)))
-LIBRARY = ("tower_base", "tower_util", "tower_ware", "tower_limit", "tower_retry", "tower_pool", "tower")
+LIBRARY = ("tower_base", "tower_latch", "tower_util", "tower_ware", "tower_limit", "tower_retry", "tower_pool", "tower")
 # What only the library itself calls.
 PRIVATE = ("Waiters", "Cells", "Held", "Slots", "Bag", "Line", "Spare", "Tally", "Mailbox", "R")
 

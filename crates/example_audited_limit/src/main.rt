@@ -14,7 +14,7 @@ use std::sync::Wait;
 use std::sync::ledger::Blank;
 use std::thread::Threads;
 use std::{io, thread};
-use tower_base::latch::{Log, LogTable, Logged, Pass};
+use tower_latch::{Log, LogTable, Logged, Pass};
 use tower_limit::limit::concurrency::{LineCore, LineReply, LineStep, law};
 
 const MAX: usize = 2;

@@ -12,8 +12,8 @@ use std::sync::Wait;
 use tests_support::latch::Noting;
 use tower::load::pending_requests::CountCore;
 use tower::load::{CompleteOnResponse, Constant, Load, PendingRequests};
-use tower_base::latch::{Guarded, Latch};
 use tower_base::service::Service;
+use tower_latch::{Guarded, Latch};
 
 // Reads a load.
 #[derive(Drop)]

@@ -9,9 +9,9 @@ use scripted::script::{Requests, Script};
 use std::alloc::AllocError;
 use std::fmt::{Debug, Display};
 use std::sync::Wait;
-use tower_base::latch::held::Pollable;
-use tower_base::latch::{Guarded, Latch};
 use tower_base::service::{Service, Steps};
+use tower_latch::held::Pollable;
+use tower_latch::{Guarded, Latch};
 use tower_limit::limit::ConcurrencyLimit;
 use tower_pool::buffer::{Buffer, Error, MailCore, Worker};
 

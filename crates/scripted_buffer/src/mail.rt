@@ -6,7 +6,7 @@ use std::alloc::AllocError;
 use std::cell::Cell;
 use std::marker::PhantomData;
 use tests_support::log::Log;
-use tower_base::latch::Latch;
+use tower_latch::{Latch, Token};
 use tower_pool::buffer::{MailCore, MailReply, MailStep};
 
 /// A latch over another. Its shares may be refused.
@@ -56,6 +56,10 @@ where
 {
     ghost gave = { λ latch step reply. L.gave latch.inner step reply };
 
+    ghost size = { λ latch. L.size latch.inner };
+
+    ghost its = { λ latch token. L.its latch.inner token };
+
     ghost honest = { λ latch step reply given. L.honest latch.inner step reply given };
 
     fn step(&self, step: MailStep<Q, F, E>) -> MailReply<Q, F, E> {
@@ -63,9 +67,22 @@ where
         self.inner.step(step)
     }
 
-    fn wait(&self, step: MailStep<Q, F, E>, cx: &mut Context<'_>) -> MailReply<Q, F, E> {
+    fn wait(&self, step: MailStep<Q, F, E>, cx: &mut Context<'_>) -> (MailReply<Q, F, E>, Token) {
         self.note(&step);
         self.inner.wait(step, cx)
+    }
+
+    fn give(&self, step: MailStep<Q, F, E>, token: Token) -> (MailReply<Q, F, E>, Token) {
+        self.note(&step);
+        self.inner.give(step, token)
+    }
+
+    fn empty(&self) -> Token {
+        self.inner.empty()
+    }
+
+    fn merge(&self, token: Token, other: Token) -> Token {
+        self.inner.merge(token, other)
     }
 
     fn share(&self) -> Result<Named<'a, L>, AllocError> {

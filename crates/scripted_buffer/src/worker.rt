@@ -7,8 +7,8 @@ use scripted::script::Script;
 use std::alloc::AllocError;
 use std::cell::Cell;
 use tests_support::run::stepped;
-use tower_base::latch::held::Pollable;
 use tower_base::service::Steps;
+use tower_latch::held::Pollable;
 
 /// How many shares of the latch there are, 255 for always, and how many requests are left.
 #[derive(Drop)]

@@ -15,8 +15,8 @@ use std::sync::Wait;
 use tests_support::clock::Hand;
 use tests_support::latch::Noting;
 use tests_support::service::Scripted;
-use tower_base::latch::{Guarded, Latch};
 use tower_base::service::Fraction;
+use tower_latch::{Guarded, Latch};
 use tower_retry::hedge::Hedge;
 use tower_retry::hedge::rotating_histogram::HistoCore;
 

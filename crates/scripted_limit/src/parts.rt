@@ -6,9 +6,9 @@ use std::alloc::{AllocError, Global};
 use std::fmt::Display;
 use tests_support::log::Log;
 use tests_support::run::polled;
-use tower_base::latch::Latch;
-use tower_base::latch::held::Viewed;
 use tower_base::service::Service;
+use tower_latch::Latch;
+use tower_latch::held::Viewed;
 use tower_limit::limit::concurrency::{LineCore, Semaphore};
 
 /// A share of the semaphore, if the script watches it: `free` tells how many permits are free, and so does the end.

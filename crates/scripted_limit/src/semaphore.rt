@@ -13,7 +13,7 @@ use std::alloc::{AllocError, Global};
 use std::cell::Cell;
 use std::sync::Wait;
 use tests_support::slots::{put, take};
-use tower_base::latch::{Guarded, Latch};
+use tower_latch::{Guarded, Latch};
 use tower_limit::limit::concurrency::{
     LineCore, LineReply, LineStep, Permit, PollSemaphore, Semaphore,
 };

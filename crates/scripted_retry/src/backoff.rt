@@ -12,9 +12,9 @@ use scripted::script::Script;
 use std::alloc::{AllocError, Global};
 use tests_support::run::stepped;
 use tests_support::slots::{put, take};
-use tower_base::latch::held::Pollable;
 use tower_base::service::{Clock, Sleep};
 use tower_base::util::rng::Rng;
+use tower_latch::held::Pollable;
 use tower_retry::retry::backoff::{
     Backoff, ExponentialBackoff, ExponentialBackoffMaker, MakeBackoff,
 };

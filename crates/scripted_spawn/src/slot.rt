@@ -6,7 +6,7 @@ use std::alloc::AllocError;
 use std::cell::Cell;
 use tests_support::log::Log;
 use tower::spawn_ready::{SlotCore, SlotReply, SlotStep};
-use tower_base::latch::Latch;
+use tower_latch::{Latch, Token};
 
 /// A latch over another. It notes its steps, shares and drop, and its shares may be refused.
 pub struct Told<'a, L: Drop> {
@@ -37,6 +37,10 @@ fn word<S, E>(step: &SlotStep<S, E>) -> &'static str {
 impl<'a, S: Drop, E: Drop, L: Latch<SlotCore<S, E>>> Latch<SlotCore<S, E>> for Told<'a, L> {
     ghost gave = { λ latch step reply. L.gave latch.inner step reply };
 
+    ghost size = { λ latch. L.size latch.inner };
+
+    ghost its = { λ latch token. L.its latch.inner token };
+
     ghost honest = { λ latch step reply given. L.honest latch.inner step reply given };
 
     fn step(&self, step: SlotStep<S, E>) -> SlotReply<S, E> {
@@ -44,9 +48,22 @@ impl<'a, S: Drop, E: Drop, L: Latch<SlotCore<S, E>>> Latch<SlotCore<S, E>> for T
         self.inner.step(step)
     }
 
-    fn wait(&self, step: SlotStep<S, E>, cx: &mut Context<'_>) -> SlotReply<S, E> {
+    fn wait(&self, step: SlotStep<S, E>, cx: &mut Context<'_>) -> (SlotReply<S, E>, Token) {
         self.log.note(word(&step));
         self.inner.wait(step, cx)
+    }
+
+    fn give(&self, step: SlotStep<S, E>, token: Token) -> (SlotReply<S, E>, Token) {
+        self.log.note(word(&step));
+        self.inner.give(step, token)
+    }
+
+    fn empty(&self) -> Token {
+        self.inner.empty()
+    }
+
+    fn merge(&self, token: Token, other: Token) -> Token {
+        self.inner.merge(token, other)
     }
 
     fn share(&self) -> Result<Told<'a, L>, AllocError> {

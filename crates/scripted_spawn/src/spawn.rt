@@ -17,10 +17,10 @@ use std::random::RandomSource;
 use std::sync::Wait;
 use tests_support::run::task;
 use tower::spawn_ready::{SlotCore, SpawnReady};
-use tower_base::latch::held::Viewed;
-use tower_base::latch::{Guarded, Latch};
 use tower_base::layer::Layer;
 use tower_base::service::{Service, Steps};
+use tower_latch::held::Viewed;
+use tower_latch::{Guarded, Latch};
 
 pub fn play<R: Wait + RandomSource + AllocGlobal + Copy>(
     rt: R,

@@ -7,8 +7,8 @@ use std::alloc::{AllocError, Global};
 use std::cell::{Cell, RefCell};
 use tests_support::log::Log;
 use tests_support::run::stepped;
-use tower_base::latch::held::Pollable;
 use tower_base::service::{Executor, Steps};
+use tower_latch::held::Pollable;
 
 /// Tasks that were handed over, the newest last, and how many more there may be.
 #[derive(Drop)]

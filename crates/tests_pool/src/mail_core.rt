@@ -5,7 +5,7 @@ use std::alloc::{AllocError, Global};
 use std::fmt::Write;
 use std::test::Fail;
 use tests_support::checks::Checks;
-use tower_base::latch::Core;
+use tower_latch::Core;
 use tower_pool::buffer::{MailCore, MailReply, MailStep};
 
 const BOOM: u8 = 66;

@@ -4,7 +4,7 @@ use std::alloc::AllocError;
 use std::fmt::Write;
 use std::test::Fail;
 use tests_support::checks::Checks;
-use tower_base::latch::Core;
+use tower_latch::Core;
 use tower_pool::buffer::{MailCore, MailStep};
 
 // An error whose clones are refused.

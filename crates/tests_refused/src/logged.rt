@@ -8,7 +8,7 @@ use std::process::Abort;
 use std::sync::Wait;
 use std::sync::ledger::Blank;
 use std::test::Fail;
-use tower_base::latch::{Log, LogTable, Logged, Pass};
+use tower_latch::{Log, LogTable, Logged, Pass};
 use tower_limit::limit::concurrency::{LineCore, LineReply, LineStep};
 
 // What six steps answer, at the places 0 to 5.

@@ -9,8 +9,8 @@ use tests_support::checks::Checks;
 use tests_support::clock::Hand;
 use tests_support::latch::Noting;
 use tests_support::log::Log;
-use tower_base::latch::{Core, Guarded, Latch};
 use tower_base::service::{Clock, Fraction};
+use tower_latch::{Core, Guarded, Latch};
 use tower_retry::retry::budget::{Budget, BudgetCore, BudgetReply, BudgetStep, TpsBudget};
 
 const MS: u64 = 1_000_000;

@@ -9,8 +9,8 @@ use tests_support::checks::Checks;
 use tests_support::clock::Hand;
 use tests_support::latch::Noting;
 use tests_support::log::Log;
-use tower_base::latch::{Core, Guarded};
 use tower_base::service::Fraction;
+use tower_latch::{Core, Guarded};
 use tower_retry::hedge::latency::Record;
 use tower_retry::hedge::rotating_histogram::{HistoCore, HistoReply, HistoStep, RotatingHistogram};
 

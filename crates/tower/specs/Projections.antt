@@ -10,7 +10,7 @@ use Rattle.tower_base.specs.ServiceRun.{Relations, relations, Action, Takes}
 use Rattle.tower_base.specs.Projection.{Once, MappedOrNone, Never, Projects, RunInside}
 use Rattle.tower_base.specs.ProjectionLemmas.{forwards, no_action, one_poll, one_call}
 use Rattle.tower_base.specs.Sleep.{SleepView}
-use Rattle.tower_base.specs.declared.latch.Latch.{Ghosts as LatchOf}
+use Rattle.tower_latch.specs.declared.Latch.{Ghosts as LatchOf}
 use Rattle.tower_base.specs.declared.service.Clock.{Ghosts as ClockOf}
 use Rattle.tower_base.specs.declared.service.Service.{Ghosts as ServiceOf}
 use Rattle.tower_retry.specs.Delay as De

@@ -1,7 +1,7 @@
 -- What holds of all runs of a slot.
 use Rattle.std.specs.Prelude.{◌≡◌, ◌⊎◌, List, [], ◌∷◌}
 use Rattle.std.specs.List.{AllByRecursion}
-use Rattle.tower_base.specs.Latch.{Serves}
+use Rattle.tower_latch.specs.Latch.{Serves}
 use Rattle.tower.specs.Slot.{SlotSteps}
 use Rattle.tower.specs.declared.spawn_ready.slot_core.Slot.{Slot}
 use Rattle.tower.specs.declared.spawn_ready.slot_core.Slot.TheVariants.{Idle}

@@ -1,7 +1,6 @@
 pub mod Counts
 pub mod HistoCoreLemmas
 pub mod HistogramLemmas
-pub mod KeysLemmas
 pub mod LineHistoryLemmas
 pub mod LineMoves
 pub mod LineRuns
@@ -11,5 +10,3 @@ pub mod RateBound
 pub mod RateRuns
 pub mod RateStands
 pub mod Replies
-pub mod WaitQueues
-pub mod Waiters

@@ -4,7 +4,8 @@ use Rattle.std.specs.declared.alloc.AllocError.{AllocError}
 use Rattle.futures.specs.declared.task.Poll.{Poll}
 use Rattle.futures.specs.declared.task.Poll.TheVariants.{Ready, Pending}
 use Rattle.tower_base.specs.Answers.{answered}
-use Rattle.tower_base.specs.declared.latch.Latch.{Ghosts as LatchOf}
+use Rattle.tower_latch.specs.declared.Latch.{Ghosts as LatchOf}
+use Rattle.tower_latch.specs.declared.guarded.token.Token.{Token}
 use Rattle.tower_base.specs.declared.service.Service.{Ghosts as ServiceOf}
 use Rattle.tower_base.specs.declared.service.Steps.{Ghosts as StepsOf}
 use Rattle.tower_limit.specs.declared.limit.concurrency.error.Error.{Error}
@@ -50,8 +51,9 @@ abbrev pub idle : {S L : Type 0} → S → SemaphoreView L → ConcurrencyLimitV
 idle inner semaphore = record { inner = inner; asking = record { semaphore = semaphore; key = None }; permit = None }
 
 -- round the service, over a semaphore of its own of so many permits, idle
-pub record New {S L : Type 0} (service : S) (max : ℕ) (made : ConcurrencyLimitView S L) : Type 0 where
-  pub size : made.asking.semaphore.max ≡ max
+pub record New {S L : Type 0} (places : L → ℕ) (service : S) (max : ℕ) (made : ConcurrencyLimitView S L) : Type 0 where
+  pub number : made.asking.semaphore.max ≡ max
+  pub size : places made.asking.semaphore.latch ≡ max
   pub round : made ≡ idle service made.asking.semaphore
 
 -- the answer is that there is no memory
@@ -61,9 +63,16 @@ RanOut (Ready (Ok x)) = ⊥
 RanOut Pending = ⊥
 
 module _ {L : Type 0} (l : LatchOf L LineCore LineStep LineReply) where
-  -- the second is a share of the first: what it gave, the first gave
-  abbrev pub Shares : L → L → Type 0
-  Shares latch other = (step : LineStep) (reply : LineReply) → l.gave other step reply → l.gave latch step reply
+  -- the second is a share of the first: what it gave, the first gave, and their tokens are the same
+  pub record Shares (latch other : L) : Type 0 where
+    pub gives : (step : LineStep) (reply : LineReply) → l.gave other step reply → l.gave latch step reply
+    pub size : l.size other ≡ l.size latch
+    pub its : (token : Token) → l.its other token → l.its latch token
+    pub takes : (token : Token) → l.its latch token → l.its other token
+
+  -- the permit is one of the semaphore's: tokens of its latch are tokens of the semaphore's
+  abbrev pub IsOf : SemaphoreView L → PermitView L → Type 0
+  IsOf semaphore permit = (token : Token) → l.its permit.latch token → l.its semaphore.latch token
 
   -- a semaphore that shares the permits of the first, by a share that its latch made
   pub record SharesPermits (semaphore other : SemaphoreView L) : Type 0 where

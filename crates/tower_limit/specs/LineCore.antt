@@ -1,12 +1,12 @@
 -- Which plain lines a `LineCore` stands for.
 use Rattle.std.specs.Prelude.{◌≡◌, ◌<◌, ◌≤◌, ◌+◌, ◌-◌, ℕ, suc, List, [], ◌∷◌, ⊤}
 use Rattle.tower_limit.specs.Line.{Ticket, Line, Steps, Excused, blank, keys_of}
-use Rattle.tower_limit.specs.Turns.{Turns}
-use Rattle.tower_limit.specs.WaitQueue.{StandsFor as QueueStandsFor, room, size, touches as queue_touches}
+use Rattle.tower_latch.specs.Turns.{Turns}
+use Rattle.tower_latch.specs.WaitQueue.{StandsFor as QueueStandsFor, room, size, touches as queue_touches}
 use Rattle.tower_limit.specs.declared.limit.concurrency.line_core.LineCore.{LineCore}
 use Rattle.tower_limit.specs.declared.limit.concurrency.line_core.LineStep.{LineStep}
 use Rattle.tower_limit.specs.declared.limit.concurrency.line_core.LineReply.{LineReply}
-use Rattle.tower_limit.specs.declared.wait_queue.WaitQueue.{WaitQueue}
+use Rattle.tower_latch.specs.declared.wait_queue.WaitQueue.{WaitQueue}
 
 -- how many hold a permit
 abbrev pub holders : List Ticket → ℕ

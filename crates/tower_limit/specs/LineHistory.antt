@@ -1,7 +1,7 @@
 -- What holds of the history of a line of permits that threads shared.
 use Rattle.std.specs.Prelude.{◌≡◌, ◌≤◌, ◌+◌, ℕ, List, take, Option, Some}
-use Rattle.tower_base.specs.Latch.{StepsAs}
-use Rattle.tower_base.specs.History.{IsLegal}
+use Rattle.tower_latch.specs.Latch.{StepsAs}
+use Rattle.tower_latch.specs.History.{IsLegal}
 use Rattle.tower_limit.specs.Line.{LineSteps, blank}
 use Rattle.tower_limit.specs.LineCore.{StandsFor, Opens}
 use Rattle.tower_limit.specs.LineLaws.{grants, returns}

@@ -1,7 +1,7 @@
 -- What holds of the history of mail that threads shared.
 use Rattle.std.specs.Prelude.{◌≡◌, ◌⊎◌, ℕ, List, [], ◌∷◌, ◌++◌, take, Option, Some}
-use Rattle.tower_base.specs.Latch.{StepsAs}
-use Rattle.tower_base.specs.History.{IsLegal}
+use Rattle.tower_latch.specs.Latch.{StepsAs}
+use Rattle.tower_latch.specs.History.{IsLegal}
 use Rattle.tower_pool.specs.Mail.{MailSteps, blank}
 use Rattle.tower_pool.specs.Mailbox.{Opens, StandsFor}
 use Rattle.tower_pool.specs.declared.buffer.mail.MailStep.{MailStep}

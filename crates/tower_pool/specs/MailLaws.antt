@@ -1,6 +1,6 @@
 -- What holds of every list of steps that mail makes.
 use Rattle.std.specs.Prelude.{◌≡◌, ◌⊎◌, ◌<◌, ℕ, suc, true, unwrap_or, Option, Some, None, List, slice_get}
-use Rattle.tower_base.specs.Latch.{Serves}
+use Rattle.tower_latch.specs.Latch.{Serves}
 use Rattle.tower_pool.specs.Mail.{At, Entry, SentMessage, Mail, MailSteps, Settles}
 use Rattle.tower_pool.specs.declared.buffer.message.Fate.{Fate}
 use Rattle.tower_pool.specs.declared.buffer.message.Fate.TheVariants.{Open, Failed}

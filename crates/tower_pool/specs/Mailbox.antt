@@ -2,7 +2,7 @@
 use Rattle.std.specs.Prelude.{◌≡◌, ◌<◌, ◌≤◌, ◌+◌, ◌*◌, ℕ, List}
 use Rattle.tower_limit.specs.Line.{Ticket}
 use Rattle.tower_limit.specs.LineCore.{StandsAt}
-use Rattle.tower_limit.specs.WaitQueue.{room, size, touches as queue_touches}
+use Rattle.tower_latch.specs.WaitQueue.{room, size, touches as queue_touches}
 use Rattle.tower_pool.specs.Mail.{Entry, Mail, MailSteps, blank}
 use Rattle.tower_pool.specs.MessageSteps.{Holds, capacity, len, queued, touches as messages_touches}
 use Rattle.tower_pool.specs.declared.buffer.mail.MailStep.{MailStep}

@@ -1,7 +1,7 @@
 -- Which plain ledgers a `BudgetCore` stands for.
 use Rattle.std.specs.Prelude.{◌≡◌, ℕ, List, ℤ, pos, ◌+ℤ◌}
 use Rattle.std.specs.Int.{w128, saturate_signed}
-use Rattle.tower_base.specs.Latch.{Serves, StepsAs}
+use Rattle.tower_latch.specs.Latch.{Serves, StepsAs}
 use Rattle.tower_base.specs.declared.service.Fraction.{Fraction}
 use Rattle.tower_retry.specs.Budget.{Ledger, Fits, terms_of, blank, balance, IsExact, Steps}
 use Rattle.tower_retry.specs.Slots.{Keeps, Slotted, kept_sum}

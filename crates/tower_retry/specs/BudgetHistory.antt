@@ -1,7 +1,7 @@
 -- What holds of the history of a budget that threads shared.
 use Rattle.std.specs.Prelude.{◌≡◌, ℕ, Bool, List, take, Option, Some, slice_get, pos, int_le}
-use Rattle.tower_base.specs.Latch.{Serves, StepsAs}
-use Rattle.tower_base.specs.History.{IsLegal}
+use Rattle.tower_latch.specs.Latch.{Serves, StepsAs}
+use Rattle.tower_latch.specs.History.{IsLegal}
 use Rattle.tower_retry.specs.Budget.{Ledger, Steps, IsExact, advanced, balance, blank}
 use Rattle.tower_retry.specs.BudgetCore.{StandsFor, Opens}
 use Rattle.tower_retry.specs.declared.retry.budget.budget_core.BudgetCore.{BudgetCore}

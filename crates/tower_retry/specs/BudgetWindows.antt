@@ -1,6 +1,6 @@
 -- How long a deposit counts.
 use Rattle.std.specs.Prelude.{◌≡◌, ◌<◌, ◌≤◌, ℕ, ◌+◌, ◌*◌, true, false, List, [], ◌∷◌, ◌++◌, pos}
-use Rattle.tower_base.specs.Latch.{Serves}
+use Rattle.tower_latch.specs.Latch.{Serves}
 use Rattle.tower_retry.specs.Budget.{Ledger, Steps, advanced, blank, counts}
 use Rattle.tower_retry.specs.declared.retry.budget.steps.Amount.{Amount}
 use Rattle.tower_retry.specs.declared.retry.budget.steps.BudgetStep.{BudgetStep}

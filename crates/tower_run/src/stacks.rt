@@ -110,7 +110,7 @@ fn limited<'a, R: Wait + Copy>(
     perform(alloc, state, service, commands)
 }
 
-// Under all four, the time outermost and the rate innermost, as the type says.
+// Under all four, the time outermost and the rate innermost, as the types say. At once they exceed the check's steps.
 fn layered<'a, R, S, C>(
     rt: R,
     alloc: Global,
@@ -126,14 +126,29 @@ where
     C: Clock,
     requires { S.sound inner }
 {
-    let layers = ServiceBuilder::new()
-        .timeout(10, clock.share())
-        .load_shed()
+    let limits = ServiceBuilder::new()
         .concurrency_limit(rt, alloc, 1)
-        .rate_limit(alloc, 2, 10, clock);
-    let service: Timeout<LoadShed<ConcurrencyLimit<RateLimit<S, C>, _>>, C> = layers.service(
-        inner,
-    )?;
+        .rate_limit(alloc, 2, 10, clock.share());
+    let service: ConcurrencyLimit<RateLimit<S, C>, _> = limits.service(inner)?;
+    shed(alloc, state, service, clock, commands)
+}
+
+// Under `Timeout` 10 and `LoadShed`, in this order.
+fn shed<'a, S, C>(
+    alloc: Global,
+    state: &State<'a>,
+    inner: S,
+    clock: C,
+    commands: Vec<Command<'a>>,
+) -> Result<String, AllocError>
+where
+    S: Service<Word<'a>, Response = Word<'a>>,
+    S::Error: Refusal,
+    C: Clock,
+    requires { S.sound inner }
+{
+    let layers = ServiceBuilder::new().timeout(10, clock).load_shed();
+    let service: Timeout<LoadShed<S>, C> = layers.service(inner)?;
     perform(alloc, state, service, commands)
 }
 

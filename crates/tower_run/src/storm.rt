@@ -10,7 +10,7 @@ use std::sync::Wait;
 use std::thread;
 use std::thread::{JoinHandle, Threads};
 use tower::util::block_on;
-use tower_base::latch::Latch;
+use tower_latch::Latch;
 use tower_limit::limit::concurrency::{LineCore, Permit, PollSemaphore, Semaphore};
 
 const MAX_THREADS: u64 = 64;

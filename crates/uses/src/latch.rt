@@ -21,11 +21,17 @@ impl Core for Seats {
 
     type Reply = Option<u32>;
 
+    ghost use Rattle.tower_latch.specs.LatchLemmas.{none_held, no_places};
+
     ghost opens = { λ seats. seats.left ≡ 3 };
 
     ghost steps = { λ old _ reply new. Sold old.left reply new.left };
 
     ghost is_wait = { λ _. false };
+
+    ghost starts = { none_held _ };
+
+    ghost counts = { no_places _ };
 
     fn step(&mut self, _step: ()) -> Option<u32> {
         if self.left == 0 {
@@ -37,6 +43,10 @@ impl Core for Seats {
 
     fn waits(_reply: &Option<u32>) -> bool {
         false
+    }
+
+    fn capacity(&self) -> usize {
+        0
     }
 }
 

@@ -11,6 +11,7 @@ mod latch;
 mod load;
 mod load_shed;
 mod make;
+mod permits;
 mod ready_cache;
 mod reconnect;
 mod select;
@@ -54,5 +55,6 @@ fn main(rt: HostRuntime) -> io::Result<()> {
     select::ask_a_backup(rt)?;
     hedge::ask_again(rt)?;
     latch::sell_two_seats(rt)?;
+    permits::hold_three(rt)?;
     within_rate::hold_back(rt)
 }

@@ -7,10 +7,10 @@ use crate::spawn_ready::slot_core::SlotCore;
 use std::alloc::{AllocError, Global};
 use std::marker::{Model, PhantomData};
 use std::sync::Wait;
-use tower_base::latch::Guarded;
-use tower_base::latch::held::Viewed;
 use tower_base::layer::Layer;
 use tower_base::service::Service;
+use tower_latch::Guarded;
+use tower_latch::held::Viewed;
 
 /// Gives each service a slot of its own, and a clone of its executor: the Rust's
 /// `tower::spawn_ready::SpawnReadyLayer`. `Request` is what its services are called with.

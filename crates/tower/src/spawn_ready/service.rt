@@ -15,10 +15,10 @@ use futures::task::{Context, Poll};
 use std::alloc::{AllocError, Global};
 use std::marker::PhantomData;
 use std::sync::Wait;
-use tower_base::latch::held::Viewed;
-use tower_base::latch::{Guarded, Latch};
 use tower_base::passes::TURNS;
 use tower_base::service::{Executor, Service};
+use tower_latch::held::Viewed;
+use tower_latch::{Guarded, Latch};
 
 /// Hands its service, while that isn't ready, to a task of its own, which drives it to readiness and gives
 /// it back: the Rust's `tower::spawn_ready::SpawnReady`.
@@ -186,7 +186,8 @@ where
         ensures armed { IfSome result (λ answer. OnPending answer (IsArmed cx.new)) }
         ensures kept { Keeps cx.old cx.new }
     {
-        match self.latch.wait(SlotStep::Look, cx) {
+        let (reply, _) = self.latch.wait(SlotStep::Look, cx);
+        match reply {
             SlotReply::Waiting => Some(Poll::Pending),
             SlotReply::Unknown => Some(cx.yield_now()),
             SlotReply::Service(viewed) => {

@@ -4,7 +4,7 @@ ghost use Rattle.tower.specs.Slot.{SlotSteps, is_waiting, slot_step};
 
 use std::marker::Model;
 use std::mem;
-use tower_base::latch::Core;
+use tower_latch::Core;
 
 /// What may be asked of a slot.
 #[derive(Clone, Copy, Debug, Drop, PartialEq, Eq)]
@@ -89,11 +89,17 @@ impl<S: Drop, E: Drop> Core for SlotCore<S, E> {
 
     type Reply = SlotReply<S, E>;
 
+    ghost use Rattle.tower_latch.specs.LatchLemmas.{none_held, no_places};
+
     ghost opens = { λ slot. slot ≡ SlotCase.Idle };
 
     ghost steps = { SlotSteps };
 
     ghost is_wait = { is_waiting };
+
+    ghost starts = { none_held _ };
+
+    ghost counts = { no_places _ };
 
     fn step(&mut self, step: SlotStep<S, E>) -> SlotReply<S, E> {
         let old = mem::replace(&mut self.slot, Slot::Idle);
@@ -104,6 +110,10 @@ impl<S: Drop, E: Drop> Core for SlotCore<S, E> {
 
     fn waits(reply: &SlotReply<S, E>) -> bool {
         matches!(reply, SlotReply::Waiting | SlotReply::Truth(false))
+    }
+
+    fn capacity(&self) -> usize {
+        0
     }
 }
 

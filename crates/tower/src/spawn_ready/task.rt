@@ -10,9 +10,9 @@ use crate::spawn_ready::slot_core::{SlotCore, SlotReply, SlotStep};
 use futures::future::Future;
 use futures::task::{Context, Poll};
 use std::marker::PhantomData;
-use tower_base::latch::Latch;
-use tower_base::latch::held::Viewed;
 use tower_base::service::{Service, Steps};
+use tower_latch::Latch;
+use tower_latch::held::Viewed;
 
 /// Drives a service to readiness, and puts it into its slot: what the Rust spawns a `ReadyOneshot` for.
 ///
@@ -69,7 +69,8 @@ where
         ensures armed { result ≡ false → IsArmed cx.new }
         ensures kept { Keeps cx.old cx.new }
     {
-        match latch.wait(SlotStep::Aborted, cx) {
+        let (reply, _) = latch.wait(SlotStep::Aborted, cx);
+        match reply {
             SlotReply::Truth(true) => true,
             SlotReply::Truth(false) => false,
             _ => {

@@ -12,8 +12,8 @@ use std::alloc::{AllocError, Global};
 use std::marker::Model;
 use std::sync::Wait;
 pub use steps::{HistoReply, HistoStep};
-use tower_base::latch::{Guarded, Latch};
 use tower_base::service::{Clock, Fraction};
+use tower_latch::{Guarded, Latch};
 
 /// How long responses took in the period before this one: the Rust's
 /// `tower::hedge::rotating_histogram::RotatingHistogram`. Its clones share one core.

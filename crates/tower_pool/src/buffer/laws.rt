@@ -1,5 +1,5 @@
 //! What holds of all mail.
-ghost use Rattle.tower_base.specs.Latch.{IsRun};
+ghost use Rattle.tower_latch.specs.Latch.{IsRun};
 ghost use Rattle.tower_pool.specs.Mail.{MailSteps};
 ghost use Rattle.tower_pool.specs.Mailbox.{StandsFor};
 ghost use Rattle.tower_pool.specs.MailHistory.{TakenAsSent};

@@ -2,16 +2,15 @@
 ghost use Rattle.std.specs.Prelude.{◌≡◌, ◌<◌};
 ghost use Rattle.tower_pool.specs.Making.{BufferLayerView, ClonesLayer, Tries, Wraps, idle};
 
-use crate::buffer::mail_core::MailCore;
+use crate::buffer::mail_core::{Mail, MailCore};
 use crate::buffer::service::Buffer;
 use crate::buffer::worker::Worker;
 use std::alloc::{AllocError, Global};
 use std::marker::{Model, PhantomData};
 use std::sync::Wait;
-use tower_base::latch::held::Pollable;
-use tower_base::latch::{Core, Guarded, Latch};
 use tower_base::layer::Layer;
 use tower_base::service::{Executor, Service, Steps};
+use tower_latch::{Core, Guarded, Latch};
 
 /// Gives each service a `Buffer` of its own, and its worker to the executor: the Rust's
 /// `tower::buffer::BufferLayer`.
@@ -75,10 +74,10 @@ where
     Request: Drop,
     F: Steps + Drop,
     E: Clone,
-    L: Latch<MailCore<Request, Pollable<F>, E>>,
+    L: Latch<Mail<Request, F, E>>,
     S: Service<Request, Error = E, Future = F>,
     X: Executor<Worker<S, Request, F, E, L>>,
-    R: Guard<MailCore<Request, Pollable<F>, E>, Latch = L>,
+    R: Guard<Mail<Request, F, E>, Latch = L>,
 {
     type Service = Buffer<Request, F, E, L>;
 

@@ -1,11 +1,14 @@
 //! The core of a `Buffer` and its worker.
-ghost use Rattle.std.specs.Prelude.{◌≡◌, ◌<◌};
+ghost use Rattle.std.specs.Prelude.{◌≡◌, ◌<◌, true};
+ghost use Rattle.futures.specs.Task.{IsArmed, Keeps};
 
 use crate::buffer::mail::{MailReply, MailStep};
 use crate::buffer::mailbox::Mailbox;
+use futures::task::Context;
 use std::alloc::Global;
 use std::marker::Model;
-use tower_base::latch::Core;
+use tower_latch::held::Pollable;
+use tower_latch::{Core, Latch};
 
 /// Messages on their way to a worker, the places for them, and those who wait for places.
 ///
@@ -13,6 +16,21 @@ use tower_base::latch::Core;
 /// error may find no memory.
 pub struct MailCore<Request, F, E: Clone> {
     mail: Mailbox<Request, F, E>,
+}
+
+/// Messages whose futures may be polled.
+pub type Mail<Request, F, E> = MailCore<Request, Pollable<F>, E>;
+
+// A step that may wait, of a core without places.
+#[inline(always)]
+pub fn waited<C: Core, L: Latch<C>>(latch: &L, step: C::Step, cx: &mut Context<'_>) -> C::Reply
+    requires admitted { C.admits step }
+    requires unpaid { (reply : C.Reply) → C.paid step reply ≡ 0 }
+    ensures gave { L.gave latch.now step result }
+    ensures armed { C.is_wait result ≡ true → IsArmed cx.new }
+    ensures kept { Keeps cx.old cx.new }
+{
+    latch.wait(step, cx).0
 }
 
 impl<Request, F, E: Clone> Model for MailCore<Request, F, E> {
@@ -55,16 +73,21 @@ impl<Request: Drop, F: Drop, E: Clone> Core for MailCore<Request, F, E> {
 
     type Reply = MailReply<Request, F, E>;
 
-    ghost use Rattle.tower_base.specs.Latch.{StepsAs};
+    ghost use Rattle.tower_latch.specs.Latch.{StepsAs};
     ghost use Rattle.tower_pool.specs.Mail.{MailSteps, is_waiting};
     ghost use Rattle.std.specs.Prelude.{false};
     ghost use Rattle.tower_pool.specs.Mailbox.{Few, HasRoom, Opens, StandsFor};
+    ghost use Rattle.tower_latch.specs.LatchLemmas.{none_held, no_places};
 
     ghost opens = { Opens };
 
     ghost steps = { StepsAs StandsFor MailSteps };
 
     ghost is_wait = { is_waiting };
+
+    ghost starts = { none_held _ };
+
+    ghost counts = { no_places _ };
 
     /// Open mail answers `Memory` to `Reserve` only where room was missing. `Take` reaches at most six entries,
     /// of the messages and of those who wait, for each message that leaves the queue, and any other step
@@ -97,5 +120,9 @@ impl<Request: Drop, F: Drop, E: Clone> Core for MailCore<Request, F, E> {
 
     fn waits(reply: &MailReply<Request, F, E>) -> bool {
         matches!(reply, MailReply::Waiting(_) | MailReply::Empty)
+    }
+
+    fn capacity(&self) -> usize {
+        0
     }
 }

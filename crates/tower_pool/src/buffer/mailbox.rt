@@ -2,7 +2,7 @@
 ghost use Rattle.std.specs.Prelude.{◌≡◌, ◌<◌, ◌≤◌, ◌+◌, ◌^◌, Some, None, true, false};
 ghost use Rattle.slab.specs.Slab.{get};
 ghost use Rattle.tower_base.specs.Order.{first_or};
-ghost use Rattle.tower_limit.specs.WaitQueue.{granted, room, size, waiting};
+ghost use Rattle.tower_latch.specs.WaitQueue.{granted, room, size, waiting};
 ghost use Rattle.tower_pool.specs.MessageSteps.{capacity, len, queued};
 ghost use Rattle.tower_pool.specs.declared.buffer.message.Fate.{Fate};
 ghost use Rattle.tower_pool.specs.declared.buffer.message.Message.{Message};
@@ -10,7 +10,7 @@ ghost use Rattle.tower_pool.specs.declared.buffer.message.Message.{Message};
 use crate::buffer::mail::{MailReply, MailStep};
 use crate::buffer::messages::Messages;
 use std::alloc::{AllocError, Global};
-use tower_limit::wait_queue::{Turn, WaitQueue};
+use tower_latch::wait_queue::{Turn, WaitQueue};
 
 /// The reserved places, the queue of those who wait for places, and the messages that have their ids, which
 /// are their keys.

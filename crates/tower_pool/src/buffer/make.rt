@@ -3,16 +3,15 @@ ghost use Rattle.std.specs.Prelude.{◌≡◌, ◌<◌, ◌↔◌, IfOk, IsTrue}
 ghost use Rattle.tower_pool.specs.Making.{Begins, HandsOver, Paired, PairedOver, idle};
 
 use crate::buffer::error::Error;
-use crate::buffer::mail_core::MailCore;
+use crate::buffer::mail_core::{Mail, MailCore};
 use crate::buffer::service::Buffer;
 use crate::buffer::worker::Worker;
 use std::alloc::{AllocError, Global};
 use std::sync::Wait;
-use tower_base::latch::held::Pollable;
-use tower_base::latch::{Guarded, Latch};
 use tower_base::service::{Executor, Service, Steps};
+use tower_latch::{Guarded, Latch};
 
-impl<Request: Drop, F: Steps + Drop, E: Clone, L: Latch<MailCore<Request, Pollable<F>, E>>> Buffer<
+impl<Request: Drop, F: Steps + Drop, E: Clone, L: Latch<Mail<Request, F, E>>> Buffer<
     Request,
     F,
     E,
@@ -58,7 +57,7 @@ impl<Request: Drop, F: Steps + Drop, E: Clone, R: Wait + Copy> Buffer<
     Request,
     F,
     E,
-    Guarded<MailCore<Request, Pollable<F>, E>, R>,
+    Guarded<Mail<Request, F, E>, R>,
 > {
     /// A `Buffer` of so many places and its worker, which the caller drives: the Rust's
     /// `tower::buffer::Buffer::pair`. It asks for what `fits` tests, and for errors whose clones equal what
@@ -71,7 +70,7 @@ impl<Request: Drop, F: Steps + Drop, E: Clone, R: Wait + Copy> Buffer<
     ) -> Result<
         (
             Self,
-            Worker<S, Request, F, E, Guarded<MailCore<Request, Pollable<F>, E>, R>>,
+            Worker<S, Request, F, E, Guarded<Mail<Request, F, E>, R>>,
         ),
         AllocError,
     >
@@ -79,7 +78,7 @@ impl<Request: Drop, F: Steps + Drop, E: Clone, R: Wait + Copy> Buffer<
         S: Service<Request, Error = E, Future = F>,
         requires positive { 0 < bound }
         requires same { (x y : E) → E.is_clone x y → y ≡ x }
-        ensures { IfOk result (λ made. Paired ⟦<Guarded<MailCore<Request, Pollable<F>, E>, R> as Latch<MailCore<Request, Pollable<F>, E>>>⟧.shares service made.0 made.1) }
+        ensures { IfOk result (λ made. Paired ⟦<Guarded<Mail<Request, F, E>, R> as Latch<Mail<Request, F, E>>>⟧.shares service made.0 made.1) }
     {
         let latch = Guarded::new(rt, alloc, MailCore::new(alloc, bound))?;
         Buffer::with_latch(latch, service)
@@ -97,11 +96,11 @@ impl<Request: Drop, F: Steps + Drop, E: Clone, R: Wait + Copy> Buffer<
     ) -> Result<Self, Error<E>>
     where
         S: Service<Request, Error = E, Future = F>,
-        X: Executor<Worker<S, Request, F, E, Guarded<MailCore<Request, Pollable<F>, E>, R>>>,
+        X: Executor<Worker<S, Request, F, E, Guarded<Mail<Request, F, E>, R>>>,
         requires positive { 0 < bound }
         requires same { (x y : E) → E.is_clone x y → y ≡ x }
         requires can_spawn { (latch : _) → X.can_spawn executor.now (idle latch service) }
-        ensures { Begins ⟦<Guarded<MailCore<Request, Pollable<F>, E>, R> as Latch<MailCore<Request, Pollable<F>, E>>>⟧.shares X.spawned executor.now service result }
+        ensures { Begins ⟦<Guarded<Mail<Request, F, E>, R> as Latch<Mail<Request, F, E>>>⟧.shares X.spawned executor.now service result }
     {
         let Ok(latch) = Guarded::new(rt, alloc, MailCore::new(alloc, bound)) else {
             return Err(Error::Memory);

@@ -4,7 +4,7 @@ ghost use Rattle.slab.specs.Slab.{get, slab_len, ContainsKey, Updates};
 ghost use Rattle.tower_base.specs.Order.{has, without, first_or};
 ghost use Rattle.tower_pool.specs.Messages.{Ended, FailsTaken, Fits, fate_at, is_cancelled, is_queued, lost, taken_at};
 ghost use Rattle.tower_pool.specs.Mail.{Tells};
-ghost use Rattle.tower_limit.specs.Waiters.{are_apart};
+ghost use Rattle.tower_latch.specs.Waiters.{are_apart};
 ghost use Rattle.tower_pool.specs.declared.buffer.message.Message.{Message};
 
 use crate::buffer::mail::{MailReply, MailStep};

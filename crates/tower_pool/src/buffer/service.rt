@@ -7,14 +7,13 @@ ghost use Rattle.tower_pool.specs.declared.buffer.seat.Seat.TheVariants.{Away, R
 use crate::buffer::error::{Error, ServiceError};
 use crate::buffer::future::ResponseFuture;
 use crate::buffer::mail::{MailReply, MailStep};
-use crate::buffer::mail_core::MailCore;
+use crate::buffer::mail_core::{Mail, waited};
 use crate::buffer::seat::{ResponseState, Seat};
 use futures::task::{Context, Poll};
 use std::alloc::AllocError;
 use std::marker::{Model, PhantomData};
-use tower_base::latch::Latch;
-use tower_base::latch::held::Pollable;
 use tower_base::service::{Service, Steps};
+use tower_latch::Latch;
 
 /// Sends its requests to a worker, through a bounded queue that its clones share: the Rust's
 /// `tower::buffer::Buffer`.
@@ -22,19 +21,14 @@ use tower_base::service::{Service, Steps};
 /// A poll of readiness reserves a place, after it has made the share of the mail that the response takes
 /// along; with a place it is `Ok` without a step. A call uses the place, and takes no memory while the
 /// worker is there. One that goes away gives up its place or its wait.
-pub struct Buffer<
-    Request: Drop,
-    F: Steps + Drop,
-    E: Clone,
-    L: Latch<MailCore<Request, Pollable<F>, E>>,
-> {
+pub struct Buffer<Request: Drop, F: Steps + Drop, E: Clone, L: Latch<Mail<Request, F, E>>> {
     latch: L,
     seat: Seat,
     share: Option<L>,
     of: PhantomData<(Request, F, E)>,
 }
 
-impl<Request: Drop, F: Steps + Drop, E: Clone, L: Latch<MailCore<Request, Pollable<F>, E>>> Model
+impl<Request: Drop, F: Steps + Drop, E: Clone, L: Latch<Mail<Request, F, E>>> Model
     for Buffer<Request, F, E, L> {
     ghost Value = { BufferView L };
 
@@ -45,7 +39,7 @@ impl<Request: Drop, F: Steps + Drop, E: Clone, L: Latch<MailCore<Request, Pollab
 }
 
 /// It gives up its place or its wait, and is one less.
-impl<Request: Drop, F: Steps + Drop, E: Clone, L: Latch<MailCore<Request, Pollable<F>, E>>> Drop
+impl<Request: Drop, F: Steps + Drop, E: Clone, L: Latch<Mail<Request, F, E>>> Drop
     for Buffer<Request, F, E, L> {
     fn drop(self)
         ensures gives_up { GivesUp L.gave self.latch self.seat }
@@ -76,7 +70,7 @@ where
     T: Drop,
     E: Clone,
     F: Steps<Output = Result<T, E>> + Drop,
-    L: Latch<MailCore<Request, Pollable<F>, E>>,
+    L: Latch<Mail<Request, F, E>>,
 {
     type Response = T;
 
@@ -106,7 +100,7 @@ where
             Seat::Asking(key) => MailStep::Look(key),
             _ => MailStep::Reserve,
         };
-        match self.latch.wait(step, cx) {
+        match waited(&self.latch, step, cx) {
             MailReply::Place => {
                 self.seat = Seat::Reserved;
                 Poll::Ready(Ok(()))
@@ -151,7 +145,7 @@ where
 
 /// A clone shares the mail. It has no place, and waits for none. It is refused if the latch refuses its
 /// share, or if the mail can't count another `Buffer`.
-impl<Request: Drop, F: Steps + Drop, E: Clone, L: Latch<MailCore<Request, Pollable<F>, E>>> Clone
+impl<Request: Drop, F: Steps + Drop, E: Clone, L: Latch<Mail<Request, F, E>>> Clone
     for Buffer<Request, F, E, L> {
     ghost is_clone = { IsClone L.gave L.shares };
 
@@ -168,7 +162,7 @@ impl<Request: Drop, F: Steps + Drop, E: Clone, L: Latch<MailCore<Request, Pollab
     }
 }
 
-impl<Request: Drop, F: Steps + Drop, E: Clone, L: Latch<MailCore<Request, Pollable<F>, E>>> Buffer<
+impl<Request: Drop, F: Steps + Drop, E: Clone, L: Latch<Mail<Request, F, E>>> Buffer<
     Request,
     F,
     E,

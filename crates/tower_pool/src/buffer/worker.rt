@@ -8,17 +8,14 @@ ghost use Rattle.tower_pool.specs.WorkerOrder.{Orderly};
 ghost use Rattle.tower_pool.specs.Worker.{HandsOn, Pass, Serves, Stepped, WorkerView};
 
 use crate::buffer::mail::{MailReply, MailStep};
-use crate::buffer::mail_core::MailCore;
+use crate::buffer::mail_core::{Mail, waited};
 use futures::future::Future;
 use futures::task::{Context, Poll};
 use std::marker::{Model, PhantomData};
-use tower_base::latch::Latch;
-use tower_base::latch::held::Pollable;
 use tower_base::passes::TURNS;
 use tower_base::service::{Service, Steps};
-
-/// The core behind the latch of a worker.
-type Mail<Request, F, E> = MailCore<Request, Pollable<F>, E>;
+use tower_latch::Latch;
+use tower_latch::held::Pollable;
 
 /// Takes one message after another, waits until the service is ready, and calls it: the Rust's
 /// `tower::buffer::Worker`. It is handed to an executor, and ends once no message will come any more.
@@ -112,7 +109,7 @@ where
         ensures armed { result ≡ Some Pending → IsArmed cx.new }
         ensures kept { Keeps cx.old cx.new }
     {
-        match self.latch.wait(MailStep::Take, cx) {
+        match waited(&self.latch, MailStep::Take, cx) {
             MailReply::Message(id, request) => {
                 if self.has_failed {
                     self.latch.step(MailStep::FailStored(id));

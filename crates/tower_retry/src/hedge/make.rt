@@ -12,8 +12,8 @@ use crate::hedge::rotating_histogram::{HistoCore, RotatingHistogram};
 use crate::hedge::select::Select;
 use std::alloc::{AllocError, Global};
 use std::sync::Wait;
-use tower_base::latch::{Guarded, Latch};
 use tower_base::service::{Clock, Fraction};
+use tower_latch::{Guarded, Latch};
 use tower_ware::filter::AsyncFilter;
 
 impl<S, P, R, C> Hedge<S, P, Guarded<HistoCore, R>, C>

@@ -6,8 +6,8 @@ use crate::hedge::policy::Policy;
 use crate::hedge::rotating_histogram::{HistoCore, RotatingHistogram};
 use crate::hedge::{delay, select};
 use std::marker::Model;
-use tower_base::latch::Latch;
 use tower_base::service::{Clock, Fraction};
+use tower_latch::Latch;
 
 /// The delay of a second request is a quantile of the latencies: the Rust's `tower::hedge::DelayPolicy`.
 #[derive(Drop)]

@@ -3,9 +3,9 @@ ghost use Rattle.std.specs.Prelude.{◌≡◌};
 
 use futures::task::{Context, Poll};
 use std::marker::{Model, PhantomData};
-use tower_base::latch::held::{Fact, IsSound, open};
 use tower_base::run::Contains;
 use tower_base::service::Service;
+use tower_latch::held::{Fact, IsSound, open};
 
 // What is lent is sound.
 struct IsSoundBehind<Request> {

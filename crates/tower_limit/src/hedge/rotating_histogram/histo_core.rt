@@ -5,8 +5,8 @@ use crate::hedge::rotating_histogram::steps::{HistoReply, HistoStep};
 use crate::hedge::rotating_histogram::tally::Tally;
 use std::alloc::Global;
 use std::mem;
-use tower_base::latch::Core;
 use tower_base::service::Fraction;
+use tower_latch::Core;
 
 /// The latencies that are read in the present period, and those that are read in the next one.
 #[derive(Drop)]
@@ -21,7 +21,7 @@ pub struct HistoCore {
 
 impl HistoCore {
     ghost use Rattle.std.specs.Prelude.{◌≡◌, ◌<◌, IsTrue, ◌↔◌};
-    ghost use Rattle.tower_base.specs.Latch.{FollowsMachine};
+    ghost use Rattle.tower_latch.specs.Latch.{FollowsMachine};
     ghost use Rattle.tower_limit.specs.Histogram.{Steps, blank, rotated};
     ghost use Rattle.tower_limit.specs.declared.hedge.rotating_histogram.steps.HistoStep.TheVariants.{Record, Seed, Points, Quantile};
     ghost use Rattle.tower_limit.specs.declared.hedge.rotating_histogram.steps.HistoReply.TheVariants.{Count, Millis};
@@ -113,15 +113,20 @@ impl Core for HistoCore {
     type Reply = HistoReply;
 
     ghost use Rattle.std.specs.Prelude.{false};
-    ghost use Rattle.tower_base.specs.Latch.{StepsAs};
+    ghost use Rattle.tower_latch.specs.Latch.{StepsAs};
     ghost use Rattle.tower_limit.specs.Histogram.{Steps};
     ghost use Rattle.tower_limit.specs.HistoCore.{Opens, StandsFor};
+    ghost use Rattle.tower_latch.specs.LatchLemmas.{none_held, no_places};
 
     ghost opens = { Opens };
 
     ghost steps = { StepsAs StandsFor Steps };
 
     ghost is_wait = { λ _. false };
+
+    ghost starts = { none_held _ };
+
+    ghost counts = { no_places _ };
 
     #[inline(always)]
     fn step(&mut self, step: HistoStep) -> HistoReply {
@@ -135,5 +140,9 @@ impl Core for HistoCore {
 
     fn waits(_reply: &HistoReply) -> bool {
         false
+    }
+
+    fn capacity(&self) -> usize {
+        0
     }
 }

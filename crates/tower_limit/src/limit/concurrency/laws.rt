@@ -1,5 +1,5 @@
 //! What holds of every line of permits.
-ghost use Rattle.tower_base.specs.Latch.{IsRun};
+ghost use Rattle.tower_latch.specs.Latch.{IsRun};
 ghost use Rattle.tower_limit.specs.Line.{LineSteps};
 ghost use Rattle.tower_limit.specs.LineCore.{StandsFor};
 ghost use Rattle.tower_limit.specs.LineHistory.{BoundedHistory};

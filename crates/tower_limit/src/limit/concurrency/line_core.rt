@@ -1,10 +1,10 @@
 //! Who holds a permit, and who waits for one.
 ghost use Rattle.std.specs.Prelude.{◌≡◌, ◌<◌, ◌≤◌, ◌+◌, ◌^◌};
-ghost use Rattle.tower_limit.specs.WaitQueue.{granted, waiting};
+ghost use Rattle.tower_latch.specs.WaitQueue.{granted, waiting};
 
-use crate::wait_queue::{Turn, WaitQueue};
 use std::alloc::{AllocError, Global};
-use tower_base::latch::Core;
+use tower_latch::Core;
+use tower_latch::wait_queue::{Turn, WaitQueue};
 
 /// What may be asked of the line of permits.
 #[derive(Clone, Copy, Debug, PartialEq, Eq)]
@@ -127,11 +127,26 @@ impl Core for LineCore {
 
     type Reply = LineReply;
 
-    ghost use Rattle.tower_base.specs.Latch.{StepsAs};
+    ghost use Rattle.tower_latch.specs.Latch.{StepsAs};
     ghost use Rattle.tower_limit.specs.Line.{LineSteps, is_waiting};
     ghost use Rattle.tower_limit.specs.LineCore.{Opens, StandsFor, touches};
+    ghost use Rattle.tower_limit.specs.LineTokens.{paid, gained};
+    ghost use Rattle.tower_limit.specs.LineTokensLemmas.{starts, counts};
 
     ghost opens = { Opens };
+
+    // A token shows that its holder holds a permit.
+    ghost size = { λ core. core.max };
+
+    ghost out = { λ core. core.held };
+
+    ghost paid = { paid };
+
+    ghost gained = { gained };
+
+    ghost starts = { starts };
+
+    ghost counts = { counts };
 
     ghost steps = { StepsAs StandsFor LineSteps };
 
@@ -154,5 +169,9 @@ impl Core for LineCore {
 
     fn waits(reply: &LineReply) -> bool {
         matches!(reply, LineReply::Waiting(_))
+    }
+
+    fn capacity(&self) -> usize {
+        self.max
     }
 }

@@ -1,6 +1,7 @@
 //! Permits, and those who ask for them.
-ghost use Rattle.std.specs.Prelude.{◌≡◌, IfOk, IfErr, IfSome, None, Err};
-ghost use Rattle.tower_limit.specs.Concurrency.{SemaphoreView, PermitView, PollSemaphoreView, SharesPermits, Acquired};
+ghost use Rattle.std.specs.Prelude.{◌≡◌, ◌<◌, ◌≤◌, All, IfOk, IfErr, IfSome, None, Err, vec_len};
+ghost use Rattle.tower_limit.specs.Concurrency.{SemaphoreView, PermitView, PollSemaphoreView, SharesPermits, IsOf, Acquired};
+ghost use Rattle.tower_latch.specs.CoreTable.{places};
 ghost use Rattle.futures.specs.Task.{IsArmed, Keeps};
 ghost use Rattle.futures.specs.Poll.{OnPending};
 
@@ -9,7 +10,8 @@ use futures::task::{Context, Poll};
 use std::alloc::{AllocError, Global};
 use std::marker::Model;
 use std::sync::Wait;
-use tower_base::latch::{Guarded, Latch};
+use tower_latch::held::{Fact, open};
+use tower_latch::{Guarded, Latch, Token};
 
 /// A share of a line of permits: what the Rust has `tokio::sync::Semaphore` for.
 #[derive(Drop)]
@@ -28,7 +30,8 @@ impl<R: Wait + Copy> Semaphore<Guarded<LineCore, R>> {
     /// So many permits, all free, behind a lock. Any number will do, 0 too. It is refused where there is
     /// no memory for the line.
     pub fn new(rt: R, alloc: Global, max: usize) -> Result<Self, AllocError>
-        ensures { IfOk result (λ made. made.max ≡ max) }
+        ensures max { IfOk result (λ made. made.max ≡ max) }
+        ensures size { IfOk result (λ made. ⟦<Guarded<LineCore, R> as Latch<LineCore>>⟧.size made.latch ≡ max) }
     {
         let core = LineCore::new(alloc, max);
         let latch = Guarded::new(rt, alloc, core)?;
@@ -61,6 +64,25 @@ impl<L: Latch<LineCore>> Semaphore<L> {
         }
     }
 
+    /// Gives back permits of this semaphore, of its shares, and of the limits over these. It returns how many they were, which is never more than
+    /// `max`, whoever has gathered them.
+    pub fn release_all(&self, mut permits: Vec<Permit<L>>) -> usize
+        requires { All (IsOf L.Latch self.now) permits.items }
+        ensures count { result ≡ vec_len permits }
+        ensures bound { result ≤ L.size self.now.latch }
+        ensures released { 0 < result → (reply : _) × L.gave self.now.latch LineStep.Release reply }
+    {
+        let count = permits.len();
+        let mut token = self.latch.empty();
+        while let Some(permit) = permits.pop() {
+            token = self.latch.merge(token, permit.into_token());
+        }
+        for _ in 0..count {
+            (_, token) = self.latch.give(LineStep::Release, token);
+        }
+        count
+    }
+
     /// Another share of the same permits. It is refused where the latch refuses its share.
     pub fn share(&self) -> Result<Semaphore<L>, AllocError>
         ensures shares { IfOk result (λ other. SharesPermits L.Latch self.now other) }
@@ -76,13 +98,40 @@ impl<L: Latch<LineCore>> Semaphore<L> {
 
 /// A permit, which is held until it is dropped.
 pub struct Permit<L: Latch<LineCore>> {
+    place: Placed<L>,
+    ghost its: { ∥ L.its place.latch place.token ∥₁ },
+    ghost one: { places place.token ≡ 1 },
+}
+
+// A share of the latch, and a token of it.
+struct Placed<L: Latch<LineCore>> {
     latch: L,
+    token: Token,
+}
+
+// The token is one of the latch's core.
+struct IsIts;
+
+impl<L: Latch<LineCore>> Fact<Placed<L>> for IsIts {
+    ghost holds = { λ place. L.its place.latch place.token };
 }
 
 impl<L: Latch<LineCore>> Model for Permit<L> {
     ghost Value = { PermitView L };
 
-    ghost view = { λ p. record { latch = p.latch } };
+    ghost view = { λ p. record { latch = p.place.latch } };
+}
+
+impl<L: Latch<LineCore>> Permit<L> {
+    // What shows that it is held.
+    fn into_token(self) -> Token
+        ensures its { L.its self.latch result }
+        ensures one { places result ≡ 1 }
+    {
+        let Permit { place } = self;
+        let Placed { latch: _, token } = open::<Placed<L>, IsIts>(place);
+        token
+    }
 }
 
 /// The permit goes back by one step at its latch.
@@ -91,8 +140,9 @@ impl<L: Latch<LineCore>> Drop for Permit<L> {
     fn drop(self)
         ensures { (reply : _) × L.gave self.latch LineStep.Release reply }
     {
-        self.latch.step(LineStep::Release);
-        let Permit { latch: _ } = self;
+        let Permit { place } = self;
+        let Placed { latch, token } = open::<Placed<L>, IsIts>(place);
+        latch.give(LineStep::Release, token);
     }
 }
 
@@ -144,10 +194,12 @@ impl<L: Latch<LineCore>> PollSemaphore<L> {
             None => LineStep::Join,
             Some(key) => LineStep::Look(key),
         };
-        match self.semaphore.latch.wait(step, cx) {
+        let (reply, token) = self.semaphore.latch.wait(step, cx);
+        match reply {
             LineReply::Granted => {
                 self.key = None;
-                Poll::Ready(Ok(Permit { latch }))
+                let place = Placed { latch, token };
+                Poll::Ready(Ok(Permit { place }))
             }
             LineReply::Waiting(key) => {
                 self.key = Some(key);

@@ -16,9 +16,9 @@ use futures::task::{Context, Poll};
 use std::alloc::{AllocError, Global};
 use std::marker::Model;
 use std::sync::Wait;
-use tower_base::latch::{Guarded, Latch};
 use tower_base::run::Contains;
 use tower_base::service::Service;
+use tower_latch::{Guarded, Latch};
 
 /// Makes a call only with a permit of its semaphore.
 ///
@@ -41,7 +41,7 @@ impl<S, L: Latch<LineCore>> Model for ConcurrencyLimit<S, L> {
 impl<S: Drop, R: Wait + Copy> ConcurrencyLimit<S, Guarded<LineCore, R>> {
     /// At most `max` calls in flight. For want of memory the service is dropped.
     pub fn new(rt: R, alloc: Global, inner: S, max: usize) -> Result<Self, AllocError>
-        ensures { IfOk result (λ made. New inner max made) }
+        ensures { IfOk result (λ made. New ⟦<Guarded<LineCore, R> as Latch<LineCore>>⟧.size inner max made) }
     {
         let semaphore = Semaphore::new(rt, alloc, max)?;
         Ok(ConcurrencyLimit::with_semaphore(inner, semaphore))

@@ -1,10 +1,10 @@
 //! The core of a count.
 ghost use Rattle.std.specs.Prelude.{false};
-ghost use Rattle.tower_base.specs.Latch.{FollowsMachine, StepsAs};
+ghost use Rattle.tower_latch.specs.Latch.{FollowsMachine, StepsAs};
 ghost use Rattle.tower_limit.specs.Holders.{HolderSteps};
 ghost use Rattle.tower_limit.specs.CountCore.{Opens, StandsFor};
 
-use tower_base::latch::Core;
+use tower_latch::Core;
 
 /// What may be asked of a count.
 #[derive(Clone, Copy, Debug, PartialEq, Eq)]
@@ -74,11 +74,17 @@ impl Core for CountCore {
 
     type Reply = CountReply;
 
+    ghost use Rattle.tower_latch.specs.LatchLemmas.{none_held, no_places};
+
     ghost opens = { Opens };
 
     ghost steps = { StepsAs StandsFor HolderSteps };
 
     ghost is_wait = { λ _. false };
+
+    ghost starts = { none_held _ };
+
+    ghost counts = { no_places _ };
 
     #[inline(always)]
     fn step(&mut self, step: CountStep) -> CountReply {
@@ -92,5 +98,9 @@ impl Core for CountCore {
     #[inline(always)]
     fn waits(_reply: &CountReply) -> bool {
         false
+    }
+
+    fn capacity(&self) -> usize {
+        0
     }
 }

@@ -11,7 +11,7 @@ use futures::task::{Context, Poll};
 use std::alloc::{AllocError, Global};
 use std::marker::Model;
 use std::sync::Wait;
-use tower_base::latch::{Guarded, Latch};
+use tower_latch::{Guarded, Latch};
 
 /// Counts the pending requests of each service that is discovered: the Rust's
 /// `tower::load::pending_requests::PendingRequestsDiscover`.

@@ -4,7 +4,7 @@ ghost use Rattle.tower_limit.specs.PendingRequests.{HandleView, Taken};
 
 use crate::load::pending_requests::count_core::{CountCore, CountReply, CountStep};
 use std::marker::Model;
-use tower_base::latch::Latch;
+use tower_latch::Latch;
 
 /// A holder, which counts as a pending request until it is dropped: the Rust's
 /// `tower::load::pending_requests::Handle`.

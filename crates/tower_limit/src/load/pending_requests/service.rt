@@ -15,9 +15,9 @@ use futures::task::{Context, Poll};
 use std::alloc::{AllocError, Global};
 use std::marker::Model;
 use std::sync::Wait;
-use tower_base::latch::{Guarded, Latch};
 use tower_base::run::Contains;
 use tower_base::service::Service;
+use tower_latch::{Guarded, Latch};
 
 /// A service whose load is the number of its pending requests: the Rust's
 /// `tower::load::pending_requests::PendingRequests`.

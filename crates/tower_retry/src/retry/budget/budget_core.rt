@@ -6,8 +6,8 @@ ghost use Rattle.tower_retry.specs.Slots.{kept_sum, slot};
 use crate::retry::budget::slots::Slots;
 use crate::retry::budget::steps::{BudgetReply, BudgetStep, Terms};
 use std::alloc::{AllocError, Global};
-use tower_base::latch::Core;
 use tower_base::service::Fraction;
+use tower_latch::Core;
 
 /// The amount of the present generation, and those of the ten before it.
 #[derive(Drop)]
@@ -169,15 +169,20 @@ impl Core for BudgetCore {
     type Reply = BudgetReply;
 
     ghost use Rattle.std.specs.Prelude.{false};
-    ghost use Rattle.tower_base.specs.Latch.{StepsAs};
+    ghost use Rattle.tower_latch.specs.Latch.{StepsAs};
     ghost use Rattle.tower_retry.specs.Budget.{Steps};
     ghost use Rattle.tower_retry.specs.BudgetCore.{Opens, StandsFor, writes};
+    ghost use Rattle.tower_latch.specs.LatchLemmas.{none_held, no_places};
 
     ghost opens = { Opens };
 
     ghost steps = { StepsAs StandsFor Steps };
 
     ghost is_wait = { λ _. false };
+
+    ghost starts = { none_held _ };
+
+    ghost counts = { no_places _ };
 
     // It writes eleven slots at most.
     fn step(&mut self, step: BudgetStep) -> BudgetReply
@@ -195,5 +200,9 @@ impl Core for BudgetCore {
 
     fn waits(_reply: &BudgetReply) -> bool {
         false
+    }
+
+    fn capacity(&self) -> usize {
+        0
     }
 }

@@ -1,5 +1,5 @@
 //! What holds of every budget.
-ghost use Rattle.tower_base.specs.Latch.{IsRun};
+ghost use Rattle.tower_latch.specs.Latch.{IsRun};
 ghost use Rattle.tower_retry.specs.Budget.{Steps};
 ghost use Rattle.tower_retry.specs.BudgetCore.{StandsFor, SumsKept};
 ghost use Rattle.tower_retry.specs.BudgetHistory.{AnsweredBySums};

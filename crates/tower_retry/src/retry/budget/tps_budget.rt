@@ -7,8 +7,8 @@ use crate::retry::budget::{Budget, BudgetCore, BudgetReply, BudgetStep};
 use std::alloc::{AllocError, Global};
 use std::marker::Model;
 use std::sync::Wait;
-use tower_base::latch::{Guarded, Latch};
 use tower_base::service::{Clock, Fraction};
+use tower_latch::{Guarded, Latch};
 
 /// Some retries a second, and some part of the requests beside: the Rust's
 /// `tower::retry::budget::TpsBudget`. Its clones share one core.

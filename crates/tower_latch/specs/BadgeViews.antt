@@ -1,0 +1,21 @@
+-- What the badge of a seat shows.
+use Rattle.std.specs.Prelude.{ℕ, List, [], ◌∷◌, Bool, true, false}
+use Rattle.tower_latch.specs.declared.guarded.table.View.{View}
+
+abbrev pub is_without : Bool → Bool
+is_without true = false
+is_without false = true
+
+-- a seat that hasn't the core
+abbrev pub is_away : List View → Bool
+is_away (v ∷ []) = is_without v.has
+is_away _ = false
+
+-- how many places it has, and how many there are
+abbrev pub out_by : List View → ℕ
+out_by (v ∷ []) = v.out
+out_by _ = 0
+
+abbrev pub size_by : List View → ℕ
+size_by (v ∷ []) = v.size
+size_by _ = 0

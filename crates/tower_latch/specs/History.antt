@@ -1,0 +1,50 @@
+-- What a closed log tells: its history, the steps that were made with their replies, and the receipts of its passes.
+use Rattle.std.specs.Prelude.{◌≡◌, ℕ, ◌<◌, ◌+◌, List, [], ◌∷◌, Option, Some, slice_get}
+use Rattle.std.specs.List.{AllByRecursion, sum_by}
+use Rattle.tower_latch.specs.Latch.{Serves}
+
+module _ {C S R : Type 0} (opens : C → Type 0) (steps : C → S → R → C → Type 0) where
+  -- the log opened with a value from which a run may begin, and the history is a run from there to this value
+  abbrev pub LeadsTo : Option C → List (S × R) → C → Type 0
+  LeadsTo opening history core = (first : C) × (opening ≡ Some first) × opens first × Serves steps first history core
+
+  -- the history is one run of the core
+  abbrev pub IsLegal : Option C → List (S × R) → Type 0
+  IsLegal opening history = (last : C) × LeadsTo opening history last
+
+-- A receipt is a place, the step that was made there, and its reply.
+module _ {S R : Type 0} where
+  -- each receipt's step and reply stand in the history at its place
+  abbrev pub Stand : List (S × R) → List (ℕ × S × R) → Type 0
+  Stand history receipts = (k : ℕ) (receipt : ℕ × S × R) → slice_get receipts k ≡ Some receipt → slice_get history receipt.0 ≡ Some (receipt.1, receipt.2)
+
+  -- later receipts of a pass have higher places
+  abbrev pub Rises : List (ℕ × S × R) → Type 0
+  Rises receipts = (i j : ℕ) (a b : ℕ × S × R) → i < j → slice_get receipts i ≡ Some a → slice_get receipts j ≡ Some b → a.0 < b.0
+
+  -- the receipts of one pass
+  abbrev pub Fits : List (S × R) → List (ℕ × S × R) → Type 0
+  Fits history receipts = Stand history receipts × Rises receipts
+
+  abbrev pub EachFits : List (S × R) → List (List (ℕ × S × R)) → Type 0
+  EachFits history passes = AllByRecursion (Fits history) passes
+
+  -- the pass of this number has this receipt at that number
+  abbrev pub IsReceipt : List (List (ℕ × S × R)) → ℕ → ℕ → ℕ × S × R → Type 0
+  IsReceipt passes pass number receipt = (receipts : List (ℕ × S × R)) × (slice_get passes pass ≡ Some receipts) × (slice_get receipts number ≡ Some receipt)
+
+  -- each entry of the history has its receipt, and no other receipt has its place
+  abbrev pub HaveOneEach : List (S × R) → List (List (ℕ × S × R)) → Type 0
+  HaveOneEach history passes =
+      (place : ℕ) (entry : S × R) → slice_get history place ≡ Some entry
+      → (pass : ℕ) × (number : ℕ) × IsReceipt passes pass number (place, entry.0, entry.1)
+      × ((p n : ℕ) (receipt : ℕ × S × R) → IsReceipt passes p n receipt → receipt.0 ≡ place → (p ≡ pass) × (n ≡ number))
+
+  -- the entries as receipts, with places that count from this one
+  abbrev pub numbered : ℕ → List (S × R) → List (ℕ × S × R)
+  numbered from [] = []
+  numbered from (entry ∷ entries) = (from, entry.0, entry.1) ∷ numbered (from + 1) entries
+
+  -- however one weighs receipts, those of all passes weigh as much as the history
+  abbrev pub Weighs : List (S × R) → List (List (ℕ × S × R)) → Type 0
+  Weighs history passes = (weight : ℕ × S × R → ℕ) → sum_by (sum_by weight) passes ≡ sum_by weight (numbered 0 history)
