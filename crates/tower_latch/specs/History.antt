@@ -1,24 +1,26 @@
--- What a closed log tells: its history, the steps that were made with their replies, and the receipts of its passes.
+-- What a closed log says. A `Logged` is a core under one lock, and a history: the steps of the core with their replies, in their order. `open` makes
+-- it with some passes; a *pass* is what one thread makes steps with. `step` makes one step of the core, and the pass keeps a receipt of it: its
+-- place in the history, the step and the reply. `close` takes all passes back, and returns a history of which the statements below hold.
 use Rattle.std.specs.Prelude.{◌≡◌, ℕ, ◌<◌, ◌+◌, List, [], ◌∷◌, Option, Some, slice_get}
 use Rattle.std.specs.List.{AllByRecursion, sum_by}
 use Rattle.tower_latch.specs.Latch.{Serves}
 
 module _ {C S R : Type 0} (opens : C → Type 0) (steps : C → S → R → C → Type 0) where
-  -- the log opened with a value from which a run may begin, and the history is a run from there to this value
+  -- The log opened with a value from which a run may begin, and the history is a run from there to this value. (The type that names a log
+  -- says what it opened with: `None` for a type that names none.)
   abbrev pub LeadsTo : Option C → List (S × R) → C → Type 0
   LeadsTo opening history core = (first : C) × (opening ≡ Some first) × opens first × Serves steps first history core
 
-  -- the history is one run of the core
+  -- the history is one run of the core, from the value that the log opened with
   abbrev pub IsLegal : Option C → List (S × R) → Type 0
   IsLegal opening history = (last : C) × LeadsTo opening history last
 
--- A receipt is a place, the step that was made there, and its reply.
 module _ {S R : Type 0} where
   -- each receipt's step and reply stand in the history at its place
   abbrev pub Stand : List (S × R) → List (ℕ × S × R) → Type 0
   Stand history receipts = (k : ℕ) (receipt : ℕ × S × R) → slice_get receipts k ≡ Some receipt → slice_get history receipt.0 ≡ Some (receipt.1, receipt.2)
 
-  -- later receipts of a pass have higher places
+  -- later receipts of a pass have higher places: its steps stand in the history in their own order
   abbrev pub Rises : List (ℕ × S × R) → Type 0
   Rises receipts = (i j : ℕ) (a b : ℕ × S × R) → i < j → slice_get receipts i ≡ Some a → slice_get receipts j ≡ Some b → a.0 < b.0
 
@@ -26,6 +28,7 @@ module _ {S R : Type 0} where
   abbrev pub Fits : List (S × R) → List (ℕ × S × R) → Type 0
   Fits history receipts = Stand history receipts × Rises receipts
 
+  -- and those of each pass
   abbrev pub EachFits : List (S × R) → List (List (ℕ × S × R)) → Type 0
   EachFits history passes = AllByRecursion (Fits history) passes
 
@@ -45,6 +48,7 @@ module _ {S R : Type 0} where
   numbered from [] = []
   numbered from (entry ∷ entries) = (from, entry.0, entry.1) ∷ numbered (from + 1) entries
 
-  -- however one weighs receipts, those of all passes weigh as much as the history
+  -- For any weight of receipts, those of all passes together weigh as much as the history. A weight of 1 for steps of one kind and of 0 for others
+  -- counts them: the passes together made as many as the history has.
   abbrev pub Weighs : List (S × R) → List (List (ℕ × S × R)) → Type 0
   Weighs history passes = (weight : ℕ × S × R → ℕ) → sum_by (sum_by weight) passes ≡ sum_by weight (numbered 0 history)

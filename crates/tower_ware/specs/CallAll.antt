@@ -92,7 +92,7 @@ module _ {S Q D R A E F : Type 0} (s : ServiceOf S R A E F) (q : FlowOf Q R) (d 
   Pass old answer new = (first : Poll (Option (Result A E))) × (queue : D) × d.asked old.queue first queue
       × AfterAsk (record old { queue = queue }) first answer new
 
-  -- a poll: passes up to an answer, or as many as a poll makes at most
+  -- a poll: passes up to an answer, or 64 without one, and then it is pending
   pub record Flowed (old : CallerView S Q D R) (answer : Poll (Option (Result A (Error E)))) (new : CallerView S Q D R) : Type 0 where
     pub passes : Passes Pass Pending old answer new
 

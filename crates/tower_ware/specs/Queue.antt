@@ -13,7 +13,7 @@ module _ {X : Type 0} where
   abbrev pub HasRoom : Queue X → Type 0
   HasRoom queue = length queue.calls < queue.room
 
-  -- room was made, or was refused
+  -- room for one more was allocated, or refused: the calls are as they were
   abbrev pub Grown : Queue X → Queue X → Type 0
   Grown old new = new.calls ≡ old.calls
 
