@@ -5,6 +5,7 @@ pub mod LineHistoryLemmas
 pub mod LineMoves
 pub mod LineRuns
 pub mod Lines
+pub mod Permits
 pub mod Places
 pub mod RateBound
 pub mod RateRuns

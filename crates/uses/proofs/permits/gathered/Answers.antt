@@ -2,7 +2,7 @@ use Rattle.std.proofs.Common.{◌≡◌, All, ap, sym, subst, ◌∙◌}
 use Rattle.std.proofs.lemmas.List.Elements.{All-push}
 use Rattle.futures.specs.declared.task.Poll.TheVariants.{Ready}
 use Rattle.tower_limit.specs.Concurrency.{IsOf}
-use Rattle.uses.proofs.Permits.{of_share}
+use Rattle.tower_limit.proofs.Permits.{of_share}
 use Rattle.uses.proofs.permits.gathered.Goals as goal
 use Rattle.uses.proofs.permits.gathered.Goals.{in-Ready+in_ok-permit+in_ok-push, in_default}
 

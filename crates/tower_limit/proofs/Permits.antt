@@ -1,4 +1,4 @@
--- Whose permits are gathered.
+-- Whose permits a share acquires: what a loop that gathers permits for `release_all` cites.
 use Rattle.std.proofs.Common.{◌≡◌, ℕ, Option, Result, Ok, Err, inl, inr, subst}
 use Rattle.std.specs.declared.alloc.AllocError.{AllocError}
 use Rattle.futures.specs.declared.task.Poll.{Poll}
