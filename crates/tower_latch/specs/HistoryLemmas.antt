@@ -1,4 +1,4 @@
--- What crates above cite of legal histories.
+-- Lemmas about legal histories, for crates above.
 use Rattle.std.proofs.Common.{◌≡◌, ℕ, zero, suc, List, [], ◌∷◌, take, Option, Some, refl, sym, subst, ◌∙◌}
 use Rattle.std.specs.Prelude.{slice_get}
 use Rattle.std.proofs.lemmas.Option.{same_Some}
@@ -7,13 +7,13 @@ use Rattle.tower_latch.specs.LatchLemmas.{is_run}
 use Rattle.tower_latch.specs.History.{IsLegal}
 
 module _ {C S R : Type 0} (steps : C → S → R → C → Type 0) where
-  -- the first steps of a run are a run
+  -- The first steps of a run are a run.
   pub serves_first : (old new : C) (served : List (S × R)) (n : ℕ) → Serves steps old served new → (mid : C) × (Serves steps old (take n served) mid)
   serves_first old new served zero run = (old, refl)
   serves_first old new [] (suc n) run = (old, refl)
   serves_first old new (x ∷ rest) (suc n) run = let more = serves_first run.0 new rest n run.2 in (more.0, (run.0, run.1, more.1))
 
-  -- a step of a run is made at the value to which the steps before it lead
+  -- A step of a run is made at the value to which the steps before it lead.
   pub serves_at : (old new : C) (served : List (S × R)) (n : ℕ) (s : S) (r : R) → Serves steps old served new → slice_get served n ≡ Some (s, r)
       → (mid : C) × (next : C) × (Serves steps old (take n served) mid) × steps mid s r next
   serves_at old new [] n s r run at = absurd (cc)
@@ -23,7 +23,7 @@ module _ {C S R : Type 0} (steps : C → S → R → C → Type 0) where
       (more.0, more.1, (run.0, run.1, more.2), more.3)
 
 module _ {C M S R : Type 0} (opens : C → Type 0) (stands : C → M → Type 0) (machine : M → S → R → M → Type 0) where
-  -- where the log opened with a core that stands for this plain value, the history is a run of the machine from there
+  -- If the log opened with a core that stands for this plain value, the history is a run of the machine from that value.
   pub plain_run : (first : C) (plain : M) (opening : Option C) (history : List (S × R)) → stands first plain → opening ≡ Some first
       → IsLegal opens (StepsAs stands machine) opening history → (last : M) × (Serves machine plain history last)
   plain_run first plain opening history held is legal =

@@ -1,10 +1,10 @@
--- What cores above cite of runs.
+-- Lemmas about runs, for the cores of crates above.
 use Rattle.std.specs.Prelude.{◌≡◌, ◌≤◌, ◌+◌, ℕ, [], ◌∷◌}
 use Rattle.std.proofs.Common.{refl, subst, sym, arith}
 use Rattle.tower_latch.specs.Latch.{IsRun}
 
 module _ {C M S R : Type 0} (stands : C → M → Type 0) (machine : M → S → R → M → Type 0) where
-  -- what a core serves is a run of its machine
+  -- Whatever a core serves is a run of its machine.
   pub is_run : IsRun stands machine
   is_run old new [] plain served held = (plain, refl, subst (λ (c : C). stands c plain) (sym served) held)
   is_run old new (step ∷ more) plain served held =

@@ -5,7 +5,7 @@ use Rattle.tower_latch.specs.Turns.{Turns}
 use Rattle.tower_latch.specs.Waiters.{Waits}
 use Rattle.tower_latch.specs.declared.wait_queue.WaitQueue.{WaitQueue}
 
--- how many are granted and haven't seen it, how many wait without a grant, and how many both are
+-- The number of waiters that are granted and haven't seen their grant, the number that wait without a grant, and the sum of both.
 abbrev pub granted : WaitQueue → ℕ
 granted queue = queue.granted
 
@@ -15,7 +15,7 @@ waiting queue = length queue.waiters.order
 abbrev pub size : WaitQueue → ℕ
 size queue = queue.granted + length queue.waiters.order
 
--- how many fit with no allocation
+-- how many waiters fit without allocation
 abbrev pub room : WaitQueue → ℕ
 room queue = queue.waiters.entries.capacity
 
@@ -23,13 +23,13 @@ room queue = queue.waiters.entries.capacity
 abbrev pub touches : WaitQueue → ℕ
 touches queue = queue.waiters.touches
 
--- so many granted keys, in the order of asking, which isn't kept, and behind them those that are linked
+-- The plain keys are `count` granted ones, in the order of asking, which the queue doesn't keep, and behind them those that are linked.
 abbrev pub StandsAs : ℕ → LinksView (Unit {0}) → Turns → Type 0
 StandsAs count waiters plain = (front : List ℕ) × Waits front waiters × (length front ≡ count) × (plain.keys ≡ front ++ waiters.order) × (plain.granted ≡ count)
 
 abbrev pub StandsFor : WaitQueue → Turns → Type 0
 StandsFor queue = StandsAs queue.granted queue.waiters
 
--- each plain queue that the old one stands for is changed so, to one that the new one stands for
+-- From each plain queue that the old one stands for, the change leads to one that the new one stands for.
 abbrev pub Follows : WaitQueue → (Turns → Turns → Type 0) → WaitQueue → Type 0
 Follows old change new = (plain : Turns) → StandsFor old plain → (next : Turns) × change plain next × StandsFor new next

@@ -1,4 +1,4 @@
-//! One lock around one core.
+//! A lock around a core.
 ghost use Rattle.std.specs.Prelude.{◌≡◌, ◌↔◌, ◌≤◌, ◌+◌, true, false, [], ◌∷◌, None, IfOk, IsTrue, MatchOption};
 ghost use Rattle.std.specs.Arc.{arc_value};
 ghost use Rattle.futures.specs.Task.{IsArmed, Keeps};
@@ -21,15 +21,15 @@ use std::sync::{Arc, Wait};
 pub use token::Token;
 use waiters::{Waiters, Woken};
 
-/// A `Latch` of one lock around the one core that it was handed.
+/// A `Latch` that is a lock around a core.
 ///
 /// Wakers are kept beside the core, one for each task that waits through a share. A step whose reply
-/// doesn't wait wakes all of them, once the lock is free. Where there is no room to keep a waker, its
+/// doesn't wait wakes all of them, once the lock is free. If there is no memory to keep a waker, its
 /// task is woken at once.
 #[derive(Drop)]
 pub struct Guarded<C: Core, R> {
     rt: R,
-    // 0 at the first alone.
+    // 0 only at the first latch.
     share: u64,
     shared: Arc<Shared<C>, Global>,
 }
@@ -48,20 +48,20 @@ struct Shared<C: Core> {
     ghost one: { (table.shared.table_id.words ≡ 1) × (table.shared.table_id.slots ≡ 1) },
 }
 
-// What lies under the lock: the core, and the wakers of the tasks that wait.
+// The contents of the lock: the core, and the wakers of the tasks that wait.
 #[derive(Drop)]
 pub struct Kept<C: Core> {
     core: C,
     waiters: Waiters,
-    // A run from an opening core leads to this one.
+    // A run from an opening core leads to this core.
     ghost reached: { ∥ Reached C.opens C.steps core ∥₁ },
-    // Where a waker is kept, the last reply waits.
+    // If a waker is kept, the last reply waits.
     ghost rests: { ∥ Rests C.opens C.steps C.is_wait core waiters ∥₁ },
     ghost within: { C.out core ≤ C.size core },
 }
 
 impl<C: Core, R: Wait + Copy> Guarded<C, R> {
-    /// A lock around the core. For want of memory it answers an error, and the core is dropped.
+    /// Creates a lock around the core. Returns an error if allocation fails; the core is dropped then.
     pub fn new(rt: R, alloc: Global, core: C) -> Result<Guarded<C, R>, AllocError>
         requires { C.opens core }
         ensures first { IfOk result (λ latch. ⟦<Guarded<C, R> as Latch<C>>⟧.is_first latch) }
@@ -85,7 +85,7 @@ impl<C: Core, R: Wait + Copy> Guarded<C, R> {
         })
     }
 
-    // Takes the core.
+    // Locks, and takes the core.
     #[inline(always)]
     fn lock(&self) -> Seat<C>
         ensures has { Holds (λ k. C.size k.core) (λ k. C.out k.core) (fresh self.now.size) result.me }
@@ -98,7 +98,7 @@ impl<C: Core, R: Wait + Copy> Guarded<C, R> {
         seat
     }
 
-    // Another has the core: waits for it.
+    // Waits for the core, which another holder has.
     #[cold]
     #[inline(never)]
     fn lock_late(&self, seat: &mut Seat<C>)
@@ -118,7 +118,7 @@ impl<C: Core, R: Wait + Copy> Guarded<C, R> {
         unreachable!()
     }
 
-    // The token's holder takes the core.
+    // Locks, and takes the core for the token's holder.
     #[inline(always)]
     fn lock_with(&self, token: Token) -> Seat<C>
         requires its { token.badge.table_id ≡ self.now.table }
@@ -133,7 +133,8 @@ impl<C: Core, R: Wait + Copy> Guarded<C, R> {
         seat
     }
 
-    // A step with wakers beside the core. Each is woken once the lock is free, unless the reply waits.
+    // Makes one step, with wakers beside the core. They are woken once the lock is free, unless the
+    // reply waits.
     #[cold]
     #[inline(never)]
     fn step_and_wake(&self, mut seat: Seat<C>, step: C::Step) -> (C::Reply, Token)
@@ -155,7 +156,7 @@ impl<C: Core, R: Wait + Copy> Guarded<C, R> {
         (reply, token)
     }
 
-    // Puts the core back, and wakes a thread that waits for it.
+    // Puts the core back, and wakes a thread that waits for it, if there is one.
     #[inline(always)]
     fn free(&self, mut seat: Seat<C>) -> Token
         requires its { seat.table_id ≡ self.now.table }
@@ -174,7 +175,7 @@ impl<C: Core, R: Wait + Copy> Guarded<C, R> {
 }
 
 impl<C: Core> Kept<C> {
-    // The core, with no waker beside it.
+    // Keeps the core, with no waker beside it.
     fn new(alloc: Global, core: C) -> Kept<C>
         requires { C.opens core }
         ensures { result.core ≡ core }
@@ -185,7 +186,7 @@ impl<C: Core> Kept<C> {
         }
     }
 
-    // Whether no waker is kept.
+    // Returns whether no waker is kept.
     #[inline(always)]
     fn is_alone(&self) -> bool
         ensures { IsTrue result ↔ (self.now.waiters ≡ []) }
@@ -193,7 +194,7 @@ impl<C: Core> Kept<C> {
         self.waiters.is_empty()
     }
 
-    // No more tokens are held than there are.
+    // Shows that no more places are held than there are.
     #[inline(always)]
     fn looked_at(&self)
         ensures { C.out self.now.core ≤ C.size self.now.core }
@@ -213,7 +214,8 @@ impl<C: Core> Kept<C> {
         self.core.step(step)
     }
 
-    // Makes one step, with no waker beside the core. If the reply waits, the waker of the task at this share is kept.
+    // Makes one step, with no waker beside the core. If the reply waits, keeps the waker of the task at
+    // this share.
     #[inline(always)]
     fn wait_alone(
         &mut self,
@@ -238,7 +240,7 @@ impl<C: Core> Kept<C> {
         reply
     }
 
-    // Makes one step. If the reply waits, the wakers stay.
+    // Makes one step. If the reply waits, the wakers stay; otherwise they are returned.
     fn step(&mut self, step: C::Step) -> (C::Reply, Option<Woken>)
         requires { C.admits step }
         ensures came { Came C.opens C.steps C.size (C.size self.old.core) step result.0 }
@@ -254,7 +256,8 @@ impl<C: Core> Kept<C> {
         (reply, self.waiters.take())
     }
 
-    // Makes one step. If the reply waits, the waker of the task at this share is kept.
+    // Makes one step. If the reply waits, keeps the waker of the task at this share; otherwise returns
+    // the wakers.
     #[inline(always)]
     fn wait(
         &mut self,
@@ -282,12 +285,12 @@ impl<C: Core> Kept<C> {
 }
 
 impl<C: Core, R: Wait + Copy> Latch<C> for Guarded<C, R> {
-    // Somewhere in a run of a core of this size from an opening one, the step had this reply.
+    // In some run of a core of this size from an opening one, the step had this reply.
     ghost gave = { λ latch step reply. Came C.opens C.steps C.size latch.size step reply };
 
     ghost is_first = { λ latch. latch.share ≡ 0 };
 
-    // Both are of one core, as their table is one.
+    // Both latches share one core, since they have the same table.
     ghost shares = { λ latch made. IfOk made (λ other. (other.table ≡ latch.table) × (other.size ≡ latch.size)) };
 
     ghost size = { λ latch. latch.size };
@@ -296,7 +299,7 @@ impl<C: Core, R: Wait + Copy> Latch<C> for Guarded<C, R> {
 
     ghost honest = { λ _ _ _ given. given };
 
-    // Mostly no waker is kept, and then no list of them is taken.
+    // Usually no waker is kept, and then no list of wakers is taken.
     #[inline(always)]
     fn step(&self, step: C::Step) -> C::Reply {
         let mut seat = self.lock();

@@ -1,4 +1,4 @@
-//! Values that a lock or a core keeps for others, each with the fact that its holder needs.
+//! Values that a lock or a core keeps for others, each with a fact that its user needs.
 ghost use Rattle.std.specs.Prelude.{◌≡◌, ◌↔◌, IfSome, IsTrue, None, Option, Some};
 ghost use Rattle.futures.specs.Task.{Covers, Keeps};
 ghost use Rattle.tower_latch.specs.Held.{PolledThere};
@@ -9,11 +9,12 @@ use tower_base::service::{Service, Steps};
 
 /// A fact about values of a type.
 pub trait Fact<T> {
-    // It holds of this value.
+    // The fact holds for this value.
     ghost holds: { T → Type 0 };
 }
 
-/// The value as it is. Where the fact is known to hold of it, but by no proof that is named, it holds.
+/// Returns the value unchanged. It requires the fact only as a truncated proposition (`∥ .. ∥₁`), and
+/// ensures the fact itself.
 pub fn open<T, P: Fact<T>>(value: T) -> T
     requires { ∥ P.holds value ∥₁ }
     ensures holds { P.holds result }
@@ -22,7 +23,7 @@ pub fn open<T, P: Fact<T>>(value: T) -> T
     value
 }
 
-/// As `open`, of a value that stays where it is kept.
+/// Does what `open` does, but for a value that stays where it is kept.
 pub fn known<T, P: Fact<T>>(value: &T)
     requires { ∥ P.holds value.now ∥₁ }
     ensures { P.holds value.now }
@@ -30,7 +31,7 @@ pub fn known<T, P: Fact<T>>(value: &T)
     let _value = value;
 }
 
-/// The service has what its constructors gave it.
+/// The fact that the service is sound.
 pub struct IsSound<Request> {
     request: PhantomData<Request>,
 }
@@ -39,14 +40,14 @@ impl<S: Service<Request>, Request> Fact<S> for IsSound<Request> {
     ghost holds = { S.sound };
 }
 
-/// The future may be polled.
+/// The fact that the future may be polled.
 pub struct MayPoll;
 
 impl<F: Steps> Fact<F> for MayPoll {
     ghost holds = { F.can_poll };
 }
 
-/// A service that is kept for others, and is sound. Contracts see the service.
+/// A sound service that is kept for others. Contracts see the service.
 #[derive(Drop)]
 pub struct Viewed<S: Service<Request>, Request> {
     service: S,
@@ -62,7 +63,7 @@ impl<S: Service<Request>, Request> Model for Viewed<S, Request> {
 }
 
 impl<S: Service<Request>, Request> Viewed<S, Request> {
-    /// Keeps a service that is sound.
+    /// Keeps a sound service.
     pub fn new(service: S) -> Viewed<S, Request>
         requires { S.sound service }
         ensures { result ≡ service }
@@ -73,7 +74,7 @@ impl<S: Service<Request>, Request> Viewed<S, Request> {
         }
     }
 
-    /// The service, which is sound still.
+    /// Returns the service, which is still sound.
     pub fn into_inner(self) -> S
         ensures sound { S.sound result }
         ensures same { result ≡ self }
@@ -86,7 +87,7 @@ impl<S: Service<Request>, Request> Viewed<S, Request> {
     }
 }
 
-/// A future that is kept for others, and may be polled. Contracts see the future.
+/// A future that is kept for others and may be polled. Contracts see the future.
 #[derive(Drop)]
 pub struct Pollable<F: Steps> {
     future: F,
@@ -109,7 +110,7 @@ impl<F: Steps> Pollable<F> {
         Pollable { future }
     }
 
-    /// The future, which may be polled still.
+    /// Returns the future, which may still be polled.
     pub fn into_inner(self) -> F
         ensures can_poll { F.can_poll result }
         ensures same { result ≡ self }
@@ -119,8 +120,8 @@ impl<F: Steps> Pollable<F> {
     }
 }
 
-/// A place for a future, which is polled there. It is empty once the future has answered. Contracts see
-/// the future, if there is one.
+/// A place for a future, which is polled there. The place is empty once the future has returned its
+/// output. Contracts see the future, if there is one.
 #[derive(Drop)]
 pub struct Place<F: Steps> {
     future: Option<F>,
@@ -135,14 +136,14 @@ impl<F: Steps> Model for Place<F> {
 }
 
 impl<F: Steps> Place<F> {
-    /// A place without a future.
+    /// Creates a place without a future.
     pub fn empty() -> Place<F>
         ensures { result ≡ None }
     {
         Place { future: None }
     }
 
-    /// A place of a future that may be polled.
+    /// Creates a place with a future that may be polled.
     pub fn new(future: F) -> Place<F>
         requires { F.can_poll future }
         ensures { result ≡ Some future }
@@ -152,7 +153,7 @@ impl<F: Steps> Place<F> {
         }
     }
 
-    /// Puts a future that may be polled into the place, which is empty.
+    /// Puts a future that may be polled into the empty place.
     pub fn put(&mut self, future: F)
         requires can_poll { F.can_poll future }
         requires empty { self.old ≡ None }
@@ -164,14 +165,14 @@ impl<F: Steps> Place<F> {
         self.future = Some(future);
     }
 
-    /// Whether there is no future.
+    /// Returns whether there is no future.
     pub fn is_empty(&self) -> bool
         ensures { IsTrue result ↔ (self.now ≡ None) }
     {
         self.future.is_none()
     }
 
-    /// One poll of the future, if there is one, where it is. With its answer it is dropped.
+    /// Polls the future once in its place, if there is one. If it returns its output, the future is dropped.
     pub fn poll(&mut self, cx: &mut Context<'_>) -> Option<Poll<F::Output>>
         ensures polled { PolledThere F.stepped self.old result self.new }
         ensures registered { IfSome self.new (λ future. Covers cx.new (F.needs future)) }

@@ -1,4 +1,4 @@
-//! One lock round one core, with the whole history of its steps.
+//! A lock around a core, with the whole history of its steps.
 ghost use Rattle.std.specs.Prelude.{◌≡◌, ◌≢◌, ℕ, ◌<◌, List, [], ◌∷◌, ◌++◌, length, Some, IfOk, OnOk, OnErr, vec_len};
 ghost use Rattle.std.specs.List.{sum_by, AllByRecursion};
 ghost use Rattle.tower_latch.specs.History.{IsLegal, EachFits, HaveOneEach, Weighs};
@@ -18,12 +18,12 @@ use std::marker::{Model, PhantomData};
 use std::sync::ledger::{Blank, Ledger};
 use std::sync::{Mutex, Wait};
 
-/// The passes of a log didn't all come back.
+/// The error of `Logged::close` if not all passes of the log came back.
 #[derive(Clone, Copy, Debug, Drop, PartialEq, Eq, thiserror::Error)]
 #[error("pass is missing")]
 pub struct Missing;
 
-/// The steps that were made at a log, each with its reply, in their order.
+/// The steps that were made at a log, with their replies, in order.
 #[derive(Drop)]
 pub struct History<S, R> {
     entries: Vec<(S, R)>,
@@ -36,7 +36,7 @@ impl<S, R> Model for History<S, R> {
 }
 
 impl<S, R> History<S, R> {
-    /// The steps with their replies.
+    /// Returns the steps with their replies.
     pub fn entries(&self) -> &[(S, R)]
         ensures { result.now ≡ self.now }
     {
@@ -44,7 +44,7 @@ impl<S, R> History<S, R> {
     }
 }
 
-// How many passes a log has.
+// The number of passes that a log has.
 #[derive(Drop)]
 struct Parts<K: Ledger> {
     count: usize,
@@ -54,7 +54,7 @@ struct Parts<K: Ledger> {
 
 /// A core under one lock, with the history of its steps. `K` names the log.
 ///
-/// Each thread steps through a pass of its own, which keeps a receipt of each step.
+/// Each thread makes its steps with a pass of its own, which keeps a receipt of each step.
 #[derive(Drop)]
 pub struct Logged<C: Core, K: Log<C>, W> {
     held: Mutex<Held<C, K>>,
@@ -69,8 +69,8 @@ where
     C::Step: Copy,
     C::Reply: Copy,
 {
-    /// Opens a log round the core, with `count` passes that have no receipts. For want of memory it
-    /// answers an error, and the core is dropped.
+    /// Opens a log around the core, with `count` passes that have no receipts. Returns an error if
+    /// allocation fails; the core is dropped then.
     pub fn open(
         rt: W,
         alloc: Global,
@@ -101,8 +101,8 @@ where
         Ok((logged, passes))
     }
 
-    /// Makes one step of the core, for which the pass keeps a receipt. Where there is no room in the
-    /// history or in the pass it answers an error, and no step was made.
+    /// Makes one step of the core, for which the pass keeps a receipt. Returns an error if the history
+    /// or the pass can't grow; then no step is made.
     pub fn step(
         &self,
         pass: &mut Pass<C, K>,
@@ -117,8 +117,8 @@ where
             .step(&self.rt, &self.cell, pass, step)
     }
 
-    /// The history, once all passes have come back. With another number of passes than the log opened
-    /// with it answers an error, and all is dropped.
+    /// Closes the log and returns its history, if all passes have come back. Returns `Missing` if the
+    /// number of passes isn't the one that the log opened with; everything is dropped then.
     pub fn close(self, passes: Vec<Pass<C, K>>) -> Result<History<C::Step, C::Reply>, Missing>
         ensures all { OnOk result (vec_len passes ≡ K.parts) }
         ensures missing { OnErr result (vec_len passes ≢ K.parts) }

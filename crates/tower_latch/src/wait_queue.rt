@@ -1,4 +1,4 @@
-//! Those who wait for grants, in the order of asking.
+//! A queue of those who wait for grants, in the order of asking.
 ghost use Rattle.std.specs.Prelude.{◌≡◌, ◌<◌, ◌≤◌, ◌+◌, IsOk, length, true};
 ghost use Rattle.slab.specs.Slab.{slab_len};
 ghost use Rattle.tower_latch.specs.Waiters.{IsPresent, are_apart, outside};
@@ -6,12 +6,12 @@ ghost use Rattle.tower_latch.specs.Waiters.{IsPresent, are_apart, outside};
 use std::alloc::{AllocError, Global};
 use tower_base::links::Links;
 
-/// Where a waiter stands.
+/// The state of a waiter.
 #[derive(Clone, Copy, Debug, PartialEq, Eq)]
 pub enum Turn {
-    /// It is granted, and waits no longer. Its key has ended.
+    /// The waiter got its grant and left the queue. Its key has ended.
     Granted,
-    /// It still waits.
+    /// The waiter still waits.
     Waiting,
     /// No waiter has the key.
     Unknown,
@@ -20,8 +20,8 @@ pub enum Turn {
 /// A queue of waiters, each under a key of its own. Grants go to waiters in the order of asking, and a
 /// waiter learns of its grant when it looks.
 ///
-/// A waiter without a grant is linked in the order of asking. A waiter that was granted, and hasn't seen it,
-/// stands outside that order. No operation searches.
+/// A waiter without a grant is linked in the order of asking. A waiter that was granted, but hasn't seen
+/// its grant, stands outside that order. No operation searches.
 #[derive(Drop)]
 pub struct WaitQueue {
     granted: usize,
@@ -36,7 +36,7 @@ impl WaitQueue {
     ghost use Rattle.tower_latch.specs.Turns.{Admits, Enters, Leaves, Looks, empty};
     ghost use Rattle.tower_latch.specs.WaitQueue.{Follows, StandsFor, granted, room, size, touches, waiting};
 
-    /// An empty queue, which allocates nothing until the first `wait`.
+    /// Creates an empty queue. It allocates nothing until the first `wait`.
     pub fn new(alloc: Global) -> WaitQueue
         ensures stands { StandsFor result empty }
         ensures room { room result ≡ 0 }
@@ -48,7 +48,7 @@ impl WaitQueue {
         }
     }
 
-    /// How many were granted and haven't seen it.
+    /// Returns how many waiters were granted and haven't seen their grant.
     #[inline(always)]
     pub fn granted(&self) -> usize
         ensures { result ≡ granted self.now }
@@ -56,7 +56,7 @@ impl WaitQueue {
         self.granted
     }
 
-    /// How many wait without a grant.
+    /// Returns how many waiters have no grant.
     #[inline(always)]
     pub fn waiting(&self) -> usize
         ensures { result ≡ waiting self.now }
@@ -64,7 +64,7 @@ impl WaitQueue {
         self.waiters.len()
     }
 
-    /// Waits behind all others, under the key that it returns.
+    /// Adds a waiter behind all others, and returns its key. Returns an error if allocation fails.
     #[inline(always)]
     pub fn wait(&mut self) -> Result<u64, AllocError>
         ensures follows { Follows self.old (λ old new. Enters old result new) self.new }
@@ -76,7 +76,8 @@ impl WaitQueue {
         Ok(self.waiters.push_back(()) as u64)
     }
 
-    /// Whether the waiter of this key is granted. If it is, it waits no longer, and its key ends.
+    /// Returns the state of the waiter with this key. If it is granted, it leaves the queue, and its key
+    /// ends.
     #[inline(always)]
     pub fn look(&mut self, key: u64) -> Turn
         ensures follows { Follows self.old (λ old new. Looks old key result new) self.new }
@@ -93,8 +94,8 @@ impl WaitQueue {
         Turn::Granted
     }
 
-    /// The waiter of this key leaves, granted or not. Its grant goes to the next. It returns whether there
-    /// was such a waiter.
+    /// Removes the waiter with this key, granted or not. If it had a grant, that goes to the next
+    /// waiter. Returns whether there was such a waiter.
     #[inline(always)]
     pub fn leave(&mut self, key: u64) -> bool
         ensures follows { Follows self.old (λ old new. Leaves old key result new) self.new }
@@ -112,7 +113,7 @@ impl WaitQueue {
         true
     }
 
-    /// Grants the first waiter that has no grant, if there is one.
+    /// Gives a grant to the first waiter that has none, if there is one.
     #[inline(always)]
     pub fn admit(&mut self)
         ensures follows { Follows self.old Admits self.new }
@@ -122,7 +123,7 @@ impl WaitQueue {
         let Some(first) = self.waiters.front() else {
             return;
         };
-        // What is granted fits in the room, so that its number fits in a `usize`.
+        // The granted waiters fit in the capacity, so their number fits in a `usize`.
         let _capacity = self.waiters.capacity();
         self.waiters.unlink(first);
         self.granted += 1;

@@ -1,12 +1,12 @@
-//! The place of a core under its lock, and what each step at it tells.
+//! The slot of a core under its lock, and what each operation on it shows.
 
 use crate::Core;
 use crate::guarded::Kept;
 use atomic_table::{Join, Play, Seat as TableSeat, Table, TableRule};
 use std::alloc::Global;
 
-// What a seat knows: how many tokens there are, how many it is, whether it has the core, and how many were held when it took it.
-// No value of it is made.
+// What a seat knows: the number of places, how many of them it has, whether it has the core, and how
+// many were held when it took the core. No value of this type is ever made.
 pub struct View {
     pub size: usize,
     pub out: u64,
@@ -42,7 +42,7 @@ impl<C: Core> Play<Kept<C>, View> for Frees {
     ghost then = { Freed (λ k. C.out k.core) };
 }
 
-// The second seat's tokens go to the first.
+// Moves the places of the second seat to the first.
 pub struct Gathers;
 
 impl Join<View> for Gathers {
@@ -55,5 +55,5 @@ impl Join<View> for Gathers {
 
 pub type CoreTable<C> = Table<Kept<C>, View, usize, Counts, Global>;
 
-/// A seat at a core's place. It has no bytes.
+/// A seat at the slot of a core. It has no bytes.
 pub type Seat<C> = TableSeat<Kept<C>, View>;

@@ -1,4 +1,4 @@
-//! What shows that its holder has places of a core.
+//! Tokens, which show that their holder has places of a core.
 ghost use Rattle.std.specs.Prelude.{◌≡◌, [], ◌∷◌, false, true};
 ghost use Rattle.tower_latch.specs.BadgeViews.{is_away};
 
@@ -6,7 +6,8 @@ use crate::Core;
 use crate::guarded::table::{Seat, View};
 use atomic_table::Badge;
 
-/// Shows that its holder has so many of the places of a core under a lock. It has no bytes, and doesn't name the core.
+/// A token, which shows that its holder has a number of the places of a core under a lock. It has no
+/// bytes, and doesn't name the core.
 #[derive(Drop)]
 pub struct Token {
     pub(super) badge: Badge<View>,
@@ -14,7 +15,7 @@ pub struct Token {
 }
 
 impl Token {
-    // The seat that it is.
+    // Turns the token back into a seat.
     pub(super) fn into_seat<C: Core>(self) -> Seat<C>
         ensures its { result.table_id ≡ self.badge.table_id }
         ensures views { self.badge.views ≡ result.me.0 ∷ [] }

@@ -1,4 +1,4 @@
-//! The wakers of the tasks that wait, as the lock keeps them.
+//! The wakers of waiting tasks, as the lock keeps them.
 ghost use Rattle.std.specs.Prelude.{◌≡◌, ◌↔◌, List, [], ◌∷◌, ◌++◌, IsSomeAnd, IsTrue, IfOk, MatchOption, slice_get};
 ghost use Rattle.futures.specs.Task.{IsArmed, Keeps};
 ghost use Rattle.tower_latch.specs.Guarded.{IsKept};
@@ -10,7 +10,7 @@ use std::alloc::{AllocError, Global};
 use std::marker::Model;
 use std::mem;
 
-/// The wakers that are kept, one for each task at each share.
+/// The kept wakers, one for each task at each share.
 #[derive(Drop)]
 pub struct Waiters {
     alloc: Global,
@@ -23,7 +23,7 @@ impl Model for Waiters {
     ghost view = { λ w. w.list.items };
 }
 
-// A task's number is its own only among the tasks of its executor, so the share tells threads apart.
+// A task's number is unique only among the tasks of its executor, so the share distinguishes threads.
 #[derive(Drop)]
 struct Waiter {
     share: u64,
@@ -31,7 +31,8 @@ struct Waiter {
     waker: Option<Waker>,
 }
 
-/// Wakers that were kept. It has no `Drop`: it ends in `wake`, once the lock is free, as a token shows.
+/// Wakers taken from the lock. This type has no `Drop`: it must end in `wake`, which requires a token as
+/// evidence that the lock is free.
 pub struct Woken {
     last: Waiter,
     others: Vec<Waiter>,
@@ -44,7 +45,7 @@ impl Model for Woken {
 }
 
 impl Woken {
-    /// Wakes each: a waiter is woken when it is dropped.
+    /// Wakes each waiter. A waiter is woken when it is dropped.
     #[cold]
     #[inline(never)]
     pub fn wake(self, _free: &Token) {
@@ -55,7 +56,7 @@ impl Woken {
 }
 
 impl Waiters {
-    /// No waker is kept.
+    /// Creates a list without wakers.
     pub fn new(alloc: Global) -> Waiters
         ensures { result ≡ [] }
     {
@@ -65,7 +66,7 @@ impl Waiters {
         }
     }
 
-    /// Whether none is kept.
+    /// Returns whether no waker is kept.
     #[inline(always)]
     pub fn is_empty(&self) -> bool
         ensures { IsTrue result ↔ (self.now ≡ []) }
@@ -73,7 +74,7 @@ impl Waiters {
         self.list.is_empty()
     }
 
-    /// All that are kept. Where one waits alone, the list keeps its room.
+    /// Takes and returns all wakers. If there is only one, the list keeps its capacity.
     pub fn take(&mut self) -> Option<Woken>
         ensures left { self.new ≡ [] }
         ensures handed { MatchOption result (self.old ≡ []) (λ woken. woken ≡ self.old) }
@@ -87,7 +88,7 @@ impl Waiters {
         Some(Woken { last, others })
     }
 
-    /// Keeps one waker of the task at this share. Where there is no room, the task is woken.
+    /// Keeps one waker of the task at this share. If allocation fails, wakes the task.
     #[inline(never)]
     pub fn keep(&mut self, share: u64, source: &Source, cx: &mut Context<'_>)
         ensures armed { IsArmed cx.new }
@@ -101,7 +102,7 @@ impl Waiters {
         let _pending: Poll<()> = cx.register(source, &mut self.list[place].waker);
     }
 
-    // The place of the task at this share, a new one where it has none.
+    // Returns the index of the task at this share. If it has none, adds a waiter for it.
     fn place(&mut self, share: u64, task: usize) -> Result<usize, AllocError>
         ensures { IfOk result (λ place. IsSomeAnd (slice_get self.new place) (λ w. (w.share ≡ share) × (w.task ≡ task))) }
     {

@@ -9,7 +9,7 @@ use std::alloc::{AllocError, Global};
 use std::marker::{Brand, Model, PhantomData};
 use std::sync::ledger::Ledger;
 
-/// Names one log: its ledger, the core that it opens with, and its table.
+/// A type that names one log: its ledger, the core that it opens with, and its table.
 pub trait Log<C>: Ledger {
     ghost use Rattle.std.specs.Prelude.{Option};
     ghost use Rattle.atomic_table.specs.Seated.{TableId};
@@ -32,7 +32,7 @@ impl<C> Log<C> for Brand {
 #[derive(Drop)]
 pub struct LogTable<S, R> {
     cell: Cell<S, R>,
-    // Knows the history, which is empty yet.
+    // Knows the history, which is still empty.
     keeper: Token<S, R>,
 }
 
@@ -45,7 +45,7 @@ impl<S, R> Model for LogTable<S, R> {
 }
 
 impl<S, R> LogTable<S, R> {
-    /// The table of a log that isn't open yet.
+    /// Creates the table of a log that isn't open yet. Returns an error if allocation fails.
     pub fn new(alloc: Global) -> Result<LogTable<S, R>, AllocError> {
         let (cell, keeper) = Cell::<S, R>::ruled(alloc, [0])?;
         Ok(LogTable { cell, keeper })

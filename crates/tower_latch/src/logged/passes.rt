@@ -1,4 +1,4 @@
-//! What lies under the lock of a log, and what a thread steps with.
+//! The contents of a log's lock, and the passes with which threads make steps.
 ghost use Rattle.std.specs.Prelude.{◌≡◌, ℕ, ◌+◌, ◌<◌, List, [], ◌∷◌, ◌++◌, length, Some, IfOk, OnErr, vec_len, vec_capacity};
 ghost use Rattle.std.specs.List.{sum_by, AllByRecursion};
 ghost use Rattle.crossbeam_utils.specs.Seq.{cell_view};
@@ -14,14 +14,14 @@ use std::marker::{Model, PhantomData};
 use std::sync::Wait;
 use std::sync::ledger::{Blank, Book, Share};
 
-/// What a step tells: its place in the history, which counts from 0, and its reply.
+/// What a step returns: its place in the history, counted from 0, and its reply.
 #[derive(Clone, Copy, Debug, Drop, PartialEq, Eq)]
 pub struct Receipt<R> {
     pub place: usize,
     pub reply: R,
 }
 
-/// What a thread steps with. It stands for the receipts of its steps: place, step and reply.
+/// A pass, with which a thread makes steps. Contracts see the receipts of its steps: place, step and reply.
 #[derive(Drop)]
 pub struct Pass<C: Core, K: Log<C>> {
     receipts: Vec<(usize, C::Step, C::Reply)>,
@@ -39,7 +39,7 @@ impl<C: Core, K: Log<C>> Model for Pass<C, K> {
 }
 
 impl<C: Core, K: Log<C>> Pass<C, K> {
-    /// The receipts: the place, the step and the reply of each step that was made with it.
+    /// Returns the receipts: the place, the step and the reply of each step that was made with this pass.
     pub fn receipts(&self) -> &[(usize, C::Step, C::Reply)]
         ensures same { result.now ≡ self.now }
         ensures rises { Rises self.now }
@@ -81,7 +81,8 @@ where
     C::Step: Copy,
     C::Reply: Copy,
 {
-    /// One step of the core, which stands in the history and in the pass. At `Err` no step was made.
+    /// Makes one step of the core, and enters it in the history and in the pass. Returns an error if
+    /// allocation fails; then no step was made.
     pub fn step<W: Wait>(
         &mut self,
         rt: &W,
@@ -113,7 +114,7 @@ where
     C::Step: Copy,
     C::Reply: Copy,
 {
-    /// The history, with which the receipts of all passes are compared.
+    /// Returns the history, after the receipts of all passes were compared with it.
     pub fn into_history<W: Wait>(
         self,
         rt: &W,
@@ -157,7 +158,8 @@ where
     C::Step: Copy,
     C::Reply: Copy,
 {
-    /// The core with an empty history, and `count` passes.
+    /// Creates a `Held` of the core with an empty history, and `count` passes. Returns an error if
+    /// allocation fails.
     pub(crate) fn open(
         alloc: Global,
         blank: Blank,

@@ -8,14 +8,15 @@ use crossbeam_utils::rule::{Outcome, Protocol};
 use std::collections::LinkedList;
 use std::marker::{Brand, PhantomData};
 
-// What a token knows: the keeper of the log all entries, and a pass what it claims. No value of it is made.
+// What a token knows. The keeper of the log knows all entries, and a pass knows what it claims. No value
+// of this type is ever made.
 pub struct View<S, R> {
     pub keeps: bool,
     pub all: LinkedList<(S, R)>,
     pub claims: LinkedList<(u64, S, R)>,
 }
 
-/// Names one entry, for one call.
+/// A type that names one entry, for one call.
 pub trait Entry<S, R> {
     ghost entry: { Option (S × R) };
 }
@@ -55,7 +56,7 @@ impl<S, R> Outcome<[u64; 1], View<S, R>> for Compares {
     ghost then = { Compared };
 }
 
-/// The claims go over to the second token.
+/// Moves the claims to the second token.
 pub struct Claims;
 
 impl<S, R> Split<View<S, R>> for Claims {
@@ -75,7 +76,7 @@ impl<S, R> Join<View<S, R>> for Claims {
     ghost spent = { claimer [] };
 }
 
-/// The first token gathers the claims of the second.
+/// Adds the claims of the second token to the first.
 pub struct Gathers;
 
 impl<S, R> Join<View<S, R>> for Gathers {

@@ -1,4 +1,4 @@
-// What is done with tokens: the keeper adds an entry, and gathers the claims of passes to compare them.
+// Operations on tokens. The keeper adds entries, and gathers the claims of passes to compare them.
 ghost use Rattle.std.specs.Prelude.{◌≡◌, ℕ, [], ◌∷◌, ◌++◌, length, true, Some};
 ghost use Rattle.crossbeam_utils.specs.Seq.{cell_view, IsSamePass};
 ghost use Rattle.tower_latch.specs.History.{Stand};
@@ -25,7 +25,8 @@ fn append_entry<S: Copy, R: Copy, E: Entry<S, R>, W: Wait>(
     cell.load_as::<Appends<E>, W>(rt, keeper);
 }
 
-/// The keeper adds an entry, and claims it after what it was shown, all of which stands in the history.
+/// Adds an entry to the keeper, which claims it after the claims that it was shown. All of those stand
+/// in the history.
 pub fn append<S: Copy, R: Copy, W: Wait>(
     rt: &W,
     cell: &Cell<S, R>,
@@ -42,7 +43,8 @@ pub fn append<S: Copy, R: Copy, W: Wait>(
     append_entry::<S, R, Brand, W>(rt, cell, keeper, step, reply);
 }
 
-/// The keeper adds an entry, and the token claims it after its other claims, which all stand in the history.
+/// Adds an entry to the keeper. The token claims the entry after its other claims, which all stand in
+/// the history.
 pub fn stamp<S: Copy, R: Copy, W: Wait>(
     rt: &W,
     cell: &Cell<S, R>,
@@ -64,7 +66,7 @@ pub fn stamp<S: Copy, R: Copy, W: Wait>(
     *token = cell.split_pass::<Claims>(keeper);
 }
 
-/// The keeper gathers a token's claims.
+/// Adds a token's claims to those of the keeper.
 pub fn gather<S: Copy, R: Copy>(cell: &Cell<S, R>, keeper: &mut Token<S, R>, mut token: Token<S, R>)
     requires cell { (keeper.old.table_id ≡ cell.now.table.shared.table_id) × (token.table_id ≡ cell.now.table.shared.table_id) }
     ensures same { keeper.new.table_id ≡ keeper.old.table_id }
@@ -74,7 +76,7 @@ pub fn gather<S: Copy, R: Copy>(cell: &Cell<S, R>, keeper: &mut Token<S, R>, mut
     cell.join_pass::<Gathers>(keeper, claims);
 }
 
-/// The keeper compares what it gathered with the history.
+/// Compares the claims that the keeper gathered with the history.
 pub fn compare<S: Copy, R: Copy, W: Wait>(rt: &W, cell: &Cell<S, R>, keeper: &mut Token<S, R>)
     requires cell { keeper.old.table_id ≡ cell.now.table.shared.table_id }
     requires keeps { (cell_view keeper.old).keeps ≡ true }
