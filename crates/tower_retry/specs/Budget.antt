@@ -58,15 +58,15 @@ generation_at made window moment = (moment - made) / window
 abbrev pub advanced : Ledger → ℕ → Ledger
 advanced ledger moment = record ledger { generation = max ledger.generation (generation_at ledger.made ledger.terms.window moment) }
 
--- an amount is added, in the present generation
+-- An amount is added, in the present generation.
 abbrev pub added : Ledger → ℤ → Ledger
 added ledger amount = record ledger { amounts = record { generation = ledger.generation; amount = amount } ∷ ledger.amounts }
 
--- an amount counts in its own generation and in the next ten
+-- An amount counts in its own generation and in the next ten.
 abbrev pub counts : ℕ → Amount → Bool
 counts generation amount = nat_le amount.generation generation && nat_le generation (amount.generation + 10)
 
--- the sum of the amounts that count, and that of their sizes
+-- the sum of the amounts that count, and the sum of their sizes
 abbrev pub total : ℕ → List Amount → ℤ
 total generation [] = pos 0
 total generation (amount ∷ rest) = (if counts generation amount then amount.amount else pos 0) +ℤ total generation rest
@@ -92,5 +92,5 @@ pub record Withdraws (old : Ledger) (allowed : Bool) (new : Ledger) : Type 0 whe
 abbrev pub Steps : Ledger → BudgetStep → BudgetReply → Ledger → Type 0
 Steps old (Deposit moment) Done new = new ≡ added (advanced old moment) (pos old.terms.deposit)
 Steps old (Withdraw moment) (Allowed allowed) new = Withdraws (advanced old moment) allowed new
--- no other reply is given
+-- No other reply is returned.
 Steps old _ _ new = ⊥

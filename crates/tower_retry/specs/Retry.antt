@@ -22,7 +22,7 @@ pub record RetryView (P S : Type 0) : Type 0 where
 abbrev pub ResponseFutureView : (P S Q F W : Type 0) → Type 0
 ResponseFutureView P S Q F W = Option (Attempts P S Q F W)
 
--- P holds, unless there is an answer
+-- P holds, unless there is an answer.
 abbrev pub Unanswered : {X : Type 0} → Option (Poll X) → Type 0 → Type 0
 Unanswered None P = P
 Unanswered (Some Pending) P = P
@@ -116,7 +116,7 @@ module _ {P S Q A E F W : Type 0} (s : ServiceOf S Q A E F) (p : PolicyOf P Q A 
     pub called : s.called old.service request response new.service
     pub begins : Begins policy_clone service_clone new kept response future
 
--- what is under way may be polled, and a request is there to be made again
+-- What is under way may be polled, and during a wait or a retry there is a request to be made again.
 abbrev pub IsUnderWay : {F W Q : Type 0} → (F → Type 0) → (W → Type 0) → Option Q → State F W → Type 0
 IsUnderWay can_step can_wait request (InFlight response) = can_step response
 IsUnderWay can_step can_wait request (Waiting wait) = can_wait wait × IsSome request

@@ -26,7 +26,7 @@ module _ {L C : Type 0} (gave : L → BudgetStep → BudgetReply → Type 0) (c 
     pub gave_answer : gave old.latch (Withdraw (c.reading new.clock)) (Allowed allowed)
     pub same : new.latch ≡ old.latch
 
--- A clone has shares of the latch and of the clock. A reply that its latch gives is one that the first latch gives.
+-- A clone has shares of the latch and of the clock. A reply that its latch returns is one that the first latch returns.
 pub record IsClone {L C : Type 0} (gave : L → BudgetStep → BudgetReply → Type 0) (may_share : L → Result L AllocError → Type 0) (c : ClockOf C)
     (old new : TpsBudgetView L C) : Type 0 where
   pub shared : may_share old.latch (Ok new.latch)

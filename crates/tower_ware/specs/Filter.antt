@@ -19,7 +19,7 @@ pub record FilterView (S U : Type 0) : Type 0 where
   pub inner : S
   pub predicate : U
 
--- The future of a `Filter` may be polled if its response may be, or if it holds a refusal. Once it has answered it may not.
+-- The future of a `Filter` may be polled if its response may be, or if it holds a refusal. Once it has returned either, it may not.
 abbrev pub ResponseFutureCanPoll : {F P : Type 0} → (F → Type 0) → State F P → Type 0
 ResponseFutureCanPoll can_poll (Response f) = can_poll f
 ResponseFutureCanPoll can_poll (Refusal p) = ⊤
@@ -32,7 +32,7 @@ response_future_needs needs (Refusal p) source = ⊥
 response_future_needs needs Answered source = ⊥
 
 -- The future of an `AsyncFilter` may be polled if its check may be and the service beside the check is ready, or if its response may be.
--- An answer doesn't change which of them it holds, so that one's own rule decides whether it may be polled again.
+-- After an answer it still holds the check or the response that it polled last, whose own rule decides whether it may be polled again.
 abbrev pub AsyncResponseFutureCanPoll : {S Q A E G C F : Type 0} → ServiceOf S Q A E G → (C → Type 0) → (F → Type 0) → AsyncState C S F → Type 0
 AsyncResponseFutureCanPoll s check response (Check c service) = check c × s.sound service × s.ready service
 AsyncResponseFutureCanPoll s check response (InFlight f) = response f
@@ -52,8 +52,8 @@ pub record Polled {S Q A E F U P : Type 0} (s : ServiceOf S Q A E F)
   pub answers : answer ≡ answered Inner inner
   pub same : new.predicate ≡ old.predicate
 
--- A call: the predicate is called once. The request that it accepts, which it may have changed, goes inside, to a ready service. If it rejects
--- the request, the future holds its error, and nothing goes inside.
+-- A call: the predicate is called once. If it accepts the request, which it may change, the inner service, which is ready, is called with it. If
+-- it rejects the request, the future holds its error, and the inner service isn't called.
 abbrev pub FilterCalled : {S Q A E F U R P : Type 0} → ServiceOf S Q A E F → PredicateOf U R Q P → FilterView S U → R → State F P → FilterView S U → Type 0
 FilterCalled {Q = Q} s u old request (Response future) new = (inside : Q) × u.checked old.predicate request (Ok inside) new.predicate
     × s.ready old.inner × s.called old.inner inside future new.inner
@@ -84,14 +84,14 @@ module _ {A E F P : Type 0} (f : StepsOf F (Result A E)) where
 
 module _ {S Q A E F C P : Type 0} (s : ServiceOf S Q A E F) (f : StepsOf F (Result A E)) (c : StepsOf C (Result Q P)) where
   -- What follows a poll of the check. If it is pending, so is the future. If it rejects the request, the future returns its error, and still
-  -- holds the check. If it accepts, the service, which is ready, is called with the checked request, and the response is polled once at once.
+  -- holds the check. If it accepts, the service, which is ready, is called with the checked request, and the response is polled at once.
   abbrev pub AfterCheck : Poll (Result Q P) → C → S → Poll (Result A (Error E P)) → AsyncState C S F → Type 0
   AfterCheck Pending check service answer new = (answer ≡ Pending) × (new ≡ Check check service)
   AfterCheck (Ready (Err p)) check service answer new = (answer ≡ Ready (Err (Rejected p))) × (new ≡ Check check service)
   AfterCheck (Ready (Ok request)) check service answer new = (left : S) × (future : F) × (polled : F)
       × s.ready service × s.called service request future left × InFlightStepped f future answer polled × (new ≡ InFlight polled)
 
-  -- A poll of the future of an `AsyncFilter`: one poll of the check, and if that accepts one of the new response; later one poll of the response.
+  -- A poll of the future of an `AsyncFilter`: one poll of the check and, if that accepts, one of the new response; later one poll of the response.
   -- If no service was cloned at the call, it returns `Memory`.
   abbrev pub AsyncResponseFutureStepped : AsyncState C S F → Poll (Result A (Error E P)) → AsyncState C S F → Type 0
   AsyncResponseFutureStepped (Check old service) answer new =
