@@ -1,4 +1,4 @@
--- After a poll that answers `Ok` there is a permit, and the inner service is ready.
+-- After a poll that returns `Ok` there is a permit, and the inner service is ready.
 use Rattle.std.specs.Prelude.{Result, Ok, Err, IsSome, refl}
 use Rattle.std.specs.declared.alloc.AllocError.{AllocError}
 use Rattle.futures.specs.declared.task.Poll.{Poll}

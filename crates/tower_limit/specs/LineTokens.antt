@@ -5,12 +5,12 @@ use Rattle.tower_limit.specs.declared.limit.concurrency.line_core.LineStep.TheVa
 use Rattle.tower_limit.specs.declared.limit.concurrency.line_core.LineReply.{LineReply}
 use Rattle.tower_limit.specs.declared.limit.concurrency.line_core.LineReply.TheVariants.{Granted, Left}
 
--- a holder that leaves gives its token back
+-- A holder that leaves gives its token back.
 abbrev pub paid : LineStep → LineReply → ℕ
 paid Release Left = 1
 paid _ _ = 0
 
--- who is granted gets a token
+-- Who is granted a permit gets a token.
 abbrev pub gained : LineReply → ℕ
 gained Granted = 1
 gained _ = 0

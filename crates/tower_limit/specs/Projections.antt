@@ -1,4 +1,4 @@
--- What goes inside of what each middleware is asked.
+-- What each middleware passes on to its inner service.
 use Rattle.std.proofs.Common.{IsSome, List, [], refl, Result, Ok, Err}
 use Rattle.std.specs.declared.alloc.AllocError.{AllocError}
 use Rattle.futures.specs.declared.task.Poll.{Poll}

@@ -31,11 +31,11 @@ abbrev pub waiting : {K S : Type 0} → K → S → PendingView K S
 waiting k s = record { key = k; service = s; cancelled = false }
 
 module _ {K S : Type 0} (eq : K → K → Bool) where
-  -- the entry has this key, and isn't cancelled
+  -- whether the entry has this key and isn't cancelled
   abbrev pub waits : K → PendingView K S → Bool
   waits k p = not p.cancelled && eq k p.key
 
-  -- the list has such an entry
+  -- whether the list has such an entry
   abbrev pub awaited : K → List (PendingView K S) → Bool
   awaited k ps = list_any (waits k) ps
 
@@ -48,7 +48,7 @@ module _ {K S : Type 0} (eq : K → K → Bool) where
   abbrev pub put_back : K → S → List (PendingView K S) → List (PendingView K S)
   put_back k s ps = if awaited k ps then ps else ps ++ waiting k s ∷ []
 
-  -- the keys of entries that aren't cancelled are distinct
+  -- The keys of entries that aren't cancelled are distinct.
   abbrev pub Apart : List (PendingView K S) → Type 0
   Apart [] = Unit {0}
   Apart (p ∷ ps) = (p.cancelled ≡ false → awaited p.key ps ≡ false) × Apart ps
@@ -66,20 +66,20 @@ module _ {K S : Type 0} (eq : K → K → Bool) where
     pub known : (k : K) → knows k ≡ (is_some (lookup (eq k) ready) || awaited k pending)
     pub fits : length ready + length pending ≤ room
 
--- a pending endpoint's service is sound, unless the endpoint is cancelled
+-- A pending endpoint's service is sound, unless the endpoint is cancelled.
 abbrev pub Askable : {K S : Type 0} → (S → Type 0) → PendingView K S → Type 0
 Askable sound p = p.cancelled ≡ false → sound p.service
 
--- Each service that may be asked is sound. Of a cancelled endpoint nothing is known, so it can't be asked once more.
+-- Each service that may be polled is sound. Nothing is known of a cancelled endpoint, so it can't be polled again.
 pub record Sound {K S : Type 0} (sound : S → Type 0) (v : ReadyCacheView K S) : Type 0 where
   pub ready : All (λ e. sound e.1) v.ready
   pub pending : All (Askable sound) v.pending
 
--- what stands at the index, which is there, meets P
+-- There is an element at the index, and P holds of it.
 abbrev pub At : {X : Type 0} → List X → ℕ → (X → Type 0) → Type 0
 At {X} xs i P = (x : X) × (slice_get xs i ≡ Some x) × P x
 
--- the key has a ready endpoint, whose index meets P
+-- The key has a ready endpoint, and P holds of its index.
 abbrev pub AtKey : {K S : Type 0} → (K → K → Bool) → K → List (K × S) → (ℕ → Type 0) → Type 0
 AtKey eq k es P = (i : ℕ) × (place eq k es ≡ Some i) × P i
 

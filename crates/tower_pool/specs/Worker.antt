@@ -30,7 +30,7 @@ module _ {L S Q A E F : Type 0} (gave : L → MailStep Q F E → MailReply Q F E
       × (new ≡ record old { message = None; has_failed = true })
   AfterPoll old id request (Ready (Ok ready)) answer new = (answer ≡ None) × HandsOn old id request new
 
-  -- the service is polled for this message
+  -- The service is polled for this message.
   abbrev pub Serves : WorkerView L S Q → ℕ → Q → Option (Poll (Unit {0})) → WorkerView L S Q → Type 0
   Serves old id request answer new = (inner : Poll (Result (Unit {0}) E)) × (left : S) × s.polled old.service inner left
       × AfterPoll (record old { service = left }) id request inner answer new
@@ -66,6 +66,6 @@ module _ {L S Q A E F : Type 0} (gave : L → MailStep Q F E → MailReply Q F E
   abbrev pub Pass : WorkerView L S Q → Option (Poll (Unit {0})) → WorkerView L S Q → Type 0
   Pass old answer new = PassAt old.message old answer new
 
-  -- a poll of the worker: passes up to an answer, or 64 without one, and then it is pending
+  -- a poll of the worker: passes until one returns a result, or 64 without one, and then it is pending
   abbrev pub Stepped : WorkerView L S Q → Poll (Unit {0}) → WorkerView L S Q → Type 0
   Stepped old answer new = Passes Pass Pending old answer new

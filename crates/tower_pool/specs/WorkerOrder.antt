@@ -17,7 +17,7 @@ pub record Book : Type 0 where
   pub failed : Bool
   pub debt : Debt
 
--- after a failure the stored error is owed
+-- After a failure the stored error is owed.
 abbrev pub owed : Bool → ℕ → Debt
 owed true id = stored id
 owed false id = outcome id
@@ -45,7 +45,7 @@ module _ {L Q E F : Type 0} (gave : L → MailStep Q F E → MailReply Q F E →
   Works latch zero old new = new ≡ old
   Works latch (suc n) old new = (mid : Book) × Works latch n old mid × ((step : MailStep Q F E) × (reply : MailReply Q F E) × gave latch step reply × Moves mid step reply new)
 
--- a message that a worker keeps is owed its outcome
+-- A message that a worker keeps is owed its outcome.
 abbrev pub debt_of : {Q : Type 0} → Option (ℕ × Q) → Debt
 debt_of None = nothing
 debt_of (Some message) = outcome message.0
@@ -53,6 +53,6 @@ debt_of (Some message) = outcome message.0
 abbrev pub book_of : {L S Q : Type 0} → WorkerView L S Q → Book
 book_of worker = record { failed = worker.has_failed; debt = debt_of worker.message }
 
--- some steps in that order lead from one worker to the other
+-- Some steps in that order lead from one worker to the other.
 abbrev pub Orderly : {L S Q E F : Type 0} → (L → MailStep Q F E → MailReply Q F E → Type 0) → WorkerView L S Q → WorkerView L S Q → Type 0
 Orderly gave old new = (new.latch ≡ old.latch) × ((n : ℕ) × Works gave old.latch n (book_of old) (book_of new))

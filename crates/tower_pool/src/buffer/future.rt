@@ -19,10 +19,10 @@ use std::mem;
 use tower_base::service::Steps;
 use tower_latch::Latch;
 
-/// The response of a message: the Rust's `tower::buffer::future::ResponseFuture`.
+/// The future of a message's response: the Rust's `tower::buffer::future::ResponseFuture`.
 ///
-/// It waits for the outcome of its message, and polls the inner future in the same poll. One that goes
-/// away before makes the mail forget its message.
+/// It waits for the outcome of its message, and polls the inner future in the same poll. If it is
+/// dropped before, the mail forgets its message.
 pub struct ResponseFuture<Request: Drop, F: Steps + Drop, E: Clone, L: Latch<Mail<Request, F, E>>> {
     state: ResponseState<L, F, Error<E>>,
     of: PhantomData<(Request, E)>,
@@ -141,7 +141,7 @@ where
     }
 }
 
-// One poll of the inner future, whose error is `Inner`.
+// Polls the inner future once. Its error becomes `Inner`.
 fn carry<T, E, F>(future: &mut F, cx: &mut Context<'_>) -> Poll<Result<T, Error<E>>>
 where
     F: Steps<Output = Result<T, E>>,

@@ -12,16 +12,16 @@ use tower_latch::{Core, Latch};
 
 /// Messages on their way to a worker, the places for them, and those who wait for places.
 ///
-/// A place reserved has room for its message, so that only `Join`, `Reserve` and the clone of the stored
-/// error may find no memory.
+/// Each reserved place has room for its message, so `Memory` comes only from `Join`, from `Reserve`, and
+/// from a clone of the stored error.
 pub struct MailCore<Request, F, E: Clone> {
     mail: Mailbox<Request, F, E>,
 }
 
-/// Messages whose futures may be polled.
+/// A `MailCore` whose futures may be polled.
 pub type Mail<Request, F, E> = MailCore<Request, Pollable<F>, E>;
 
-// A step that may wait, of a core without places.
+// Makes a step that may wait, at a core without places.
 #[inline(always)]
 pub fn waited<C: Core, L: Latch<C>>(latch: &L, step: C::Step, cx: &mut Context<'_>) -> C::Reply
     requires admitted { C.admits step }
@@ -41,7 +41,7 @@ impl<Request, F, E: Clone> Model for MailCore<Request, F, E> {
 
     ghost view = { λ core. core.mail };
 
-    // What is told of the stored error are its clones.
+    // What is reported of the stored error are its clones.
     ghost invariant = { λ core. (x y : E) → E.is_clone x y → y ≡ x };
 }
 
@@ -55,8 +55,8 @@ impl<Request, F, E: Clone> MailCore<Request, F, E> {
     ghost use Rattle.tower_pool.specs.Mail.{blank};
     ghost use Rattle.tower_pool.specs.Mailbox.{StandsFor};
 
-    /// Mail of so many places, for one `Buffer` and its worker. It asks for a bound that isn't 0, and for
-    /// errors whose clones equal what was cloned.
+    /// Creates mail of `bound` places, for one `Buffer` and its worker. Requires a bound that isn't 0,
+    /// and that a clone of an error equals the error.
     pub fn new(alloc: Global, bound: usize) -> MailCore<Request, F, E>
         requires positive { 0 < bound }
         requires same { (x y : E) → E.is_clone x y → y ≡ x }
@@ -89,10 +89,10 @@ impl<Request: Drop, F: Drop, E: Clone> Core for MailCore<Request, F, E> {
 
     ghost counts = { no_places _ };
 
-    /// Open mail answers `Memory` to `Reserve` only where room was missing. `Take` reaches at most six entries,
-    /// of the messages and of those who wait, for each message that leaves the queue, and any other step
-    /// six, whatever is stored. Closing isn't counted: `WorkerGone` reaches every message, and `Fail` drops
-    /// those who wait together with the count of their touches.
+    /// Makes a step. Open mail replies `Memory` to `Reserve` only if room was missing. `Take` reaches at
+    /// most six entries, of the messages and of the wait queue, for each message that leaves the queue,
+    /// and any other step reaches at most six, whatever is stored. Closing isn't counted: `WorkerGone`
+    /// reaches every message, and `Fail` drops the wait queue together with the count of its touches.
     #[inline(always)]
     fn step(&mut self, step: MailStep<Request, F, E>) -> MailReply<Request, F, E>
         ensures steps { StepsAs StandsFor MailSteps self.old step result self.new }

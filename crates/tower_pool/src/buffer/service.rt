@@ -15,12 +15,13 @@ use std::marker::{Model, PhantomData};
 use tower_base::service::{Service, Steps};
 use tower_latch::Latch;
 
-/// Sends its requests to a worker, through a bounded queue that its clones share: the Rust's
-/// `tower::buffer::Buffer`.
+/// A service that sends its requests to a worker, through a bounded queue that its clones share: the
+/// Rust's `tower::buffer::Buffer`.
 ///
-/// A poll of readiness reserves a place, after it has made the share of the mail that the response takes
-/// along; with a place it is `Ok` without a step. A call uses the place, and takes no memory while the
-/// worker is there. One that goes away gives up its place or its wait.
+/// A poll of readiness creates the share of the mail that the response takes along, and then reserves a
+/// place. If a place is reserved already, it returns `Ok` without a step. A call uses the place, and
+/// doesn't allocate while the worker is there. A `Buffer` that is dropped gives its place back or
+/// cancels its wait.
 pub struct Buffer<Request: Drop, F: Steps + Drop, E: Clone, L: Latch<Mail<Request, F, E>>> {
     latch: L,
     seat: Seat,
@@ -34,11 +35,11 @@ impl<Request: Drop, F: Steps + Drop, E: Clone, L: Latch<Mail<Request, F, E>>> Mo
 
     ghost view = { λ b. record { latch = b.latch; seat = b.seat; share = b.share } };
 
-    // With a place reserved, the response's share is there.
+    // If a place is reserved, the response's share is there.
     ghost invariant = { λ b. b.seat ≡ Reserved → IsSome b.share };
 }
 
-/// It gives up its place or its wait, and is one less.
+/// Dropping a `Buffer` gives its place back or cancels its wait, and counts one `Buffer` less.
 impl<Request: Drop, F: Steps + Drop, E: Clone, L: Latch<Mail<Request, F, E>>> Drop
     for Buffer<Request, F, E, L> {
     fn drop(self)
@@ -143,7 +144,7 @@ where
     }
 }
 
-/// A clone shares the mail. It has no place, and waits for none. It is refused if the latch refuses its
+/// A clone shares the mail. It has no place and waits for none. Cloning fails if the latch refuses its
 /// share, or if the mail can't count another `Buffer`.
 impl<Request: Drop, F: Steps + Drop, E: Clone, L: Latch<Mail<Request, F, E>>> Clone
     for Buffer<Request, F, E, L> {
@@ -168,7 +169,7 @@ impl<Request: Drop, F: Steps + Drop, E: Clone, L: Latch<Mail<Request, F, E>>> Bu
     E,
     L,
 > {
-    // It has asked for nothing.
+    // Creates a `Buffer` that has no place and waits for none.
     pub(crate) fn away(latch: L) -> Self
         ensures { result ≡ record { latch = latch; seat = Away; share = None } }
     {

@@ -1,4 +1,4 @@
-//! What takes messages to the service.
+//! The worker of a `Buffer`.
 ghost use Rattle.std.specs.Prelude.{◌≡◌, Some, None, false};
 ghost use Rattle.futures.specs.Poll.{OnPending};
 ghost use Rattle.futures.specs.Task.{IsArmed, Keeps};
@@ -17,12 +17,13 @@ use tower_base::service::{Service, Steps};
 use tower_latch::Latch;
 use tower_latch::held::Pollable;
 
-/// Takes one message after another, waits until the service is ready, and calls it: the Rust's
-/// `tower::buffer::Worker`. It is handed to an executor, and ends once no message will come any more.
+/// A future that takes one message after another, waits until the service is ready, and calls it: the
+/// Rust's `tower::buffer::Worker`. It is passed to an executor, and ends once no further message will
+/// come.
 ///
-/// After a failure of the service each message that it takes gets that error. A poll makes `TURNS` passes
-/// at most; then it is pending and has woken its own task. One that goes away loses the messages without
-/// an outcome.
+/// After a failure of the service each message that it takes gets that error. A poll makes at most
+/// `TURNS` passes; then it is pending and has woken its own task. If a worker is dropped, the messages
+/// without an outcome are lost.
 pub struct Worker<
     S: Drop,
     Request: Drop,
@@ -44,7 +45,7 @@ impl<S: Drop, Request: Drop, F: Steps + Drop, E: Clone, L: Latch<Mail<Request, F
     ghost view = { λ w. record { latch = w.latch; service = w.service; message = w.message; has_failed = w.has_failed } };
 }
 
-/// The mail is told that the worker is gone, by one step at the latch.
+/// Dropping a worker reports to the mail that it is gone, by one step at the latch.
 impl<S: Drop, Request: Drop, F: Steps + Drop, E: Clone, L: Latch<Mail<Request, F, E>>> Drop
     for Worker<S, Request, F, E, L> {
     fn drop(self)
@@ -69,7 +70,7 @@ where
     S: Service<Request, Error = E, Future = F>,
     L: Latch<Mail<Request, F, E>>,
 {
-    // It has taken nothing.
+    // Creates a worker that has taken no message.
     pub(crate) fn idle(latch: L, service: S) -> Self
         ensures { result ≡ record { latch = latch; service = service; message = None; has_failed = false } }
     {
@@ -82,7 +83,7 @@ where
         }
     }
 
-    // One pass: none where the next one follows.
+    // Makes one pass. Returns `None` if the next one follows.
     fn pass(&mut self, cx: &mut Context<'_>) -> Option<Poll<()>>
         requires { S.sound self.old.service }
         ensures pass { Pass L.gave S.Service self.old result self.new }
@@ -100,7 +101,7 @@ where
         }
     }
 
-    // No message is at hand.
+    // Makes one pass if no message is kept.
     fn take(&mut self, cx: &mut Context<'_>) -> Option<Poll<()>>
         requires sound { S.sound self.old.service }
         requires none { self.old.message ≡ None }
@@ -124,7 +125,7 @@ where
         }
     }
 
-    // The service is asked, and called where it is ready.
+    // Polls the service, and calls it if it is ready.
     fn serve(&mut self, id: u64, request: Request, cx: &mut Context<'_>) -> Option<Poll<()>>
         requires sound { S.sound self.old.service }
         requires none { self.old.message ≡ None }
@@ -150,7 +151,7 @@ where
         }
     }
 
-    // The service is called, and the response gets the future.
+    // Calls the service, and gives the future to the response.
     fn hand_on(&mut self, id: u64, request: Request)
         requires sound { S.sound self.old.service }
         requires ready { S.ready self.old.service }
@@ -161,7 +162,7 @@ where
         self.latch.step(MailStep::Answer(id, Pollable::new(future)));
     }
 
-    // Passes up to an answer.
+    // Makes passes until one returns a result, at most `TURNS`.
     fn passes(&mut self, cx: &mut Context<'_>) -> Poll<()>
         requires { S.sound self.old.service }
         ensures passes { Stepped L.gave S.Service self.old result self.new }

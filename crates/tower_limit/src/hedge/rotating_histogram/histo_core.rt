@@ -27,8 +27,8 @@ impl HistoCore {
     ghost use Rattle.tower_limit.specs.declared.hedge.rotating_histogram.steps.HistoReply.TheVariants.{Count, Millis};
     ghost use Rattle.tower_limit.specs.HistoCore.{Changes, Opens, StandsFor};
 
-    /// A histogram at the moment of its making, which has no latencies. Times are in nanoseconds. It
-    /// asks for a positive period, which `fits` tests.
+    /// Creates a histogram without latencies at the given moment. Times are in nanoseconds. Requires a
+    /// positive period, which `fits` tests.
     pub fn new(alloc: Global, period: u64, moment: u64) -> HistoCore
         requires { period ≢ 0 }
         ensures made { StandsFor result (blank moment period) }
@@ -43,7 +43,7 @@ impl HistoCore {
         }
     }
 
-    /// The period that `new` asks for: a positive one.
+    /// Returns whether the period is positive, as `new` requires.
     pub fn fits(period: u64) -> bool
         ensures { IsTrue result ↔ (period ≢ 0) }
     {
@@ -60,7 +60,7 @@ impl HistoCore {
         }
     }
 
-    // What was written in the period before is read now.
+    // What was written in the period before this one is read now.
     #[inline(never)]
     fn move_to(&mut self, period: u64)
         requires { self.old.present < period }

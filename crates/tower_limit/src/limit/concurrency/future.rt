@@ -14,7 +14,7 @@ use std::marker::Model;
 use tower_base::service::Steps;
 use tower_latch::Latch;
 
-/// The inner response. It holds the permit of its call until it is dropped: the Rust's
+/// The future of a response, which holds the permit of its call until it is dropped: the Rust's
 /// `tower::limit::concurrency::future::ResponseFuture`.
 #[derive(Drop)]
 pub struct ResponseFuture<F, L: Latch<LineCore>> {
@@ -37,7 +37,7 @@ impl<F, L: Latch<LineCore>> ResponseFuture<F, L> {
 }
 
 impl<F: Drop, L: Latch<LineCore>> ResponseFuture<F, L> {
-    /// The permit of its call. The response is dropped.
+    /// Returns the permit of its call and drops the response.
     pub fn into_permit(self) -> Option<Permit<L>>
         ensures { result ≡ self.permit }
     {

@@ -1,4 +1,4 @@
-//! What makes a `ConcurrencyLimit` of a service.
+//! The layers that wrap a service in a `ConcurrencyLimit`.
 ghost use Rattle.std.specs.Prelude.{◌≡◌, ℕ, IfOk};
 ghost use Rattle.tower_limit.specs.Concurrency.{SemaphoreView, New, Made, SharesPermits};
 
@@ -26,7 +26,7 @@ impl<R> Model for ConcurrencyLimitLayer<R> {
 }
 
 impl<R> ConcurrencyLimitLayer<R> {
-    /// At most `max` calls of each service in flight.
+    /// Creates a layer that allows at most `max` calls in flight for each service.
     pub fn new(rt: R, alloc: Global, max: usize) -> ConcurrencyLimitLayer<R>
         ensures { result ≡ max }
     {
@@ -65,7 +65,8 @@ impl<L: Latch<LineCore>> Model for GlobalConcurrencyLimitLayer<L> {
 }
 
 impl<R: Wait + Copy> GlobalConcurrencyLimitLayer<Guarded<LineCore, R>> {
-    /// At most `max` calls of all services in flight. It is refused where there is no memory for the line.
+    /// Creates a layer that allows at most `max` calls in flight for all services together. Returns
+    /// `AllocError` if allocation fails.
     pub fn new(rt: R, alloc: Global, max: usize) -> Result<Self, AllocError>
         ensures max { IfOk result (λ made. made.max ≡ max) }
         ensures size { IfOk result (λ made. ⟦<Guarded<LineCore, R> as Latch<LineCore>>⟧.size made.latch ≡ max) }

@@ -1,4 +1,4 @@
-//! Permits, and those who ask for them.
+//! Semaphores, their permits, and those who wait for permits.
 ghost use Rattle.std.specs.Prelude.{◌≡◌, ◌<◌, ◌≤◌, All, IfOk, IfErr, IfSome, None, Err, vec_len};
 ghost use Rattle.tower_limit.specs.Concurrency.{SemaphoreView, PermitView, PollSemaphoreView, SharesPermits, IsOf, Acquired};
 ghost use Rattle.tower_latch.specs.CoreTable.{places};
@@ -13,7 +13,7 @@ use std::sync::Wait;
 use tower_latch::held::{Fact, open};
 use tower_latch::{Guarded, Latch, Token};
 
-/// A share of a line of permits: what the Rust has `tokio::sync::Semaphore` for.
+/// A share of a line of permits. The Rust has `tokio::sync::Semaphore` for it.
 #[derive(Drop)]
 pub struct Semaphore<L: Latch<LineCore>> {
     latch: L,
@@ -27,8 +27,8 @@ impl<L: Latch<LineCore>> Model for Semaphore<L> {
 }
 
 impl<R: Wait + Copy> Semaphore<Guarded<LineCore, R>> {
-    /// So many permits, all free, behind a lock. Any number will do, 0 too. It is refused where there is
-    /// no memory for the line.
+    /// Creates a semaphore of `max` permits, all free, behind a lock. Any number is allowed, including
+    /// 0. Returns `AllocError` if allocation fails.
     pub fn new(rt: R, alloc: Global, max: usize) -> Result<Self, AllocError>
         ensures max { IfOk result (λ made. made.max ≡ max) }
         ensures size { IfOk result (λ made. ⟦<Guarded<LineCore, R> as Latch<LineCore>>⟧.size made.latch ≡ max) }
@@ -40,21 +40,21 @@ impl<R: Wait + Copy> Semaphore<Guarded<LineCore, R>> {
 }
 
 impl<L: Latch<LineCore>> Semaphore<L> {
-    /// A semaphore over a latch of the caller's, of so many permits.
+    /// Creates a semaphore of `max` permits over the caller's latch.
     pub fn with_latch(latch: L, max: usize) -> Semaphore<L>
         ensures { result ≡ record { latch = latch; max = max } }
     {
         Semaphore { latch, max }
     }
 
-    /// The number that it was made with.
+    /// Returns the `max` that it was created with.
     pub fn max(&self) -> usize
         ensures { result ≡ self.now.max }
     {
         self.max
     }
 
-    /// How many permits are free, by one step at the latch.
+    /// Returns how many permits are free, by one step at the latch.
     pub fn available_permits(&self) -> usize
         ensures { L.gave self.now.latch LineStep.Free (LineReply.Count result) }
     {
@@ -64,8 +64,8 @@ impl<L: Latch<LineCore>> Semaphore<L> {
         }
     }
 
-    /// Gives back permits of this semaphore, of its shares, and of the limits over these. It returns how many they were, which is never more than
-    /// `max`, whoever has gathered them.
+    /// Gives back permits of this semaphore, of its shares, and of the limits over these. Returns how
+    /// many they were, which is never more than `max`, whoever has gathered them.
     pub fn release_all(&self, mut permits: Vec<Permit<L>>) -> usize
         requires { All (IsOf L.Latch self.now) permits.items }
         ensures count { result ≡ vec_len permits }
@@ -83,7 +83,7 @@ impl<L: Latch<LineCore>> Semaphore<L> {
         count
     }
 
-    /// Another share of the same permits. It is refused where the latch refuses its share.
+    /// Returns another share of the same permits. Fails if the latch refuses its share.
     pub fn share(&self) -> Result<Semaphore<L>, AllocError>
         ensures shares { IfOk result (λ other. SharesPermits L.Latch self.now other) }
         ensures refused { IfErr result (λ e. L.shares self.now.latch (Err e)) }
@@ -123,7 +123,7 @@ impl<L: Latch<LineCore>> Model for Permit<L> {
 }
 
 impl<L: Latch<LineCore>> Permit<L> {
-    // What shows that it is held.
+    // Returns the token that shows that it is held.
     fn into_token(self) -> Token
         ensures its { L.its self.latch result }
         ensures one { places result ≡ 1 }
@@ -134,7 +134,7 @@ impl<L: Latch<LineCore>> Permit<L> {
     }
 }
 
-/// The permit goes back by one step at its latch.
+/// Dropping a permit gives it back by one step at its latch.
 impl<L: Latch<LineCore>> Drop for Permit<L> {
     #[inline(always)]
     fn drop(self)
@@ -146,7 +146,7 @@ impl<L: Latch<LineCore>> Drop for Permit<L> {
     }
 }
 
-/// Asks a semaphore for permits, one at a time: the Rust's `tokio_util::sync::PollSemaphore`.
+/// Acquires permits of a semaphore, one at a time: the Rust's `tokio_util::sync::PollSemaphore`.
 pub struct PollSemaphore<L: Latch<LineCore>> {
     semaphore: Semaphore<L>,
     key: Option<u64>,
@@ -159,7 +159,7 @@ impl<L: Latch<LineCore>> Model for PollSemaphore<L> {
 }
 
 impl<L: Latch<LineCore>> PollSemaphore<L> {
-    /// It has no place in the line yet.
+    /// Creates a `PollSemaphore` that has no place in the line yet.
     pub fn new(semaphore: Semaphore<L>) -> PollSemaphore<L>
         ensures { result ≡ record { semaphore = semaphore; key = None } }
     {
@@ -169,7 +169,7 @@ impl<L: Latch<LineCore>> PollSemaphore<L> {
         }
     }
 
-    /// Another share of the permits that it asks for. It is refused where the latch refuses its share.
+    /// Returns another share of its semaphore. Fails if the latch refuses its share.
     pub fn share(&self) -> Result<Semaphore<L>, AllocError>
         ensures shares { IfOk result (λ other. SharesPermits L.Latch self.now.semaphore other) }
         ensures refused { IfErr result (λ e. L.shares self.now.semaphore.latch (Err e)) }
@@ -177,10 +177,10 @@ impl<L: Latch<LineCore>> PollSemaphore<L> {
         self.semaphore.share()
     }
 
-    /// A permit, or a place in the line, which is kept until the permit is there.
+    /// Acquires a permit, or takes a place in the line, which is kept until the permit is obtained.
     ///
-    /// The permit's share of the latch is made before the step. For want of memory it answers an
-    /// error, and the place, if there was one, is kept.
+    /// The permit's share of the latch is created before the step. Returns `AllocError` if allocation
+    /// fails; a place in the line is kept then.
     #[inline(always)]
     pub fn poll_acquire(&mut self, cx: &mut Context<'_>) -> Poll<Result<Permit<L>, AllocError>>
         ensures acquired { Acquired L.Latch self.old result self.new }
@@ -212,7 +212,7 @@ impl<L: Latch<LineCore>> PollSemaphore<L> {
     }
 }
 
-/// One that still waits leaves the line by one step at the latch.
+/// Dropping one that still waits cancels its wait by one step at the latch.
 impl<L: Latch<LineCore>> Drop for PollSemaphore<L> {
     fn drop(self)
         ensures { IfSome self.key (λ key. (reply : _) × L.gave self.semaphore.latch (LineStep.Cancel key) reply) }
