@@ -1,4 +1,4 @@
--- An `Ok` of `SpawnReady` comes of the last pass, and leaves a ready value.
+-- An `Ok` of a `SpawnReady` comes from the last pass, and leaves a ready value.
 use Rattle.std.specs.Prelude.{Option, Some, None, Result, Ok, Err, IsSomeAnd}
 use Rattle.std.proofs.Common.{⊎_elim}
 use Rattle.futures.specs.declared.task.Poll.{Poll}

@@ -1,4 +1,4 @@
-//! `Core`, `Latch` and `Guarded`: a core of one's own behind a lock.
+//! `Core`, `Latch` and `Guarded`: a custom core behind a lock.
 
 ghost use Rattle.std.specs.Prelude.{◌≡◌, ◌≤◌, false};
 ghost use Rattle.uses.specs.Seats.{Sold};
@@ -9,7 +9,7 @@ use std::thread::Threads;
 use std::{io, thread};
 use tower::latch::{Core, Guarded, Latch};
 
-/// The seats that are left: the ones below this number, of three.
+/// The seats that are left, of three: those numbered below `left`.
 #[derive(Drop)]
 struct Seats {
     left: u32,
@@ -50,11 +50,11 @@ impl Core for Seats {
     }
 }
 
-/// What the seats cost.
+/// The prices of the seats.
 const PRICES: [u32; 3] = [50, 30, 20];
 
-// Sells a seat, and answers its price. Of the seat no more is known than that somewhere in a run of the hall it was sold:
-// so it is one of three, and the index is in bounds.
+// Sells a seat, and returns its price. All that is known of the seat is that it was sold somewhere in a run
+// of the hall. So it is one of three, and the index is in bounds.
 fn sell<L: Latch<Seats>>(hall: &L) -> u32 {
     match hall.step(()) {
         Some(seat) => PRICES[seat as usize],
@@ -62,7 +62,7 @@ fn sell<L: Latch<Seats>>(hall: &L) -> u32 {
     }
 }
 
-/// Two threads sell a seat each, of one hall.
+/// Sells two seats of one hall, each in a thread of its own.
 pub fn sell_two_seats<R>(rt: R) -> io::Result<()>
 where
     R: Threads + Wait + AllocGlobal + Print + Copy + Send + Sync,

@@ -11,7 +11,7 @@ use tower::Service;
 use tower::latch::Latch;
 use tower::limit::concurrency::{ConcurrencyLimit, LineCore, Permit, PollSemaphore, Semaphore};
 
-// Of so many shares each asks for a permit. How many were there at once?
+// Requests a permit from each of `shares` shares. Returns how many were there at once.
 fn gathered<L: Latch<LineCore>>(
     alloc: Global,
     semaphore: &Semaphore<L>,
@@ -30,7 +30,7 @@ fn gathered<L: Latch<LineCore>>(
     Ok(semaphore.release_all(permits))
 }
 
-// A response's permit, which outlives it.
+// Returns a response's permit, which outlives the response.
 fn of_a_response<S, L>(
     limit: &mut ConcurrencyLimit<S, L>,
     cx: &mut Context<'_>,
@@ -46,7 +46,7 @@ where
     }
 }
 
-/// Five ask for three permits, and a response keeps one.
+/// Requests the three permits of a semaphore from five shares, and then keeps the permit of a response.
 pub fn hold_three<R>(rt: R) -> io::Result<()>
 where
     R: Wait + RandomSource + AllocGlobal + Print + Copy,
