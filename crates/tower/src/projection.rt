@@ -78,7 +78,7 @@ where
 {}
 
 /// A run leads to each endpoint, from one that was there before or that the discovery inserted since. A
-/// call makes its request to one of them, and none to the others.
+/// call makes its request to each of them at most once.
 pub fn balance<K, S, X, D, R, Q>()
 where
     K: Eq + Hash + Clone + Drop,

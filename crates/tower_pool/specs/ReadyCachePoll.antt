@@ -1,4 +1,5 @@
--- What `poll_pending` does: it polls each pending endpoint that isn't cancelled once, longest waiting first, and stops at the first that fails.
+-- What `poll_pending` does: it polls each pending endpoint that isn't cancelled once, longest waiting first. It stops at the
+-- first that fails, or for which allocation fails.
 use Rattle.std.specs.Prelude.{ℕ, zero, suc, ◌≡◌, Bool, true, false, List, [], ◌∷◌, ◌++◌, Result, Ok, Err, ◌⊎◌}
 use Rattle.futures.specs.declared.task.Poll.{Poll}
 use Rattle.futures.specs.declared.task.Poll.TheVariants.{Ready, Pending}
@@ -58,7 +59,8 @@ module _ {K S Q A E G : Type 0} (eq : K → K → Bool) (s : ServiceOf S Q A E G
   abbrev pub AskedFirst : ReadyCacheView K S → Result Bool (Error K E) → ReadyCacheView K S → Type 0
   AskedFirst old answer new = (p : PendingView K S) (rest : List (PendingView K S)) → old.pending ≡ p ∷ rest → Asked old.ready p rest answer new
 
--- The list after this many of its first entries went to its end, one after another: so the code's loop leaves those that are pending still.
+-- The list after this many of its first entries went to its end, one after another. A poll that stops early so puts the entries that it hasn't
+-- polled behind those that are pending still.
 abbrev pub rotated : {X : Type 0} → ℕ → List X → List X
 rotated zero xs = xs
 rotated (suc n) [] = rotated n []

@@ -35,7 +35,8 @@ module _ {Q F E : Type 0} where
   MovesAt debt failed step reply new = ⊥
 
   -- One step of a worker at its mail. It takes a message only if it owes nothing. Then it owes that message an outcome, which `Answer` or `Fail`
-  -- gives, or after a failure the stored error, which `FailStored` gives. Nothing else ends a debt but a `Live` that reports that nobody waits.
+  -- gives, or after a failure the stored error, which `FailStored` gives. Nothing else ends a debt but a `Live` that
+  -- doesn't report that somebody waits.
   abbrev pub Moves : Book → MailStep Q F E → MailReply Q F E → Book → Type 0
   Moves old step reply new = MovesAt old.debt old.failed step reply new
 

@@ -40,7 +40,7 @@ impl<P, S> Model for Retry<P, S> {
 }
 
 impl<P, S> Retry<P, S> {
-    /// Creates a `Retry`, whose policy is called for each result. Reads and clones nothing.
+    /// Creates a `Retry`, whose policy is called for each result of a kept request. Reads and clones nothing.
     pub fn new(policy: P, service: S) -> Retry<P, S>
         ensures { result ≡ record { policy = policy; service = service } }
     {

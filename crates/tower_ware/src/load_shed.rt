@@ -21,7 +21,7 @@ use std::marker::Model;
 use tower_base::run::Contains;
 use tower_base::service::Service;
 
-/// A service that is always ready, and returns `Overloaded` if the inner service wasn't ready: the Rust's
+/// A service that may always be called, and returns `Overloaded` if the inner service wasn't ready: the Rust's
 /// `tower::load_shed::LoadShed`.
 ///
 /// An error of the inner service's readiness is returned, and the inner service then counts as not ready.

@@ -99,7 +99,7 @@ impl<K: Eq + Hash + Clone + Drop, S: Service<Req>, Req> ReadyCache<K, S, Req> {
         self.pending.awaited(key)
     }
 
-    /// Returns the key's ready endpoint: its index, its key as it was pushed, and its service.
+    /// Returns the key's ready endpoint: its index, the key that it stands under, and its service.
     pub fn get_ready(&self, key: &K) -> Option<(usize, &K, &S)>
         ensures index { option_map (λ p. p.0) result ≡ place K.eq key.now self.now.lists.ready }
         ensures entry { IfSome result (λ p. slice_get self.now.lists.ready p.0 ≡ Some (p.1.now, p.2.now)) }

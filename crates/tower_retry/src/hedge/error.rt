@@ -8,7 +8,7 @@ pub enum Error<E> {
     /// The inner service's own error, of the first call or of the second.
     #[error(transparent)]
     Inner(E),
-    /// Allocating the clone of the service that the second call needs failed.
+    /// A clone that the second call needs was refused.
     #[error("out of memory")]
     Memory,
 }

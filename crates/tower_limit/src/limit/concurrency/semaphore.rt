@@ -65,7 +65,8 @@ impl<L: Latch<LineCore>> Semaphore<L> {
     }
 
     /// Gives back permits of this semaphore, of its shares, and of the limits over these. Returns how
-    /// many they were, which is never more than `max`, whoever has gathered them.
+    /// many they were, whoever has gathered them: never more than the latch has, which is `max` if
+    /// `new` created it.
     pub fn release_all(&self, mut permits: Vec<Permit<L>>) -> usize
         requires { All (IsOf L.Latch self.now) permits.items }
         ensures count { result ≡ vec_len permits }
