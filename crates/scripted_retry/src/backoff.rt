@@ -4,7 +4,7 @@
 //! `fut 0` polls a wait and `drop 0` drops it; one that is over is dropped. `skip N` begins so many waits and drops them.
 
 use crate::budget::fraction_at;
-use crate::parts::Rising;
+use crate::rising::Rising;
 use futures::task::{Poll, Solo};
 use scripted::party::Party;
 use scripted::report::Report;

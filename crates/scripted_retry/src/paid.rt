@@ -5,7 +5,7 @@
 ghost use Rattle.std.specs.Prelude.{⊤};
 
 use crate::budget::fraction_at;
-use crate::parts::Rising;
+use crate::rising::Rising;
 use futures::future::{Ready, ready};
 use scripted::report::Report;
 use scripted::script::Script;
