@@ -42,7 +42,7 @@ module _ {L S Q X : Type 0} (shares : L → Result L AllocError → Type 0) (spa
   Begins executor service answer = (answer ≡ Err NoMemory)
       ⊎ ((buffer : BufferView L) × (worker : WorkerView L S Q) × Paired shares service buffer worker × HandsOver spawned executor worker buffer answer)
 
-  -- a `Buffer` of a pair, whose worker the executor took, or gave back
+  -- What a `BufferLayer` returns: the `Buffer` of a pair, whose worker the executor took, or gave back.
   abbrev pub Wraps : X → S → BufferView L → Type 0
   Wraps executor service buffer = (worker : WorkerView L S Q) × Paired shares service buffer worker × Tries spawned executor worker
 

@@ -9,7 +9,7 @@ use Rattle.indexmap.specs.IndexMap.{set_value_at}
 use Rattle.tower_base.specs.declared.service.Service.{Ghosts as ServiceOf}
 use Rattle.tower_pool.specs.declared.ready_cache.error.Failed.{Failed}
 
--- A pending endpoint. A cancelled one leaves at the next poll of the cache, without being polled.
+-- A pending endpoint. A cancelled one leaves, without being polled, once a poll of the cache comes to it.
 pub record PendingView (K S : Type 0) : Type 0 where
   pub key : K
   pub service : S
@@ -85,7 +85,7 @@ AtKey eq k es P = (i : ℕ) × (place eq k es ≡ Some i) × P i
 
 module _ {K S Q A E G : Type 0} (eq : K → K → Bool) (s : ServiceOf S Q A E G) where
   -- What follows a poll of the ready endpoint `e`. If it is ready still, it stays (`Ok true`). If it failed, it leaves, with its key and error.
-  -- If it is pending, it goes back to the pending ones (`Ok false`).
+  -- If it is pending, it goes back to the pending ones (`Ok false`). The last ready endpoint takes the index of one that leaves (`swap_remove`).
   abbrev pub Settles : ReadyCacheView K S → ℕ → K × S → S → Poll (Result (Unit {0}) E) → Result Bool (Failed K E) → ReadyCacheView K S → Type 0
   Settles old index e left (Ready (Ok u)) answer new = (answer ≡ Ok true) × (new ≡ record old { ready = set_value_at old.ready index left })
   Settles old index e left (Ready (Err x)) answer new =
@@ -104,7 +104,7 @@ module _ {K S Q A E G : Type 0} (eq : K → K → Bool) (s : ServiceOf S Q A E G
   CheckedKey old k answer new =
       MatchOption (place eq k old.ready) ((answer ≡ Ok false) × (new ≡ old)) (λ index. Checked old index answer new)
 
-  -- a call of the endpoint at the index, which was ready, and then goes back to the pending ones
+  -- A call of the endpoint at the index, which was ready, and then goes back to the pending ones, unless a newer one of its key is pending.
   pub record Called (old : ReadyCacheView K S) (index : ℕ) (request : Q) (future : G) (new : ReadyCacheView K S) : Type 0 where
     pub key : K
     pub service : S

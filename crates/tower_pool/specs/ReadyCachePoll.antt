@@ -28,7 +28,8 @@ Ends (x ∷ xs) answer = answer ≡ Pending
 module _ {K S Q A E G : Type 0} (eq : K → K → Bool) (s : ServiceOf S Q A E G) where
   -- What a poll does with the entries that it hasn't polled yet (the second list), if those of the first list were polled and are still pending. A
   -- cancelled entry leaves. For another one, room among the ready ones is allocated; if that fails, the poll stops (`Memory`). Then it is polled
-  -- once: if ready, it goes to the ready ones; if it failed, it leaves, and the poll stops; if pending, it stays.
+  -- once. If it is ready, it goes to the end of the ready ones, or takes the index of an older one of its key, whose key stays. If it failed, it
+  -- leaves, and the poll stops. If it is pending, it stays.
   abbrev pub EachAsked : List (PendingView K S) → List (PendingView K S) → List (K × S) → Poll (Result (Unit {0}) (Error K E)) → ReadyCacheView K S → Type 0
   EachAsked asked [] ready answer new = Ends asked answer × (new ≡ record { ready = ready; pending = asked })
   EachAsked asked (p ∷ rest) ready answer new =

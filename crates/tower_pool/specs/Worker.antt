@@ -1,5 +1,6 @@
 -- The machine of a buffer's `Worker`. Its steps at the mail: `Take` takes the oldest message; `Live` reports whether somebody still waits for a
--- message that was taken; and `Answer`, `Fail` and `FailStored` give a message its outcome.
+-- message that was taken; and `Answer`, `Fail` and `FailStored` give a message its outcome. `gave latch
+-- step reply` says that the mail returned this reply to this step.
 use Rattle.std.specs.Prelude.{◌≡◌, ℕ, Bool, true, false, Option, None, Some, Result, Ok, Err}
 use Rattle.futures.specs.declared.task.Poll.{Poll}
 use Rattle.futures.specs.declared.task.Poll.TheVariants.{Ready, Pending}
@@ -18,12 +19,14 @@ pub record WorkerView (L S Q : Type 0) : Type 0 where
   pub has_failed : Bool
 
 module _ {L S Q A E F : Type 0} (gave : L → MailStep Q F E → MailReply Q F E → Type 0) (s : ServiceOf S Q A E F) where
-  -- The service, which is ready, is called, and the call's future becomes the outcome of the message.
+  -- The service, which is ready, is called, and the call's future goes to the mail as the outcome of the message, whatever the mail replies: if
+  -- nobody waits any more, `Back`.
   abbrev pub HandsOn : WorkerView L S Q → ℕ → Q → WorkerView L S Q → Type 0
   HandsOn old id request new = s.ready old.service × ((future : F) × (left : S) × s.called old.service request future left
       × ((reply : MailReply Q F E) × gave old.latch (Answer id future) reply) × (new ≡ record old { service = left }))
 
-  -- What follows a poll of the service for this message. If it is pending, the message is kept. If it failed, so does the message.
+  -- What follows a poll of the service for this message. If it is pending, the message is kept. If it failed, its error goes to the mail as
+  -- the outcome of the message.
   abbrev pub AfterPoll : WorkerView L S Q → ℕ → Q → Poll (Result (Unit {0}) E) → Option (Poll (Unit {0})) → WorkerView L S Q → Type 0
   AfterPoll old id request Pending answer new = (answer ≡ Some Pending) × (new ≡ record old { message = Some (id, request) })
   AfterPoll old id request (Ready (Err e)) answer new = (answer ≡ None) × ((reply : MailReply Q F E) × gave old.latch (Fail id e) reply)

@@ -1,6 +1,6 @@
 -- The machine of a budget of retries, over a plain list of amounts. A success makes a `Deposit`, and a retry a `Withdraw`, whose reply allows it
--- or not. Moments and lengths are in nanoseconds. Time is cut into generations, each a tenth of the budget's time `ttl`, in which an amount
--- counts: after ten generations more it has expired.
+-- or not. Moments and lengths are in nanoseconds. Time is cut into generations, each a tenth of the budget's time `ttl`, rounded down. An
+-- amount counts in its own generation and in the next ten: for ten generations at least, and less than eleven.
 use Rattle.std.specs.Prelude.{◌≡◌, ◌<◌, ◌≤◌, ℕ, ◌+◌, ◌-◌, ◌*◌, ◌/◌, ◌^◌, max, nat_le, nat_eq, if◌then◌else◌, ◌&&◌, Bool, List, [], ◌∷◌, ℤ, pos, neg_ℤ, nat_abs, ◌+ℤ◌, int_le}
 use Rattle.tower_base.specs.declared.service.Fraction.{Fraction}
 use Rattle.tower_retry.specs.declared.retry.budget.steps.Amount.{Amount}
@@ -28,7 +28,7 @@ pub record Fits (ttl min_per_sec : ℕ) (fraction : Fraction) : Type 0 where
 
 -- The amounts of a deposit and of a withdrawal, if `requests` successes pay for `retries` retries. Amounts are whole numbers. So up to one retry for
 -- each success a deposit is 1 and a withdrawal is as many deposits as a retry costs; above that a deposit is 1000 and a withdrawal a part of
--- it. If successes pay for none, a deposit is 0, and withdrawals of 1 are covered by the reserve alone.
+-- it. Both are rounded down. If successes pay for none, a deposit is 0, and withdrawals of 1 are covered by the reserve alone.
 abbrev pub deposit_of : ℕ → ℕ → ℕ
 deposit_of retries requests = if nat_eq retries 0 then 0 else (if nat_le retries requests then 1 else 1000)
 
@@ -83,7 +83,7 @@ balance ledger = pos ledger.terms.reserve +ℤ total ledger.generation ledger.am
 abbrev pub IsExact : Ledger → Type 0
 IsExact ledger = ledger.terms.reserve + size ledger.generation ledger.amounts < 2 ^ 127
 
--- A withdrawal is allowed exactly if the balance reaches its amount, which is then taken. (If sums aren't exact, it may be allowed or not.)
+-- `made`: a withdrawal is allowed exactly if the balance reaches its amount, which is then taken. (If sums aren't exact, it may be allowed or not.)
 pub record Withdraws (old : Ledger) (allowed : Bool) (new : Ledger) : Type 0 where
   pub made : IsExact old → allowed ≡ int_le (pos old.terms.withdrawal) (balance old)
   pub after : new ≡ (if allowed then added old (neg_ℤ (pos old.terms.withdrawal)) else old)

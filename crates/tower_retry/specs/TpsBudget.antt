@@ -1,5 +1,5 @@
--- The machine of a `TpsBudget`: its steps at its latch. The latch is a share of a core that makes the steps of Budget.antt, and `gave latch step
--- reply` says that the core made this step with this reply.
+-- The machine of a `TpsBudget`: its steps at its latch, which is a share of a core that makes the steps of Budget.antt. `gave latch step reply` says
+-- that the latch returned this reply to this step, which it had in a run of such a core.
 use Rattle.std.specs.Prelude.{◌≡◌, Bool, Result, Ok}
 use Rattle.std.specs.declared.alloc.AllocError.{AllocError}
 use Rattle.tower_base.specs.declared.service.Clock.{Ghosts as ClockOf}

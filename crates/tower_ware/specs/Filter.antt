@@ -31,7 +31,7 @@ response_future_needs needs (Response f) source = needs f source
 response_future_needs needs (Refusal p) source = ⊥
 response_future_needs needs Answered source = ⊥
 
--- The future of an `AsyncFilter` may be polled if its check may be and the service beside the check is ready, or if its response may be.
+-- The future of an `AsyncFilter` may be polled if its check may be and the service beside the check is sound and ready, or if its response may be.
 -- After an answer it still holds the check or the response that it polled last, whose own rule decides whether it may be polled again.
 abbrev pub AsyncResponseFutureCanPoll : {S Q A E G C F : Type 0} → ServiceOf S Q A E G → (C → Type 0) → (F → Type 0) → AsyncState C S F → Type 0
 AsyncResponseFutureCanPoll s check response (Check c service) = check c × s.sound service × s.ready service
@@ -52,8 +52,9 @@ pub record Polled {S Q A E F U P : Type 0} (s : ServiceOf S Q A E F)
   pub answers : answer ≡ answered Inner inner
   pub same : new.predicate ≡ old.predicate
 
--- A call: the predicate is called once. If it accepts the request, which it may change, the inner service, which is ready, is called with it. If
--- it rejects the request, the future holds its error, and the inner service isn't called.
+-- A call: the predicate is called once; `checked` is its own relation between its old value, the request, its result and its new value. If it
+-- accepts the request, which it may change, the inner service, which is ready, is called with it. If it rejects the request, the future holds its
+-- error, and the inner service isn't called.
 abbrev pub FilterCalled : {S Q A E F U R P : Type 0} → ServiceOf S Q A E F → PredicateOf U R Q P → FilterView S U → R → State F P → FilterView S U → Type 0
 FilterCalled {Q = Q} s u old request (Response future) new = (inside : Q) × u.checked old.predicate request (Ok inside) new.predicate
     × s.ready old.inner × s.called old.inner inside future new.inner
@@ -61,7 +62,7 @@ FilterCalled s u old request (Refusal p) new = u.checked old.predicate request (
 FilterCalled s u old request Answered new = ⊥
 
 -- A call of an `AsyncFilter`: the service that was polled goes into the future, a clone of it stays, and the predicate is called, which returns
--- the check. If cloning fails, nothing changes.
+-- the check (`asked`). If cloning fails, nothing changes.
 abbrev pub AsyncFilterCalled : {S Q A E F U R P C : Type 0} → ServiceOf S Q A E F → (S → S → Type 0) → AsyncPredicateOf U R Q P C
     → FilterView S U → R → AsyncState C S F → FilterView S U → Type 0
 AsyncFilterCalled s is_clone u old request (Check check service) new =

@@ -227,7 +227,7 @@ impl<K: Eq + Hash + Clone + Drop, S: Service<Req>, Req> ReadyCache<K, S, Req> {
     }
 
     /// Polls each pending endpoint once, longest waiting first, and drops the cancelled ones without
-    /// polling them.
+    /// polling them, until one fails or finds no room.
     ///
     /// An endpoint that is ready goes to the end of the ready ones, or takes the index of an older one
     /// of its key, which is dropped. An endpoint that fails leaves the cache, and the poll stops with

@@ -25,9 +25,10 @@ impl<L: Latch<BudgetCore>, C> Model for TpsBudget<L, C> {
 }
 
 impl<R: Wait + Copy, C: Clock> TpsBudget<Guarded<BudgetCore, R>, C> {
-    /// Creates a budget. A deposit counts for `ttl` nanoseconds. The reserve covers `min_per_sec` retries
-    /// for each second of `ttl`; besides it the fraction `retries` of the requests is allowed. Requires
-    /// what `fits` tests. Reads the clock once.
+    /// Creates a budget. A deposit counts for ten windows at least and less than eleven, each a tenth
+    /// of `ttl` nanoseconds, rounded down. The reserve covers `min_per_sec` retries for each second of
+    /// `ttl`; besides it the fraction `retries` of the requests is allowed. Requires what `fits` tests.
+    /// Reads the clock once.
     ///
     /// Returns an error and drops the clock if allocating the core fails.
     pub fn new(
