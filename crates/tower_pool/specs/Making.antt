@@ -7,7 +7,7 @@ use Rattle.tower_pool.specs.declared.buffer.error.Error.{Error}
 use Rattle.tower_pool.specs.declared.buffer.error.Error.TheVariants.{Memory as NoMemory, NotSpawned}
 use Rattle.tower_pool.specs.declared.buffer.seat.Seat.TheVariants.{Away}
 
--- a `Buffer` that has no place and waits for none
+-- A `Buffer` that has no place and waits for none. It keeps no share of the latch for a response either.
 abbrev pub away : {L : Type 0} → L → BufferView L
 away latch = record { latch = latch; seat = Away; share = None }
 

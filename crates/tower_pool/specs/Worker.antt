@@ -11,7 +11,7 @@ use Rattle.tower_pool.specs.declared.buffer.mail.MailStep.TheVariants.{Take, Liv
 use Rattle.tower_pool.specs.declared.buffer.mail.MailReply.{MailReply}
 use Rattle.tower_pool.specs.declared.buffer.mail.MailReply.TheVariants.{Message, Cleared, Empty, End, Truth, Unknown}
 
--- a `Worker`: its share of the mail, the message that it keeps while the service is pending, and whether the service has failed
+-- a `Worker`: its share of the mail, its service, the message that it keeps while the service is pending, and whether the service has failed
 pub record WorkerView (L S Q : Type 0) : Type 0 where
   pub latch : L
   pub service : S

@@ -34,7 +34,7 @@ writes core = core.slots.writes.count
 abbrev pub kept_balance : BudgetCore → ℤ
 kept_balance core = saturate_signed w128 (kept_sum (pos core.terms.reserve) core.slots.index core.slots.amounts.items 10 +ℤ core.present)
 
--- Whatever the gaps between its steps, what a core keeps is the sum of the machine's amounts that count.
+-- Whatever the gaps between its steps, what a core keeps is the sum of the machine's amounts that count, if that is exact.
 abbrev pub SumsKept : Type 0
 SumsKept = (old new : BudgetCore) (served : List (BudgetStep × BudgetReply)) (plain : Ledger) → Serves (StepsAs StandsFor Steps) old served new
     → StandsFor old plain → (next : Ledger) × Serves Steps plain served next × (IsExact next → kept_balance new ≡ balance next)

@@ -22,7 +22,7 @@ pub record RetryView (P S : Type 0) : Type 0 where
 abbrev pub ResponseFutureView : (P S Q F W : Type 0) → Type 0
 ResponseFutureView P S Q F W = Option (Attempts P S Q F W)
 
--- P holds, unless there is an answer.
+-- P holds, unless there is an output.
 abbrev pub Unanswered : {X : Type 0} → Option (Poll X) → Type 0 → Type 0
 Unanswered None P = P
 Unanswered (Some Pending) P = P

@@ -151,7 +151,7 @@ where
         }
     }
 
-    // Calls the service, and gives the future to the response.
+    // Calls the service, and gives the future to the mail.
     fn hand_on(&mut self, id: u64, request: Request)
         requires sound { S.sound self.old.service }
         requires ready { S.ready self.old.service }

@@ -17,8 +17,8 @@ type Endpoint<K, S> = (K, S, bool);
 
 /// Pending endpoints, longest waiting first, and a place for each key. All but the last are stored in a
 /// slab. A key's place names the key's endpoint in the slab that isn't cancelled, if there is one. The
-/// last may be stored beside the slab, with whether it is cancelled. No call searches. The next poll
-/// drops a cancelled endpoint without polling it.
+/// last may be stored beside the slab, with whether it is cancelled. No call searches. A poll
+/// that comes to a cancelled endpoint drops it without polling it.
 #[derive(Drop)]
 pub(crate) struct Pending<K: Eq + Hash, S> {
     entries: Links<(K, S)>,

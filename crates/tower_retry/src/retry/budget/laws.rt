@@ -9,8 +9,8 @@ ghost use Rattle.tower_retry.specs.BudgetWindows.{CountsForTenWindows};
 /// the clock goes back.
 ///
 /// Whatever a `BudgetCore` serves is a run of its machine, and what it keeps is the sum of the amounts
-/// that count. In the history of a budget that ran under a log, each withdrawal is decided by the sum of
-/// the entries before it. While readings never go back, a deposit counts at every moment up to ten
+/// that count, as long as such sums are exact in 128 bits. In the history of a budget that ran under a
+/// log, each withdrawal is then decided by the sum of the entries before it. While readings never go back, a deposit counts at every moment up to ten
 /// windows after it, and at none from eleven windows on.
 pub fn law()
     ensures follows { IsRun StandsFor Steps }

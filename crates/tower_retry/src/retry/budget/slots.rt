@@ -29,7 +29,8 @@ impl Slots {
     }
 
     /// Writes the amount of the present generation to the slot at the index, and clears the slots of the
-    /// generations between that one and the new one. The slot at the new index is unchanged.
+    /// generations between that one and the new one, at most all ten. The slot at the new index then has
+    /// the amount of ten generations before the new one.
     pub fn advance(&mut self, present: i128, generations: u64)
         requires { 0 < generations }
         ensures moves { Moves generations present self.old.index self.old.amounts.items self.new.index self.new.amounts.items }

@@ -10,7 +10,7 @@ use std::sync::Wait;
 use tower_base::service::{Clock, Fraction};
 use tower_latch::{Guarded, Latch};
 
-/// A budget that allows a number of retries a second and, besides, a fraction of the requests: the Rust's
+/// A budget that allows a number of retries a second and, besides, a fraction of the successes: the Rust's
 /// `tower::retry::budget::TpsBudget`. Its clones share one core.
 #[derive(Drop)]
 pub struct TpsBudget<L: Latch<BudgetCore>, C> {
@@ -27,7 +27,7 @@ impl<L: Latch<BudgetCore>, C> Model for TpsBudget<L, C> {
 impl<R: Wait + Copy, C: Clock> TpsBudget<Guarded<BudgetCore, R>, C> {
     /// Creates a budget. A deposit counts for ten windows at least and less than eleven, each a tenth
     /// of `ttl` nanoseconds, rounded down. The reserve covers `min_per_sec` retries for each second of
-    /// `ttl`; besides it the fraction `retries` of the requests is allowed. Requires what `fits` tests.
+    /// `ttl`; besides it the fraction `retries` of the successes is allowed. Requires what `fits` tests.
     /// Reads the clock once.
     ///
     /// Returns an error and drops the clock if allocating the core fails.
