@@ -93,29 +93,9 @@ impl<C: Core, R: Wait + Copy> Guarded<C, R> {
     {
         let (found, mut seat) = self.shared.table.shared.swap_new_seat::<Takes>(0, 1);
         if found != 0 {
-            self.lock_late(&mut seat);
+            self.shared.lock_late(self.rt, &mut seat);
         }
         seat
-    }
-
-    // Waits for the core, which another holder has.
-    #[cold]
-    #[inline(never)]
-    fn lock_late(&self, seat: &mut Seat<C>)
-        requires free { seat.old.me ≡ (seat.old.me.0, []) }
-        requires without { seat.old.me.0.has ≡ false }
-        requires size { seat.old.me.0.size ≡ self.now.size }
-        requires its { seat.old.table_id ≡ self.now.table }
-        ensures has { Holds (λ k. C.size k.core) (λ k. C.out k.core) seat.old.me.0 seat.new.me }
-        ensures its { seat.new.table_id ≡ seat.old.table_id }
-    {
-        for _ in self.rt.forever() {
-            if self.shared.table.shared.swap::<Takes>(seat, 0, 2) == 0 {
-                return;
-            }
-            self.shared.table.shared.park(&self.rt, 0, 2);
-        }
-        unreachable!()
     }
 
     // Locks, and takes the core for the token's holder.
@@ -128,16 +108,14 @@ impl<C: Core, R: Wait + Copy> Guarded<C, R> {
     {
         let mut seat = token.into_seat::<C>();
         if self.shared.table.shared.swap::<Takes>(&mut seat, 0, 1) != 0 {
-            self.lock_late(&mut seat);
+            self.shared.lock_late(self.rt, &mut seat);
         }
         seat
     }
 
-    // Makes one step, with wakers beside the core. They are woken once the lock is free, unless the
-    // reply waits.
-    #[cold]
-    #[inline(never)]
-    fn step_and_wake(&self, mut seat: Seat<C>, step: C::Step) -> (C::Reply, Token)
+    // Makes one step, with wakers beside the core.
+    #[inline(always)]
+    fn step_and_wake(&self, seat: Seat<C>, step: C::Step) -> (C::Reply, Token)
         requires admitted { C.admits step }
         requires paid { (reply : C.Reply) → C.paid step reply ≤ seat.me.0.out }
         requires its { seat.table_id ≡ self.now.table }
@@ -148,7 +126,110 @@ impl<C: Core, R: Wait + Copy> Guarded<C, R> {
         ensures size { size_by result.1.badge.views ≡ seat.me.0.size }
         ensures places { places result.1 + C.paid step result.0 ≡ seat.me.0.out + C.gained result.0 }
     {
-        let (reply, woken) = seat.slot_mut(&self.shared.table.shared, 0).step(step);
+        self.shared.step_and_wake(seat, step)
+    }
+
+    // Makes one step of a task that may wait, with wakers beside the core.
+    #[inline(always)]
+    fn wait_or_wake(&self, seat: Seat<C>, step: C::Step, cx: &mut Context<'_>) -> (C::Reply, Token)
+        requires admitted { C.admits step }
+        requires paid { (reply : C.Reply) → C.paid step reply ≤ seat.me.0.out }
+        requires its { seat.table_id ≡ self.now.table }
+        requires has { seat.me.0.has ≡ true }
+        requires core { HasCore (λ k. C.size k.core) (λ k. C.out k.core) self.now.size seat.me }
+        ensures came { Came C.opens C.steps C.size self.now.size step result.0 }
+        ensures armed { C.is_wait result.0 ≡ true → IsArmed cx.new }
+        ensures keeps { Keeps cx.old cx.new }
+        ensures its { result.1.badge.table_id ≡ self.now.table }
+        ensures size { size_by result.1.badge.views ≡ seat.me.0.size }
+        ensures places { places result.1 + C.paid step result.0 ≡ seat.me.0.out + C.gained result.0 }
+    {
+        self.shared.wait_or_wake(seat, step, self.share, cx)
+    }
+
+    // Puts the core back.
+    #[inline(always)]
+    fn free(&self, seat: Seat<C>) -> Token
+        requires its { seat.table_id ≡ self.now.table }
+        requires has { seat.me.0.has ≡ true }
+        requires core { MayFree (λ k. C.size k.core) (λ k. C.out k.core) self.now.size seat.me }
+        ensures its { result.badge.table_id ≡ self.now.table }
+        ensures left { LeavesBadge (λ k. C.out k.core) seat.me result.badge.views }
+    {
+        self.shared.free(seat)
+    }
+}
+
+// What may wait or wake takes the shared part alone: a reference to the `Guarded` itself would keep the
+// value that has it in memory.
+impl<C: Core> Shared<C> {
+    // Waits for the core, which another holder has.
+    #[cold]
+    #[inline(never)]
+    fn lock_late<R: Wait + Copy>(&self, rt: R, seat: &mut Seat<C>)
+        requires free { seat.old.me ≡ (seat.old.me.0, []) }
+        requires without { seat.old.me.0.has ≡ false }
+        requires size { seat.old.me.0.size ≡ self.now.table.shared.key }
+        requires its { seat.old.table_id ≡ self.now.table.shared.table_id }
+        ensures has { Holds (λ k. C.size k.core) (λ k. C.out k.core) seat.old.me.0 seat.new.me }
+        ensures its { seat.new.table_id ≡ seat.old.table_id }
+    {
+        for _ in rt.forever() {
+            if self.table.shared.swap::<Takes>(seat, 0, 2) == 0 {
+                return;
+            }
+            self.table.shared.park(&rt, 0, 2);
+        }
+        unreachable!()
+    }
+
+    // Makes one step, with wakers beside the core. They are woken once the lock is free, unless the
+    // reply waits.
+    #[cold]
+    #[inline(never)]
+    fn step_and_wake(&self, mut seat: Seat<C>, step: C::Step) -> (C::Reply, Token)
+        requires admitted { C.admits step }
+        requires paid { (reply : C.Reply) → C.paid step reply ≤ seat.me.0.out }
+        requires its { seat.table_id ≡ self.now.table.shared.table_id }
+        requires has { seat.me.0.has ≡ true }
+        requires core { HasCore (λ k. C.size k.core) (λ k. C.out k.core) self.now.table.shared.key seat.me }
+        ensures came { Came C.opens C.steps C.size self.now.table.shared.key step result.0 }
+        ensures its { result.1.badge.table_id ≡ self.now.table.shared.table_id }
+        ensures size { size_by result.1.badge.views ≡ seat.me.0.size }
+        ensures places { places result.1 + C.paid step result.0 ≡ seat.me.0.out + C.gained result.0 }
+    {
+        let (reply, woken) = seat.slot_mut(&self.table.shared, 0).step(step);
+        let token = self.free(seat);
+        if let Some(woken) = woken {
+            woken.wake(&token);
+        }
+        (reply, token)
+    }
+
+    // Makes one step of a task that may wait, with wakers beside the core. If the reply waits, keeps the
+    // waker of the task at this share; otherwise the wakers are woken once the lock is free.
+    #[inline(always)]
+    fn wait_or_wake(
+        &self,
+        mut seat: Seat<C>,
+        step: C::Step,
+        share: u64,
+        cx: &mut Context<'_>,
+    ) -> (C::Reply, Token)
+        requires admitted { C.admits step }
+        requires paid { (reply : C.Reply) → C.paid step reply ≤ seat.me.0.out }
+        requires its { seat.table_id ≡ self.now.table.shared.table_id }
+        requires has { seat.me.0.has ≡ true }
+        requires core { HasCore (λ k. C.size k.core) (λ k. C.out k.core) self.now.table.shared.key seat.me }
+        ensures came { Came C.opens C.steps C.size self.now.table.shared.key step result.0 }
+        ensures armed { C.is_wait result.0 ≡ true → IsArmed cx.new }
+        ensures keeps { Keeps cx.old cx.new }
+        ensures its { result.1.badge.table_id ≡ self.now.table.shared.table_id }
+        ensures size { size_by result.1.badge.views ≡ seat.me.0.size }
+        ensures places { places result.1 + C.paid step result.0 ≡ seat.me.0.out + C.gained result.0 }
+    {
+        let kept = seat.slot_mut(&self.table.shared, 0);
+        let (reply, woken) = kept.wait(step, share, &self.source, cx);
         let token = self.free(seat);
         if let Some(woken) = woken {
             woken.wake(&token);
@@ -159,14 +240,14 @@ impl<C: Core, R: Wait + Copy> Guarded<C, R> {
     // Puts the core back, and wakes a thread that waits for it, if there is one.
     #[inline(always)]
     fn free(&self, mut seat: Seat<C>) -> Token
-        requires its { seat.table_id ≡ self.now.table }
+        requires its { seat.table_id ≡ self.now.table.shared.table_id }
         requires has { seat.me.0.has ≡ true }
-        requires core { MayFree (λ k. C.size k.core) (λ k. C.out k.core) self.now.size seat.me }
-        ensures its { result.badge.table_id ≡ self.now.table }
+        requires core { MayFree (λ k. C.size k.core) (λ k. C.out k.core) self.now.table.shared.key seat.me }
+        ensures its { result.badge.table_id ≡ self.now.table.shared.table_id }
         ensures left { LeavesBadge (λ k. C.out k.core) seat.me result.badge.views }
     {
-        if self.shared.table.shared.swap::<Frees>(&mut seat, 0, 0) == 2 {
-            self.shared.table.shared.wake_one(0);
+        if self.table.shared.swap::<Frees>(&mut seat, 0, 0) == 2 {
+            self.table.shared.wake_one(0);
         }
         Token {
             badge: seat.into_badge(),
@@ -320,12 +401,7 @@ impl<C: Core, R: Wait + Copy> Latch<C> for Guarded<C, R> {
             let reply = kept.wait_alone(step, self.share, &self.shared.source, cx);
             return (reply, self.free(seat));
         }
-        let (reply, woken) = kept.wait(step, self.share, &self.shared.source, cx);
-        let token = self.free(seat);
-        if let Some(woken) = woken {
-            woken.wake(&token);
-        }
-        (reply, token)
+        self.wait_or_wake(seat, step, cx)
     }
 
     #[inline(always)]

@@ -1,16 +1,7 @@
-use Rattle.std.proofs.Common.{ap, sym, ◌∙◌}
-use Rattle.tower_latch.proofs.CoreTableMoves.{has_slot, may_free, after_step}
+use Rattle.std.proofs.Common.{ap, sym, subst, ◌∙◌}
+use Rattle.tower_latch.specs.CoreTable.{HasCore}
 use Rattle.tower_latch.proofs.guarded.Guarded.step_and_wake.Goals as goal
 
-pub slot_mut-requires : goal.slot_mut-requires
-slot_mut-requires g c =
-    let h = c.requires.core in
-    (c.requires.its ∙ ap (λ v. v.table) (sym c.self.view_is) ∙ sym (ap (λ t. t.table.shared.table_id) c.deref.ensures), (h.0, has_slot (λ k. g.C.Core.size k.core) (λ k. g.C.Core.out k.core) _ _ h.1))
-
-pub free-token-requires-clause-core : goal.free-token-requires-clause-core
-free-token-requires-clause-core g c =
-    may_free (λ k. g.C.Core.size k.core) (λ k. g.C.Core.out k.core) _ c.args.seat.me c.slot_mut.result.now c.step-reply.new.self _ _ c.requires.core c.slot_mut.ensures.value c.step-reply.ensures.counted (c.requires.paid c.step-reply.result.0)
-
-pub returns-clause-places : goal.returns-clause-places
-returns-clause-places g c =
-    after_step (λ k. g.C.Core.size k.core) (λ k. g.C.Core.out k.core) _ c.args.seat.me c.slot_mut.result.now c.step-reply.new.self _ _ _ c.requires.core c.slot_mut.ensures.value c.step-reply.ensures.counted (c.requires.paid c.step-reply.result.0) c.free-token.ensures.left
+pub step_and_wake-requires-clause-core : goal.step_and_wake-requires-clause-core
+step_and_wake-requires-clause-core g c =
+    subst (λ n. HasCore (λ k. g.C.Core.size k.core) (λ k. g.C.Core.out k.core) n c.args.seat.me) (sym (ap (λ t. t.table.shared.key) c.deref.ensures ∙ ap (λ v. v.size) c.self.view_is)) c.requires.core

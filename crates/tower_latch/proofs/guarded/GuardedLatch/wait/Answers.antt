@@ -1,6 +1,6 @@
 use Rattle.std.proofs.Common.{refl, arith, ap, sym, ◌∙◌}
 use Rattle.tower_latch.specs.CoreTable.{fresh}
-use Rattle.tower_latch.proofs.CoreTableMoves.{has_slot, has_core, may_free, after_step}
+use Rattle.tower_latch.proofs.CoreTableMoves.{has_slot, has_core, still, may_free, after_step}
 use Rattle.tower_latch.proofs.guarded.GuardedLatch.wait.Goals as goal
 
 pub slot_mut-kept-requires : goal.slot_mut-kept-requires
@@ -14,11 +14,13 @@ free-requires-clause-core g c =
     may_free (λ k. g.C.Core.size k.core) (λ k. g.C.Core.out k.core) _ c.lock-seat.result.me c.slot_mut-kept.result.now c.wait_alone-reply.new.self _ _ h c.slot_mut-kept.ensures.value c.wait_alone-reply.ensures.counted
     (omega (arith, c.requires.unpaid c.wait_alone-reply.result))
 
-pub free-token-requires-clause-core : goal.free-token-requires-clause-core
-free-token-requires-clause-core g c =
+pub wait_or_wake-requires-clause-core : goal.wait_or_wake-requires-clause-core
+wait_or_wake-requires-clause-core g c =
     let h = has_core (λ k. g.C.Core.size k.core) (λ k. g.C.Core.out k.core) _ (fresh c.args.self.now.size) c.lock-seat.result.me refl c.lock-seat.ensures.has in
-    may_free (λ k. g.C.Core.size k.core) (λ k. g.C.Core.out k.core) _ c.lock-seat.result.me c.slot_mut-kept.result.now c.wait-reply.new.self _ _ h c.slot_mut-kept.ensures.value c.wait-reply.ensures.counted
-    (omega (arith, c.requires.unpaid c.wait-reply.result.0))
+    still (λ k. g.C.Core.size k.core) (λ k. g.C.Core.out k.core) _ c.lock-seat.result.me c.slot_mut-kept.result.now h c.slot_mut-kept.ensures.value
+
+pub wait_or_wake-requires-clause-paid : goal.wait_or_wake-requires-clause-paid
+wait_or_wake-requires-clause-paid g c = λ reply. omega (arith, c.requires.unpaid reply)
 
 pub returns-then-is_alone-clause-places : goal.returns-then-is_alone-clause-places
 returns-then-is_alone-clause-places g c =
@@ -30,8 +32,5 @@ returns-then-is_alone-clause-places g c =
 
 pub returns-clause-places : goal.returns-clause-places
 returns-clause-places g c =
-    let h = has_core (λ k. g.C.Core.size k.core) (λ k. g.C.Core.out k.core) _ (fresh c.args.self.now.size) c.lock-seat.result.me refl c.lock-seat.ensures.has in
     let out = ap (λ m. m.0.out) c.lock-seat.ensures.has.1 in
-    let none = c.requires.unpaid c.wait-reply.result.0 in
-    let after = after_step (λ k. g.C.Core.size k.core) (λ k. g.C.Core.out k.core) _ c.lock-seat.result.me c.slot_mut-kept.result.now c.wait-reply.new.self _ _ _ h c.slot_mut-kept.ensures.value c.wait-reply.ensures.counted (omega (arith, none)) c.free-token.ensures.left in
-    omega (arith, after, out, none)
+    omega (arith, c.wait_or_wake.ensures.places, out, c.requires.unpaid c.wait_or_wake.result.0)

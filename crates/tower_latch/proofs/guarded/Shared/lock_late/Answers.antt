@@ -3,20 +3,20 @@ use Rattle.atomic_table.specs.Table.{Allows, step}
 use mathlib.Core.Option.{none}
 use Rattle.tower_latch.specs.CoreTable.{Agree, Taken, Holds}
 use Rattle.tower_latch.proofs.CoreTableMoves.{takes_at}
-use Rattle.tower_latch.proofs.guarded.Guarded.lock_late.Goals as goal
+use Rattle.tower_latch.proofs.guarded.Shared.lock_late.Goals as goal
 
 pub swap-requires : goal.swap-requires
 swap-requires g c =
-    let place = c.deref.result.now.table.shared in
-    let room : 0 < place.table_id.words = omega (arith, c.deref.result.now.one.0) in
+    let place = c.args.self.now.table.shared in
+    let room : 0 < place.table_id.words = omega (arith, c.args.self.now.one.0) in
     let same : c.loop.seat.me ≡ c.args.seat.now.me = c.loop.invariant.same in
-    let tied : c.loop.seat.table_id ≡ place.table_id = c.loop.invariant.its ∙ c.requires.its ∙ ap (λ v. v.table) (sym c.self.view_is) ∙ sym (ap (λ t. t.table.shared.table_id) c.deref.ensures) in
+    let tied : c.loop.seat.table_id ≡ place.table_id = c.loop.invariant.its ∙ c.requires.its in
     let free : c.loop.seat.me ≡ (c.loop.seat.me.0, []) = cc (same, c.requires.free) in
     let without : c.loop.seat.me.0.has ≡ false = cc (same, c.requires.without) in
-    let size : c.loop.seat.me.0.size ≡ place.key = ap (λ m. m.0.size) same ∙ c.requires.size ∙ ap (λ v. v.size) (sym c.self.view_is) ∙ sym (ap (λ t. t.table.shared.key) c.deref.ensures) in (
+    let size : c.loop.seat.me.0.size ≡ place.key = ap (λ m. m.0.size) same ∙ c.requires.size in (
       tied,
       room,
-      subst (λ n. Allows (Agree (λ k. g.C.Core.size k.core) (λ k. g.C.Core.out k.core) place.key) n c.loop.seat.id c.loop.seat.me 0 (λ _. 2) (Taken (λ k. g.C.Core.size k.core) (λ k. g.C.Core.out k.core) (step n 0 2 0 none) c.loop.seat.me)) (sym c.deref.result.now.one.1)
+      subst (λ n. Allows (Agree (λ k. g.C.Core.size k.core) (λ k. g.C.Core.out k.core) place.key) n c.loop.seat.id c.loop.seat.me 0 (λ _. 2) (Taken (λ k. g.C.Core.size k.core) (λ k. g.C.Core.out k.core) (step n 0 2 0 none) c.loop.seat.me)) (sym c.args.self.now.one.1)
           (takes_at (λ k. g.C.Core.size k.core) (λ k. g.C.Core.out k.core) place.key c.loop.seat.id 2 c.loop.seat.me.0 c.loop.seat.me free without size (λ e. omega (arith, e))),
     )
 

@@ -1,5 +1,5 @@
 use Rattle.std.proofs.Common.{◌≡◌}
-use Rattle.tower_latch.proofs.guarded.Guarded.lock_late.Given as goal
+use Rattle.tower_latch.proofs.guarded.Shared.lock_late.Given as goal
 
 abbrev pub invariant-loop : goal.invariant-loop
 invariant-loop g l = record {
