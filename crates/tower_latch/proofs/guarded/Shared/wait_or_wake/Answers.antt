@@ -1,4 +1,3 @@
-use Rattle.std.proofs.Common.{ap, sym, ◌∙◌}
 use Rattle.tower_latch.proofs.CoreTableMoves.{has_slot, may_free, after_step}
 use Rattle.tower_latch.proofs.guarded.Shared.wait_or_wake.Goals as goal
 
