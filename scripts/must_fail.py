@@ -287,8 +287,8 @@ class Tried:
         return not ran.returncode
 
     def is_built(self):
-        """Whether the library was proved and built as its files stand."""
-        return not self.crate.is_program and rt.rtlib.text_of(f"{self.crate.folder}/out/rlib/stamp") == self.crate.stamp()
+        """Whether the library was proved and built, by `rt ci` or by this run."""
+        return not self.crate.is_program and bool(functions_of(self.crate))
 
     def try_together(self, edits):
         """Returns the edits to be tried again."""
