@@ -11,30 +11,30 @@ sys.dont_write_bytecode = True  # no folder of its own in the repository
 from must_fail import without_generics
 
 TOP = os.path.dirname(os.path.dirname(os.path.abspath(__file__)))
-LIBRARY = ("tower_base", "tower_util", "tower_ware", "tower_limit", "tower_retry", "tower_pool", "tower")
+LIBRARY = ("tower_base", "tower_latch", "tower_util", "tower_ware", "tower_limit", "tower_retry", "tower_pool", "tower")
 # What only the library itself calls.
 PRIVATE = ("Waiters", "Cells", "Held", "Slots", "Bag", "Line", "Spare", "Tally", "Mailbox", "R")
 
 MADE = """
-drive drive_with_state        tests_base/src/drive.rt                  drive(alloc, cx, service, events,
+drive drive_with_state        tests_ware/src/base/drive.rt             drive(alloc, cx, service, events,
 block_on_ready                tests_util/src/waits.rt                  block_on_ready::<
 block_on_call                 tests_util/src/waits.rt                  block_on_call(
 block_on_each                 tests_util/src/waits.rt                  block_on_each(
-Guarded::new Guarded::share   scripted_limit/data/concurrency_limit.script  locked_limit 1 global two
-Logged::open Logged::step LogTable::new  tests_refused/src/logged.rt  fn ample_growths
-Identity::layer               tests_base/src/layer.rt                  Stack::new(Identity::new(), Identity::default())
-Stack::layer                  tests_base/src/layer.rt                  ten_inside.layer(4)
-LayerFn::layer                tests_base/src/layer.rt                  layer_fn(ten).clone()?.layer(4)
-Links::reserve                tests_base/src/links.rt                  list.reserve(5)
-HasherRng::clone              tests_base/src/rng.rt                    rng.clone()
-Shared::call                  scripted_util/data/make.script           call 1         => call 0                    | a cloned a2
-MapRequestLayer::layer        scripted_util/data/maps.script           map_request layer
-MapResponseLayer::layer       scripted_util/data/maps.script           map_response layer
-MapErrLayer::layer            scripted_util/data/maps.script           map_err layer
-MapResultLayer::layer         scripted_util/data/maps.script           map_result layer
-MapFutureLayer::layer         scripted_util/data/plain.script          plain map_future layered
-ThenLayer::layer              scripted_util/data/chains.script         then 0 layer
-AndThenLayer::layer           scripted_util/data/chains.script         and_then 0 layer
+Guarded::new Guarded::share   scripted_ware/data/concurrency_limit.script  locked_limit 1 global two
+Logged::open Logged::step LogTable::new  tests_limit/src/refused/logged.rt  fn ample_growths
+Identity::layer               tests_ware/src/base/layer.rt             Stack::new(Identity::new(), Identity::default())
+Stack::layer                  tests_ware/src/base/layer.rt             ten_inside.layer(4)
+LayerFn::layer                tests_ware/src/base/layer.rt             layer_fn(ten).clone()?.layer(4)
+Links::reserve                tests_ware/src/base/links.rt             list.reserve(5)
+HasherRng::clone              tests_ware/src/base/rng.rt               rng.clone()
+Shared::call                  scripted_ware/data/make.script           call 1         => call 0                    | a cloned a2
+MapRequestLayer::layer        scripted_ware/data/maps.script           map_request layer
+MapResponseLayer::layer       scripted_ware/data/maps.script           map_response layer
+MapErrLayer::layer            scripted_ware/data/maps.script           map_err layer
+MapResultLayer::layer         scripted_ware/data/maps.script           map_result layer
+MapFutureLayer::layer         scripted_ware/data/plain.script          plain map_future layered
+ThenLayer::layer              scripted_ware/data/chains.script         then 0 layer
+AndThenLayer::layer           scripted_ware/data/chains.script         and_then 0 layer
 Either::layer                 tests_util/src/either.rt                 option_layer(Some(times_ten)).layer(4)
 CallAll::poll_next            scripted_ware/data/call_all.script       call_all 3
 CallAllUnordered::poll_next   scripted_ware/data/call_all.script       call_all_unordered 3
@@ -48,61 +48,61 @@ LoadShedLayer::layer          scripted_ware/data/load_shed.script      load_shed
 Steer::new Steer::clone       scripted_ware/data/steer.script          clone          => b
 Timeout::clone                scripted_ware/data/timeout.script        clone          => b
 TimeoutLayer::layer TimeoutLayer::clone  scripted_ware/data/timeout.script  timeout 5 layer
-LineCore::step WaitQueue::wait  tests_refused/src/slabs.rt               fn ample_joins
+LineCore::step WaitQueue::wait  tests_limit/src/refused/slabs.rt       fn ample_joins
 Semaphore::new                tests_limit/src/concurrency.rt           Semaphore::new(rt, rt.alloc(), usize::MAX)
-Semaphore::share              scripted_limit/data/semaphore.script     share          => dropped
-PollSemaphore::share          scripted_limit/data/semaphore.script     share a        => dropped
-PollSemaphore::poll_acquire   scripted_limit/data/semaphore.script     poll a         => permit 0
-ConcurrencyLimit::new         scripted_limit/data/concurrency_limit.script  locked_limit 0
-ConcurrencyLimit::poll_ready ConcurrencyLimit::clone  scripted_limit/data/permits.script  clone          => b
-ConcurrencyLimitLayer::layer ConcurrencyLimitLayer::clone  scripted_limit/data/concurrency_limit.script  locked_limit 1 layer two
-GlobalConcurrencyLimitLayer::new GlobalConcurrencyLimitLayer::layer GlobalConcurrencyLimitLayer::clone  scripted_limit/data/concurrency_limit.script  locked_limit 1 global two
+Semaphore::share              scripted_ware/data/semaphore.script      share          => dropped
+PollSemaphore::share          scripted_ware/data/semaphore.script      share a        => dropped
+PollSemaphore::poll_acquire   scripted_ware/data/semaphore.script      poll a         => permit 0
+ConcurrencyLimit::new         scripted_ware/data/concurrency_limit.script  locked_limit 0
+ConcurrencyLimit::poll_ready ConcurrencyLimit::clone  scripted_ware/data/permits.script  clone          => b
+ConcurrencyLimitLayer::layer ConcurrencyLimitLayer::clone  scripted_ware/data/concurrency_limit.script  locked_limit 1 layer two
+GlobalConcurrencyLimitLayer::new GlobalConcurrencyLimitLayer::layer GlobalConcurrencyLimitLayer::clone  scripted_ware/data/concurrency_limit.script  locked_limit 1 global two
 RateCore::new                 tests_limit/src/rate.rt                  RateCore::new(rt.alloc(), Rate::new(1, 10))
-RateLimit::new                scripted_limit/data/rate_limit.script    rate_limit 1 
+RateLimit::new                scripted_ware/data/rate_limit.script     rate_limit 1 
 drive_within_rate             tests_limit/src/driven.rt                drive_within_rate(
-RateLimitLayer::layer RateLimitLayer::clone  scripted_limit/data/rate_limit.script  rate_limit 2 10 layer
-HistoCore::step               tests_refused/src/histogram.rt           fn ample_latency
-RotatingHistogram::new        tests_retry/src/histogram.rt             RotatingHistogram::new(
-RotatingHistogram::clone      tests_retry/src/histogram.rt             histogram.clone()?
-PendingRequests::new          tests_limit/src/pending_requests.rt       PendingRequests::new(
-PendingRequests::call         scripted_balance/data/load.script        latch shared; latch stepped Take; s called 1
-PendingRequestsDiscover::poll_discover  tests_refused/src/load.rt      fn ample_counts
+RateLimitLayer::layer RateLimitLayer::clone  scripted_ware/data/rate_limit.script  rate_limit 2 10 layer
+HistoCore::step               tests_limit/src/refused/histogram.rt     fn ample_latency
+RotatingHistogram::new        tests_limit/src/histogram.rt             RotatingHistogram::new(
+RotatingHistogram::clone      tests_limit/src/histogram.rt             histogram.clone()?
+PendingRequests::new          tests_limit/src/pending_requests.rt      PendingRequests::new(
+PendingRequests::call         scripted_pool/data/load.script           latch shared; latch stepped Take; s called 1
+PendingRequestsDiscover::poll_discover  tests_limit/src/refused/load.rt  fn ample_counts
 TpsBudget::new                scripted_retry/data/budget.script        budget 
 TpsBudget::with_clock         scripted_retry/data/budget.script        usual_budget
-TpsBudget::clone              tests_retry/src/budget.rt                budget.clone()?
-BudgetCore::new               tests_retry/src/budget.rt                BudgetCore::new(
+TpsBudget::clone              tests_limit/src/budget.rt                budget.clone()?
+BudgetCore::new               tests_limit/src/budget.rt                BudgetCore::new(
 ExponentialBackoffMaker::make_backoff  scripted_retry/data/backoff.script  make  
 ExponentialBackoffMaker::clone  scripted_retry/data/backoff.script     make of a clone  
 ExponentialBackoff::clone     scripted_retry/data/backoff.script       clone                                       | clock shared; clock dropped
 Retry::call                   scripted_retry/data/retry.script         s called 7; r cloned r1; s cloned s2
 Retry::clone                  scripted_retry/data/retry.script         clone          => b                         | r2 cloned r3; s cloned s4
 RetryLayer::layer RetryLayer::clone  scripted_retry/data/retry.script  retry layer      
-Hedge::new                    scripted_hedge/data/hedge.script         locked_hedge 
-Hedge::new_with_mock_latencies  scripted_hedge/data/hedge.script       locked_hedge 2 1 1 60000000000 seeded
-Hedge::with_latch             scripted_hedge/data/hedge.script         hedge 1 3 unseeded
-Hedge::with_latch_and_mock_latencies  scripted_hedge/data/hedge.script  hedge 10
-PolicyPredicate::clone        scripted_hedge/data/hedge.script         p2 cloned p4
-Latency::call                 scripted_hedge/data/latency.script       n cloned n1; s called 7
-Latency::clone                scripted_hedge/data/latency.script       clone          => b
-Delay::call                   scripted_hedge/data/delay.script         clock read 3; s cloned s1
-MailCore::step                tests_refused/src/slabs.rt               fn ample_places
+Hedge::new                    scripted_retry/data/hedge.script         locked_hedge 
+Hedge::new_with_mock_latencies  scripted_retry/data/hedge.script       locked_hedge 2 1 1 60000000000 seeded
+Hedge::with_latch             scripted_retry/data/hedge.script         hedge 1 3 unseeded
+Hedge::with_latch_and_mock_latencies  scripted_retry/data/hedge.script  hedge 10
+PolicyPredicate::clone        scripted_retry/data/hedge.script         p2 cloned p4
+Latency::call                 scripted_retry/data/latency.script       n cloned n1; s called 7
+Latency::clone                scripted_retry/data/latency.script       clone          => b
+Delay::call                   scripted_retry/data/delay.script         clock read 3; s cloned s1
+MailCore::step                tests_limit/src/refused/slabs.rt         fn ample_places
 Buffer::pair                  scripted_tower/data/buffers.script       buffer_beside_a_stream
 Buffer::new                   tests_buffer/src/making.rt               Buffer::new(rt, rt.alloc(), Echo, 1, &bench)
-Buffer::with_latch            scripted_buffer/data/buffer.script       buffer 1
-Buffer::poll_ready            scripted_buffer/data/buffer.script       poll           => ready                     | Reserve
-Buffer::call                  scripted_buffer/data/buffer.script       call 7         => call 0                    | Send
-Buffer::clone                 scripted_buffer/data/buffer.script       clone          => b                         | Join
+Buffer::with_latch            scripted_pool/data/buffer.script         buffer 1
+Buffer::poll_ready            scripted_pool/data/buffer.script         poll           => ready                     | Reserve
+Buffer::call                  scripted_pool/data/buffer.script         call 7         => call 0                    | Send
+Buffer::clone                 scripted_pool/data/buffer.script         clone          => b                         | Join
 BufferLayer::layer BufferLayer::clone  tests_buffer/src/making.rt      let copy = layer.clone()?;
-ReadyCache::push ReadyCache::poll_pending  scripted_balance/data/one_endpoint.script  push 4 a
-Balance::poll_ready           scripted_balance/data/one_endpoint.script  poll           => ready                     | discovery inserted 4 a
-MakeBalance::call MakeFuture::step  scripted_balance/data/make_balance.script  call 2         => call 0                    | w cloned w1; m called 2
-MakeBalance::clone MakeBalanceLayer::layer MakeBalanceLayer::clone  scripted_balance/data/make_balance.script  clone          => b                         | m cloned m3; w2 cloned w4
+ReadyCache::push ReadyCache::poll_pending  scripted_pool/data/one_endpoint.script  push 4 a
+Balance::poll_ready           scripted_pool/data/one_endpoint.script   poll           => ready                     | discovery inserted 4 a
+MakeBalance::call MakeFuture::step  scripted_pool/data/make_balance.script  call 2         => call 0                    | w cloned w1; m called 2
+MakeBalance::clone MakeBalanceLayer::layer MakeBalanceLayer::clone  scripted_pool/data/make_balance.script  clone          => b                         | m cloned m3; w2 cloned w4
 ServiceBuilder::service       scripted_tower/data/builder.script       no_layers
 ServiceBuilder::service_fn    tests_tower/src/builder.rt               service_fn(
 ServiceBuilder::layer         tests_tower/src/builder.rt               .layer(
-SpawnReady::new               scripted_spawn/data/no_task.script       spawn_ready_layer; readiness pending
-SpawnReady::poll_ready        scripted_spawn/data/spawn_ready.script   s pending; latch shared; Start; spawned; Look
-SpawnReadyLayer::layer SpawnReadyLayer::clone  scripted_spawn/data/spawn_ready.script  spawn_ready_layer cloned
+SpawnReady::new               scripted_retry/data/spawn_ready_no_task.script  spawn_ready_layer; readiness pending
+SpawnReady::poll_ready        scripted_retry/data/spawn_ready.script   s pending; latch shared; Start; spawned; Look
+SpawnReadyLayer::layer SpawnReadyLayer::clone  scripted_retry/data/spawn_ready.script  spawn_ready_layer cloned
 """
 
 

@@ -19,12 +19,12 @@ import sys
 import tempfile
 
 TOP = os.path.dirname(os.path.dirname(os.path.abspath(__file__)))
-# The files of each program, and which of their scripts are played, by the first word.
+# Of each kind of run the program, its files, and which of their scripts are played, by the first word.
 PLAYED = {
-    "scripted_limit": (("permits", "concurrency_limit"), ("concurrency_limit", "concurrency_limit")),
-    "scripted_balance": (("load", "pending_requests"),),
-    "scripted_buffer": (("buffer", "buffer"), ("passes", "buffer"), ("round_a_limit", "buffer_round_a_limit")),
-    "scripted_spawn": (("spawn_ready", "spawn_ready"),),
+    "permits": ("scripted_ware", (("permits", "concurrency_limit"), ("concurrency_limit", "concurrency_limit"))),
+    "loads": ("scripted_pool", (("load", "pending_requests"),)),
+    "mail": ("scripted_pool", (("buffer", "buffer"), ("buffer_passes", "buffer"), ("buffer_round_a_limit", "buffer_round_a_limit"))),
+    "slot": ("scripted_retry", (("spawn_ready", "spawn_ready"),)),
 }
 Line = collections.namedtuple("Line", "asked answer notes")
 
@@ -66,14 +66,14 @@ def names(script, place):
 def variants(kind, script):
     """The runs: what is asked in each, and whether fresh clones are asked at its end. Of a long script only the first and the last response go."""
     asked = [it.asked for it in script]
-    others = {"scripted_buffer": ["worker"], "scripted_spawn": ["task", "ended"]}.get(kind, [])
+    others = {"mail": ["worker"], "slot": ["task", "ended"]}.get(kind, [])
     rest = [f"drop {it}" for it in others]
     for place in range(1, len(script)):
         letters, numbers = names(script, place)
         for word in [*letters, *(numbers if len(numbers) < 8 else [numbers[0], numbers[-1]]), *others]:
             yield [*asked[:place], f"drop {word}", *asked[place:]], False
         handles, responses = [f"drop {it}" for it in letters], [f"drop {it}" for it in numbers]
-        if kind == "scripted_balance":
+        if kind == "loads":
             yield [*asked[:place], *responses, "load", "end"], False
         if len(script) > 60:
             yield [*asked[:place], "end"], False
@@ -81,7 +81,7 @@ def variants(kind, script):
         for first, last in ((handles, responses), (responses, handles)):
             for drops in ([*rest, *first], [*first, *rest], first) if rest else (first,):
                 yield [*asked[:place], *drops, *last, "end"], False
-        if kind == "scripted_buffer" and script[0].asked.startswith("buffer "):
+        if kind == "mail" and script[0].asked.startswith("buffer "):
             yield with_spare(asked, place, letters, responses), True
 
 
@@ -115,13 +115,13 @@ def faults(kind, run, is_fresh):
         elif note.endswith("unready"):
             yield note
     made["s"] += 1
-    made["latch"] += kind != "scripted_buffer"
+    made["latch"] += kind != "mail"
     for name in made.keys() | dropped.keys():
         if made[name] != dropped[name]:
             yield f"{name} was made {made[name]} times and dropped {dropped[name]} times"
     answers = collections.Counter(line.asked for line in run if line.asked.startswith("fut ") and re.match("ok|error", line.answer))
-    yield from (f"{asked} answered {count} times" for asked, count in answers.items() if count > 1 and kind != "scripted_balance")
-    yield from {"scripted_limit": permits, "scripted_balance": loads, "scripted_buffer": mail, "scripted_spawn": slot}[kind](run, notes, is_fresh)
+    yield from (f"{asked} answered {count} times" for asked, count in answers.items() if count > 1 and kind != "loads")
+    yield from {"permits": permits, "loads": loads, "mail": mail, "slot": slot}[kind](run, notes, is_fresh)
 
 
 def permits(run, notes, _):
@@ -199,13 +199,13 @@ def play(program, runs):
 
 def main():
     failed = 0
-    for kind, files in PLAYED.items():
-        program = f"{os.environ.get('PROGRAMS') or f'{TOP}/crates/{kind}/out'}/{kind}"
+    for kind, (crate, files) in PLAYED.items():
+        program = f"{os.environ.get('PROGRAMS') or f'{TOP}/crates/{crate}/out'}/{crate}"
         if not os.access(program, os.X_OK):
             sys.exit(f"drops: {program} isn't there: rt run makes it")
         for file, name in files:
             runs = []
-            for script in scripts_of(f"{TOP}/crates/{kind}/data/{file}.script"):
+            for script in scripts_of(f"{TOP}/crates/{crate}/data/{file}.script"):
                 first = script[0].asked.split(";")[0].split()
                 if first[0] == name and not {"get_mut", "into_inner", "checked"} & set(first) and not any(it.asked.startswith("count ") for it in script):
                     runs += variants(kind, script)

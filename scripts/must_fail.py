@@ -244,7 +244,7 @@ class Tried:
                 self.store.put(why or "refused", "refused", self.sum, it.text)
 
     def check(self, edits, functions):
-        """Checks these functions of the crate with the edits, over a copy of what the check without an edit proved."""
+        """Checks these functions of the crate with the edits, over a copy of what the first check left."""
         flags = ["--jobs", "1"]
         for name in functions:
             flags += ["--only", name]
@@ -262,7 +262,8 @@ class Tried:
                 shutil.copytree(self.kept, copy, dirs_exist_ok=True)
             self.checks += 1
             ran = rt.checked(self.crate, texts_of(self.crate, edits), flags, copy)
-            if not edits and ran.returncode >= 0:
+            # (what stands there is taken only where it is up to date, so the first check with an edit will do)
+            if ran.returncode >= 0 and not os.path.isdir(self.kept):
                 os.rename(copy, self.kept)
                 os.mkdir(copy)
         return ran
@@ -275,13 +276,19 @@ class Tried:
             it.functions = [] if None in found else found
 
     def is_proved_without(self):
-        """Proves a function without an edit, or the crate where none is known. (Some edits add the function that is to be refused.)"""
+        """Whether the crate is proved without an edit: a library as it was built; of a program a function is proved, or the whole."""
+        if self.is_built():
+            return True
         names = functions_of(self.crate)
         first = next(([name] for it in self.edits for name in it.functions if not names or name in names), [])
         ran = self.check([], first)
         if ran.returncode:
             print(f"must-fail {self.crate.name}: NOT PROVED without an edit (status {ran.returncode}):\n{ran.stdout[-3000:]}", flush=True)
         return not ran.returncode
+
+    def is_built(self):
+        """Whether the library was proved and built, by `rt ci` or by this run."""
+        return not self.crate.is_program and bool(functions_of(self.crate))
 
     def try_together(self, edits):
         """Returns the edits to be tried again."""
@@ -307,7 +314,7 @@ class Tried:
         return again
 
     def try_alone(self, edit):
-        """As `rt must-fail` does, over what the check without an edit proved, and of the edited functions alone where there are such."""
+        """As `rt must-fail` does, over what the first check left, and of the edited functions alone where there are such."""
         ran = self.check([edit], edit.functions)
         if ran.returncode == 0 or " has no function `" in ran.stdout:
             # (what is refused may be another function, or one of another name)
@@ -344,9 +351,11 @@ class Tried:
             self.answers.update({it.name: ("NOT TRIED", "its crate is not proved") for it in left})
             return
         for _ in range(ROUNDS):
-            groups = groups_of(left)
+            groups, left = groups_of(left), []
+            if groups and not os.path.isdir(self.kept):
+                left = self.try_together(groups.pop(0))
             with ThreadPoolExecutor(max(len(groups), 1)) as pool:
-                left = [it for again in pool.map(self.try_together, groups) for it in again]
+                left += [it for again in pool.map(self.try_together, groups) for it in again]
         for it in left:
             self.try_alone(it)
 

@@ -21,7 +21,7 @@ not_told() {
 
 # Of these files it is asked alone that they end: a script that refuses itself meets a second refusal; a histogram, an executor or a discovery that gets no memory leads elsewhere, which no answer
 # tells; and a balancer's poll or a cache's, asked again, goes on with the next endpoints.
-silent=" semaphore hedge spawn_ready drops balance make_balance ready_cache "
+silent=" semaphore hedge spawn_ready spawn_ready_drops balance make_balance ready_cache "
 
 # Plays the file once for each allocation.
 play() {

@@ -364,4 +364,4 @@ def balance(rng):
 
 if __name__ == "__main__":
     for scripts in (ready_cache, balance):
-        write_hostile(sys.argv[1], "scripted_balance", scripts.__name__, scripts)
+        write_hostile(sys.argv[1], "scripted_pool", scripts.__name__, scripts)

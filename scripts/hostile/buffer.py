@@ -359,4 +359,4 @@ def buffer(rng):
 
 
 if __name__ == "__main__":
-    write_hostile(sys.argv[1], "scripted_buffer", "buffer", buffer)
+    write_hostile(sys.argv[1], "scripted_pool", "buffer", buffer)

@@ -457,4 +457,4 @@ def hedge(rng):
 
 if __name__ == "__main__":
     for scripts in (select, delay, latency, hedge):
-        write_hostile(sys.argv[1], "scripted_hedge", scripts.__name__, scripts)
+        write_hostile(sys.argv[1], "scripted_retry", scripts.__name__, scripts)

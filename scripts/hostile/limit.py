@@ -223,4 +223,4 @@ def concurrency_limit(rng):
 
 if __name__ == "__main__":
     for name, scripts in [("rate_limit", rate_limit), ("concurrency_limit", concurrency_limit)]:
-        write_hostile(sys.argv[1], "scripted_limit", name, scripts)
+        write_hostile(sys.argv[1], "scripted_ware", name, scripts)

@@ -1,4 +1,4 @@
-//! What a history says of permits.
+//! What a history says about permits.
 ghost use Rattle.std.specs.Prelude.{◌≡◌, ◌⊎◌, ◌≤◌, ◌+◌};
 ghost use Rattle.tower_limit.specs.LineLaws.{grants, one_if_granted, one_if_left, returns};
 ghost use Rattle.example_audited_limit.specs.Audit.{IsMost};
@@ -13,7 +13,7 @@ pub struct Audit {
     pub most: usize,
 }
 
-// Whether the entry granted a permit, and whether it gave one back, as numbers.
+// Returns, as numbers, whether the entry granted a permit and whether it gave one back.
 fn counts(entry: (LineStep, LineReply)) -> (usize, usize)
     ensures granted { result.0 ≡ one_if_granted entry.1 }
     ensures returned { result.1 ≡ one_if_left entry.0 entry.1 }
@@ -26,7 +26,8 @@ fn counts(entry: (LineStep, LineReply)) -> (usize, usize)
     }
 }
 
-// The most so far, after so many were granted and came back.
+// Returns the most permits that were out at once so far, once `granted` were granted and `returned` came
+// back.
 fn most_after(most: usize, granted: usize, returned: usize) -> usize
     ensures out { granted ≤ result + returned }
     ensures stays { most ≤ result }
@@ -35,7 +36,7 @@ fn most_after(most: usize, granted: usize, returned: usize) -> usize
     most.max(granted.saturating_sub(returned))
 }
 
-/// Works the three numbers out from a history.
+/// Computes the three numbers from a history.
 pub fn audited(entries: &[(LineStep, LineReply)]) -> Audit
     ensures granted { result.granted ≡ grants entries.now }
     ensures returned { result.returned ≡ returns entries.now }

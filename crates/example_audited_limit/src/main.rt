@@ -1,4 +1,4 @@
-//! Two threads and a main share a line of permits. What was granted is worked out from its history.
+//! Two threads and `main` share a line of permits. How many were granted is computed from its history.
 #![tactic(auto)]
 
 ghost use Rattle.std.specs.Prelude.{◌≡◌, ◌≤◌, Some, IfOk};
@@ -14,12 +14,12 @@ use std::sync::Wait;
 use std::sync::ledger::Blank;
 use std::thread::Threads;
 use std::{io, thread};
-use tower_base::latch::{Log, LogTable, Logged, Pass};
+use tower_latch::{Log, LogTable, Logged, Pass};
 use tower_limit::limit::concurrency::{LineCore, LineReply, LineStep, law};
 
 const MAX: usize = 2;
 
-// Ten times takes a permit, and gives it back.
+// Takes a permit and gives it back, ten times.
 fn rounds<K: Log<LineCore>, R: Wait + Copy>(
     rt: R,
     log: &Logged<LineCore, K, R>,
@@ -41,7 +41,7 @@ fn rounds<K: Log<LineCore>, R: Wait + Copy>(
     Ok(pass)
 }
 
-/// Two threads share a line of `max` permits, of which the caller holds one meanwhile. By its history
+/// Shares a line of `max` permits between two threads, while the caller holds one. Its history shows that
 /// there were never more than `max` out.
 fn shared<K: Log<LineCore> + Send + Sync, R: Threads + Wait + Copy + Send + Sync>(
     rt: R,

@@ -13,7 +13,8 @@ use tower::discover::{Change, Discover};
 use tower::load::Load;
 use tower::{BlockOnExt, Service};
 
-/// Answers each request with its own port. The more it has answered, the heavier is its load.
+/// An endpoint that answers each request with its own port. The more requests it has answered, the heavier
+/// its load is.
 #[derive(Debug, Drop)]
 struct Endpoint {
     port: u16,
@@ -50,7 +51,7 @@ impl Service<&'static str> for Endpoint {
     }
 }
 
-/// Tells the balancer of a change, once.
+/// A discovery that reports each change to the balancer, once.
 #[derive(Drop)]
 struct Directory<'a> {
     news: &'a Cell<Option<Change<u16, Endpoint>>>,
@@ -75,7 +76,7 @@ impl<'a> Discover for Directory<'a> {
     }
 }
 
-// An endpoint of this port comes, and has answered nothing yet.
+// Returns the insertion of an endpoint at this port, which hasn't answered anything yet.
 fn comes(port: u16) -> Change<u16, Endpoint> {
     Change::Insert(port, Endpoint { port, answered: 0 })
 }

@@ -11,7 +11,7 @@ use tower::retry::budget::TpsBudget;
 use tower::service::SystemClock;
 use tower::{BlockOnExt, ServiceBuilder};
 
-// Each third call fails.
+// Squares a number, but fails at every third call.
 fn square(calls: &Cell<u64>, side: u64) -> Result<u64, Busy> {
     calls.set(calls.get().saturating_add(1));
     if calls.get() % 3 == 0 {

@@ -1,15 +1,15 @@
-//! When a request is made again.
+//! The policy that decides when a request is retried.
 
 use futures::future::{Ready, ready};
 use tower::retry::Policy;
 use tower::retry::budget::Budget;
 
-/// The service has no time for this call.
+/// The error of a service that has no time for a call.
 #[derive(Clone, Copy, Debug, thiserror::Error)]
 #[error("busy")]
 pub struct Busy;
 
-/// Two retries for each request, at once, while the budget pays for them.
+/// A policy of up to two retries for each request, without delay, while the budget pays for them.
 #[derive(Clone, Drop)]
 pub struct TwoRetries<B> {
     left: u8,

@@ -1,4 +1,4 @@
-//! The jobs, the service that does them, and when one is done again.
+//! The jobs, the service that does them, and the policy that decides when one is done again.
 
 use futures::future::{Ready, ready};
 use futures::task::{Context, Poll};
@@ -12,15 +12,15 @@ pub struct Job {
     pub failures: u64,
 }
 
-/// Squares numbers. Of each fifth number the first attempt fails.
+/// A service that squares numbers. For every fifth number the first attempt fails.
 #[derive(Clone, Copy, Debug)]
 pub struct Square;
 
-/// There is no square yet, or it is too large.
+/// The error of an attempt: there is no square yet, or it is too large.
 #[derive(Clone, Copy, Debug)]
 pub struct Lost;
 
-/// What an attempt comes to.
+/// The response of an attempt.
 pub type Response = Ready<Result<u64, Lost>>;
 
 impl Service<Job> for Square {
@@ -46,7 +46,7 @@ impl Service<Job> for Square {
     }
 }
 
-/// A job that failed is done once more, at once.
+/// A policy that retries a failed job once, without delay.
 #[derive(Clone, Copy, Debug)]
 pub struct Again;
 

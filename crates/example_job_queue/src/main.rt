@@ -1,8 +1,8 @@
-//! A job queue: four producers in threads of their own, each with a clone of one buffer over a rate limit and a retry. The
-//! buffer's worker is a task of a pool, in a fifth thread.
+//! A job queue: four producers in threads of their own, each with a clone of one buffer over a rate limit
+//! and a retry. The buffer's worker is a task of a pool, in a fifth thread.
 //!
-//! The check covers threads that get a buffer over any latch, of a service whose response type has no parameter. So the mail
-//! is made in `main`, and `queued` is over any latch.
+//! The check covers threads that take a buffer over any latch, if the service's response type has no
+//! parameter. So the mail is made in `main`, and `queued` takes any latch.
 #![tactic(auto)]
 
 mod jobs;
@@ -28,10 +28,10 @@ use tower::{BlockOnExt, Service};
 
 const PRODUCERS: usize = 4;
 
-// So many jobs of each.
+// The number of jobs of each producer.
 const JOBS: u64 = 25;
 
-// What a job comes to, in the end.
+// The response of a job, after its retries.
 type Answer = ResponseFuture<Again, Square, Job, Response, Ready<()>>;
 
 type Failure = retry::Error<Lost>;
@@ -50,7 +50,8 @@ fn main(rt: HostRuntime) -> io::Result<()> {
     Ok(())
 }
 
-// The sum of each producer. Buffer and worker are moved on at once: a drop of either isn't covered here.
+// Returns the sum of each producer. The buffer and the worker are passed on at once, since the check
+// doesn't cover a drop of either here.
 fn queued<R, L, C>(rt: &R, mail: L, clock: C) -> io::Result<Vec<io::Result<u64>>>
 where
     R: Threads + Wait + RandomSource + AllocGlobal + Sync,
@@ -66,7 +67,7 @@ where
     }
 }
 
-// Ends once the last clone of the buffer is gone, and then the worker.
+// Returns once the last clone of the buffer is gone and then the worker has ended.
 fn run<R, L, C>(rt: &R, buffer: Front<L>, worker: Back<C, L>) -> io::Result<Vec<io::Result<u64>>>
 where
     R: Threads + Wait + RandomSource + AllocGlobal + Sync,
@@ -87,7 +88,7 @@ where
     run_task(rt, worker)
 }
 
-// The task of a pool, until it ends.
+// Runs the task in a pool until it ends.
 fn run_task<R, W>(rt: &R, task: W) -> io::Result<()>
 where
     R: Wait + RandomSource + AllocGlobal,
@@ -109,7 +110,7 @@ where
     thread::map_vec(rt, clones, &|buffer| produce(rt, buffer))
 }
 
-// One for each producer.
+// Returns one clone for each producer.
 fn clones_of<B: Clone + Drop>(alloc: Global, buffer: B) -> Result<Vec<B>, AllocError> {
     let mut clones = Vec::new(alloc);
     for _ in 0..PRODUCERS {
@@ -126,7 +127,8 @@ where
     sum_of(rt, buffer)
 }
 
-// One job after another. Of the service no more is known than that it is sound.
+// Does one job after another, and returns the sum of their squares. All that is known of the service is
+// that it is sound.
 fn sum_of<R, B>(rt: &R, service: B) -> io::Result<u64>
 where
     R: Wait + RandomSource + AllocGlobal,

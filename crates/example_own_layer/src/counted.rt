@@ -1,4 +1,4 @@
-//! A middleware of one's own: it counts the calls.
+//! A custom middleware, which counts calls.
 ghost use Rattle.std.specs.Prelude.{◌≡◌};
 ghost use Rattle.example_own_layer.specs.Counted.{CountedView, Polled, Called};
 ghost use Rattle.tower_base.specs.ProjectionLemmas.{composed_once, forwards};
@@ -8,14 +8,14 @@ use std::marker::Model;
 use tower::Service;
 use tower::run::Contains;
 
-/// Counts the calls of its service.
+/// A service that counts the calls of its inner service.
 #[derive(Drop)]
 pub struct Counted<S> {
     inner: S,
     calls: u64,
 }
 
-// What contracts see of it.
+// What contracts see of a `Counted`.
 impl<S> Model for Counted<S> {
     ghost Value = { CountedView S };
 
@@ -30,7 +30,8 @@ impl<S> Counted<S> {
     }
 }
 
-// What it means: each line is a word of specs/, and the check proves that the code does so.
+// The ghost lines state the meaning of the service, in the words of specs/. The check proves that the code
+// conforms to it.
 impl<Request, S: Service<Request>> Service<Request> for Counted<S> {
     type Response = S::Response;
 
@@ -58,7 +59,8 @@ impl<Request, S: Service<Request>> Service<Request> for Counted<S> {
     }
 }
 
-// What goes inside: each poll and each call, as it is. So the counter may stand over a rate limit, as in `crates/uses/src/within_rate.rt`.
+// Each poll and each call goes inside unchanged. So the counter may be placed over a rate limit, as in
+// `crates/uses/src/within_rate.rt`.
 impl<Request, Passed, L, S> Contains<Request, Passed, L> for Counted<S>
 where
     L: Service<Passed>,

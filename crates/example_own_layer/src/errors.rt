@@ -1,4 +1,4 @@
-//! A middleware with a future of its own: it counts the responses that are errors.
+//! A middleware with a future of its own, which counts the responses that are errors.
 ghost use Rattle.std.specs.Prelude.{◌≡◌};
 
 use futures::task::{Context, Poll};
@@ -8,14 +8,14 @@ use std::marker::Model;
 use tower::service::Steps;
 use tower::{Layer, Service};
 
-/// Counts the responses of its service that are errors.
+/// A service that counts the responses of its inner service that are errors.
 #[derive(Drop)]
 pub struct CountErrors<'a, S> {
     inner: S,
     errors: &'a Cell<u64>,
 }
 
-// Contracts see the inner service alone: what a cell holds they can't know, so the count is only tested.
+// Contracts see only the inner service. They can't know what a cell holds, so the count is only tested.
 impl<'a, S> Model for CountErrors<'a, S> {
     ghost Value = { S };
 
@@ -65,11 +65,12 @@ impl<'a, F> Model for CountErrorsFuture<'a, F> {
     ghost view = { λ f. f.inner };
 }
 
-// A step is one step of the inner future, whose answer it gives. Whoever polls a response of a service asks no more than this.
+// A step is one step of the inner future, and returns its answer. Code that polls a service's response
+// requires no more than this impl.
 impl<'a, F: Steps<Output = Result<A, E>>, A, E> Steps for CountErrorsFuture<'a, F> {
     type Output = Result<A, E>;
 
-    // What the inner future asks and waits for.
+    // What the inner future requires and waits for.
     ghost can_poll = { F.can_poll };
 
     ghost needs = { F.needs };
@@ -85,14 +86,14 @@ impl<'a, F: Steps<Output = Result<A, E>>, A, E> Steps for CountErrorsFuture<'a, 
     }
 }
 
-/// Makes a `CountErrors` of a service.
+/// A layer that makes a `CountErrors` from a service.
 #[derive(Clone, Copy)]
 pub struct CountErrorsLayer<'a> {
     errors: &'a Cell<u64>,
 }
 
 impl<'a> CountErrorsLayer<'a> {
-    /// The services that it makes count in this cell.
+    /// Creates a layer whose services count errors in this cell.
     pub fn new(errors: &'a Cell<u64>) -> CountErrorsLayer<'a> {
         CountErrorsLayer { errors }
     }

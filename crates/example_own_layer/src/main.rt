@@ -1,4 +1,4 @@
-//! Middleware of one's own, stacked among those of the library.
+//! Custom middleware, stacked among the library's.
 #![tactic(auto)]
 
 mod counted;

@@ -1,4 +1,4 @@
-//! The middleware under others: the whole-stack theorem holds of it with nothing more to prove.
+//! The middleware under others. The whole-stack theorem holds for it, with nothing more to prove.
 
 use crate::counted::Counted;
 use futures::task::Context;
@@ -8,7 +8,7 @@ use tower::drive::{Event, Transcript, drive};
 use tower::service::Clock;
 use tower::timeout::{Error, Timeout};
 
-/// Drives a service under the counter and a timeout. `drive` is proved over every service, so by its clause
+/// Drives a service under the counter and a timeout. `drive` is proved for every service, so by its clause
 /// `run` the transcript is a run of this very stack, and there is nothing more to prove.
 pub fn driven<S, C, O, Request: Drop>(
     alloc: Global,

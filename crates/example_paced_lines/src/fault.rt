@@ -1,6 +1,6 @@
-//! What can go wrong, with its text and its status.
+//! The faults of the program, each with its text and its status.
 
-/// Why not all lines were copied.
+/// A reason why not all lines were copied.
 #[derive(Debug, Drop, thiserror::Error)]
 pub enum Fault {
     #[error("usage: example_paced_lines N P")]
@@ -17,7 +17,7 @@ pub enum Fault {
 }
 
 impl Fault {
-    /// The status that the program ends with.
+    /// Returns the status that the program ends with.
     pub fn status(&self) -> u8 {
         match self {
             Fault::Usage => 2,

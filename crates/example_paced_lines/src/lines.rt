@@ -4,7 +4,7 @@ use crate::fault::Fault;
 use std::alloc::Global;
 use std::io::{BufRead, BufReader, ErrorKind, Read};
 
-/// Reads lines as they are, each with its line feed, which the last one may lack.
+/// A reader of lines. Each line has its line feed, which the last one may lack.
 #[derive(Drop)]
 pub struct Lines<R> {
     alloc: Global,
@@ -17,7 +17,7 @@ impl<R: Read + Drop> Lines<R> {
         Ok(Lines { alloc, reader })
     }
 
-    /// The next line, and none at the end.
+    /// Returns the next line, or `None` at the end.
     pub fn next_line(&mut self) -> Result<Option<Vec<u8>>, Fault> {
         let mut line = Vec::new(self.alloc);
         match self.reader.read_until(b'\n', &mut line) {

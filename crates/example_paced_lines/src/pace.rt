@@ -1,9 +1,9 @@
-//! The arguments.
+//! The pace that the arguments give.
 ghost use Rattle.std.specs.Prelude.{◌<◌};
 
 use std::str;
 
-/// So many lines in any so many nanoseconds.
+/// A pace of at most `lines` lines in any `period` nanoseconds.
 #[derive(Clone, Copy)]
 pub struct Pace {
     pub lines: u64,
@@ -15,7 +15,8 @@ pub struct Pace {
 const NANOS_PER_MILLI: u64 = 1_000_000;
 
 impl Pace {
-    /// The arguments `N` and `P`, both positive, `P` in milliseconds.
+    /// Reads the arguments `N` and `P`, both positive, `P` in milliseconds. Returns `None` if they are
+    /// anything else.
     pub fn of(words: &[String]) -> Option<Pace> {
         let [lines, millis] = words else {
             return None;
@@ -29,7 +30,7 @@ impl Pace {
     }
 }
 
-// A decimal number without leading zeros.
+// Reads a decimal number without leading zeros.
 fn read_number(text: &[u8]) -> Option<u64> {
     match text {
         [b'0'] => Some(0),

@@ -1,4 +1,4 @@
-//! Lines through a rate limit and a timeout.
+//! Copies lines through a rate limit and a timeout.
 
 use crate::fault::Fault;
 use crate::lines::Lines;
@@ -14,7 +14,7 @@ use tower::service::Clock;
 use tower::timeout::{Error, Timeout};
 use tower::{BlockOnExt, Service};
 
-/// A write may take so many nanoseconds.
+/// How many nanoseconds a write may take.
 const WRITE_TIME: u64 = 10_000_000_000;
 
 /// Where lines come from and go to, and where faults and the progress are shown.
@@ -25,7 +25,7 @@ pub struct Console<R, W, E> {
     pub shows_progress: bool,
 }
 
-/// The program: `words` are the arguments after its name. It answers the status.
+/// Runs the program, and returns its status. `words` are the arguments after its name.
 pub fn run<H, R, W, E, C>(rt: &H, words: &[String], console: Console<R, W, E>, clock: C) -> u8
 where
     H: Wait + RandomSource + AllocGlobal,
@@ -59,14 +59,14 @@ where
     }
 }
 
-/// Writes the fault's line, and answers its status, whether that can be written or not.
+/// Writes the fault's line, and returns its status even if the line can't be written.
 pub fn report<E: Write + Drop>(fault: Fault, mut err: E) -> u8 {
     let _ = writeln!(err, "{fault}");
     fault.status()
 }
 
-// Copies the lines, each once the service is ready for it. What is inside waits for a clock, which wakes nobody: the
-// thread polls it, and sleeps in between.
+// Copies the lines, each once the service is ready for it. The layers inside wait for a clock, which wakes
+// no task. So the thread polls them, and sleeps in between.
 fn copy<H, S, R, E>(
     rt: &H,
     mut service: S,

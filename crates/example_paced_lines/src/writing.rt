@@ -8,11 +8,11 @@ use std::io::{ErrorKind, Write};
 use tower::Service;
 use tower::service::Steps;
 
-/// The writer failed.
+/// The error of a writer that failed.
 #[derive(Clone, Copy, Debug, PartialEq, Eq)]
 pub struct CannotWrite;
 
-/// Writes each request, a line, to its writer.
+/// A service that writes each request, a line, to its writer.
 #[derive(Drop)]
 pub struct Writing<'w, W> {
     pub out: &'w RefCell<W>,
@@ -59,7 +59,7 @@ impl<W: Write> Future for Line<'_, W> {
     }
 }
 
-/// A poll writes once. It is pending where bytes are left, or where the writer would wait.
+/// A poll writes once. It is pending if bytes are left, or if the writer would wait.
 impl<W: Write> Steps for Line<'_, W> {
     type Output = Result<(), CannotWrite>;
 

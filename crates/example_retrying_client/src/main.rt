@@ -1,4 +1,4 @@
-//! A client that makes failed requests again: after a wait that doubles, and while a budget pays for it.
+//! A client that retries failed requests, after a wait that doubles, while a budget pays for it.
 #![tactic(auto)]
 
 mod policy;
@@ -12,7 +12,8 @@ use tower::retry::budget::TpsBudget;
 use tower::service::{Fraction, SystemClock};
 use tower::{BlockOnExt, ServiceBuilder};
 
-/// A flaky server: each third attempt finds it busy, and so does each from the ninth on. It tells each attempt.
+/// Attempts to fetch a page from a flaky server, which is busy at every third attempt and at each from the
+/// ninth on. Prints each attempt.
 fn fetch<R: Print>(rt: &R, attempts: &Cell<u64>, page: u64) -> Result<u64, Failure> {
     let attempt = attempts.get().saturating_add(1);
     attempts.set(attempt);
@@ -26,10 +27,10 @@ fn fetch<R: Print>(rt: &R, attempts: &Cell<u64>, page: u64) -> Result<u64, Failu
 
 fn main(rt: HostRuntime) -> io::Result<()> {
     let (alloc, attempts) = (rt.alloc(), Cell::new(0));
-    // For a minute a success pays for half a retry, and nothing else does.
+    // For a minute each success pays for half a retry. Nothing else pays.
     let clock = SystemClock::new(rt)?;
     let budget = TpsBudget::new(rt, alloc, 60_000_000_000, 0, Fraction::new(1, 2), clock)?;
-    // From 50 milliseconds on, and twice as long each time.
+    // The first wait is 50 milliseconds, and each later one is twice as long.
     let mut waits = ExponentialBackoffMaker::with_clock(SystemClock::new(rt)?);
     let backoff = waits.make_backoff()?;
     let mut client = ServiceBuilder::new()

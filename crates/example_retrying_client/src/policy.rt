@@ -1,4 +1,4 @@
-//! When a request is made again.
+//! The policy that decides when a request is retried.
 
 use tower::retry::Policy;
 use tower::retry::backoff::{Backoff, ExponentialBackoff};
@@ -6,7 +6,7 @@ use tower::retry::budget::Budget;
 use tower::service::{Clock, Sleep};
 use tower::util::rng::HasherRng;
 
-/// Why there is no page.
+/// A reason why there is no page.
 #[derive(Clone, Copy, Debug, thiserror::Error)]
 pub enum Failure {
     /// The server has no time for this attempt.
@@ -17,7 +17,7 @@ pub enum Failure {
     Refused,
 }
 
-/// Makes a failed request again after the next wait of its backoff, while the budget pays for it.
+/// A policy that retries a failed request after the next wait of its backoff, while the budget pays for it.
 #[derive(Clone, Drop)]
 pub struct Patient<B, W> {
     pub budget: B,

@@ -1,4 +1,4 @@
-//! Ten requests of a stack of 10 middleware, in one `main`.
+//! Ten requests to a stack of ten middleware, in one `main`.
 #![tactic(auto)]
 
 mod policy;
@@ -13,7 +13,7 @@ use tower::retry::budget::TpsBudget;
 use tower::service::SystemClock;
 use tower::{BlockOnExt, ServiceBuilder};
 
-// Each third call fails.
+// Squares a number, but fails at every third call.
 fn square(calls: &Cell<u64>, side: u64) -> Result<u64, u64> {
     calls.set(calls.get().saturating_add(1));
     if calls.get() % 3 == 0 {

@@ -1,9 +1,9 @@
-//! The requests that are let through.
+//! The predicate that accepts squares with short sides.
 
 use std::fmt::{self, Display};
 use tower::filter::Predicate;
 
-/// The side of a square isn't below 8.
+/// The error for a square whose side isn't below 8.
 #[derive(Clone, Copy, Debug)]
 pub struct TooLong(u64);
 

@@ -1,4 +1,4 @@
-//! Two threads, each with a clone of one limited stack, and a hundred calls of each.
+//! Two threads, each of which makes a hundred calls to a clone of one limited stack.
 #![tactic(auto)]
 
 use futures::future::{Ready, ok};
@@ -11,8 +11,8 @@ use std::{io, thread};
 use tower::util::Sealed;
 use tower::{BlockOnExt, Service, ServiceBuilder};
 
-// A hundred calls, and the sum of their answers. Of the service no more is known than that it is sound, which its seal
-// keeps over the loop.
+// Makes a hundred calls, and returns the sum of their answers. All that is known of the service is that it
+// is sound, and the seal keeps it so through the loop.
 fn hundred<S, R>(rt: &R, stack: S) -> io::Result<u64>
 where
     S: Service<u64, Response = u64>,
@@ -31,7 +31,7 @@ where
 
 fn main(rt: HostRuntime) -> io::Result<()> {
     let calls = AtomicU64::new(0);
-    // One call in flight, whichever clone makes it.
+    // At most one call is in flight, whichever clone makes it.
     let first = ServiceBuilder::new()
         .concurrency_limit(rt, rt.alloc(), 1)
         .service_fn(|side: u64| -> Ready<Result<u64, Infallible>> {

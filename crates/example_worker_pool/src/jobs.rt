@@ -9,10 +9,10 @@ use std::io::{self, BufRead, BufReader, Read};
 use std::str;
 use tower::Service;
 
-/// So many divisors are tried in one call.
+/// The number of divisors that are tried in one call.
 const SLICE: u64 = 100_000;
 
-/// A number, and the divisor from which on the search for a factor goes on.
+/// A number, and the divisor from which the search for a factor goes on.
 #[derive(Clone, Copy, Debug)]
 pub struct Job {
     pub number: u64,
@@ -20,7 +20,7 @@ pub struct Job {
     ghost begins: { 2 ≤ from },
 }
 
-/// No factor was found yet, and what is left to do.
+/// The error of a search that has found no factor yet, with the job that is left.
 #[derive(Clone, Copy, Debug)]
 pub struct Unfinished {
     pub rest: Job,
@@ -32,7 +32,7 @@ impl Display for Unfinished {
     }
 }
 
-/// The smallest prime factor, if it is among the next divisors.
+/// Returns the smallest prime factor if the next divisors determine it, and `Unfinished` if not.
 pub fn search(job: Job) -> Result<u64, Unfinished> {
     let next = job.from.saturating_add(SLICE);
     for divisor in job.from..next {
@@ -50,7 +50,7 @@ pub fn search(job: Job) -> Result<u64, Unfinished> {
     Err(Unfinished { rest })
 }
 
-/// Searches among a job's next divisors, at each call.
+/// A service that searches among a job's next divisors at each call.
 #[derive(Clone, Copy, Debug)]
 pub struct Searcher;
 
@@ -73,7 +73,7 @@ impl Service<Job> for Searcher {
     }
 }
 
-/// The job of each line, and none where a line isn't a number from 2 on.
+/// Reads the job of each line. It is `None` if the line isn't a number from 2 on.
 pub fn read_lines<R: Read + Drop>(alloc: Global, reader: R) -> io::Result<Vec<Option<Job>>> {
     let mut lines = Vec::new(alloc);
     for line in BufReader::new(alloc, reader)?.split(alloc, b'\n') {
@@ -90,14 +90,14 @@ fn job_of(line: &[u8]) -> Option<Job> {
     Some(Job { number, from: 2 })
 }
 
-/// What comes of a line.
+/// The answer to a line.
 #[derive(Debug, Drop)]
 pub enum Answer {
     /// The number and its smallest prime factor.
     Factor { number: u64, factor: u64 },
     /// The number and why it has no answer.
     Failed { number: u64, reason: String },
-    /// The line of this number, from 1 on, isn't a job.
+    /// The line of this number, counted from 1, isn't a job.
     Wrong { line: usize },
 }
 

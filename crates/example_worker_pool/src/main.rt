@@ -11,7 +11,7 @@ use std::io::{self, IsTerminal};
 use tower::buffer::MailCore;
 use tower::latch::Guarded;
 
-/// So many buffers, each with its worker.
+/// The number of buffers, each with its worker.
 const WORKERS: usize = 4;
 
 fn main(rt: HostRuntime) -> io::Result<()> {

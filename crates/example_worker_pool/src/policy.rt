@@ -1,10 +1,10 @@
-//! When a search goes on.
+//! The policy that decides when a search goes on.
 
 use crate::jobs::{Job, Unfinished};
 use futures::future::{Ready, ready};
 use tower::retry::Policy;
 
-/// A search that isn't finished goes on where it is, twenty times at most.
+/// A policy by which a search that isn't finished goes on from where it is, at most twenty times.
 #[derive(Clone, Copy, Debug)]
 pub struct GoesOn {
     left: u8,

@@ -1,7 +1,7 @@
-//! Buffers whose workers are tasks of one set, at which several threads work, and threads that call.
+//! Buffers whose workers are tasks of one set, and threads that call. Several threads run the tasks.
 //!
-//! The check covers threads that get a buffer over any latch, of a service whose response type has no parameter. So the mail is
-//! made in `main`.
+//! The check covers threads that take a buffer over any latch, if the service's response type has no
+//! parameter. So the mail is made in `main`.
 
 use crate::jobs::{Answer, Job, Searcher, Unfinished};
 use crate::policy::GoesOn;
@@ -30,14 +30,15 @@ type Search = ResponseFuture<GoesOn, Searcher, Job, Slice, Ready<()>>;
 
 type Failure = retry::Error<Unfinished>;
 
-/// The jobs of one worker.
+/// The mail of one worker: its jobs.
 pub type Mail = MailCore<Job, Pollable<Search>, Failure>;
 
 type Front<L> = Buffer<Job, Search, Failure, L>;
 
 type Back<L> = Worker<Retry<GoesOn, Searcher>, Job, Search, Failure, L>;
 
-/// The answer of each line, in their order. Each mail has a worker and a thread that calls.
+/// Returns the answer to each line, in the order of the lines. Each mail has a worker and a thread that
+/// calls.
 pub fn answers<R, L>(
     rt: &R,
     mails: Vec<L>,
@@ -71,10 +72,10 @@ where
     Ok(answers)
 }
 
-// What a thread that calls comes to: the place of each line that it took, with its answer.
+// The outcome of a thread that calls: the place of each line that it took, with its answer.
 type Told = io::Result<Vec<(usize, Answer)>>;
 
-// What the callers share.
+// The state that the callers share.
 #[derive(Drop)]
 struct Desk {
     lines: Vec<Option<Job>>,
@@ -83,7 +84,8 @@ struct Desk {
     shows_progress: bool,
 }
 
-// A buffer before each worker. All are moved on: a drop of either isn't covered at a type that has a parameter.
+// Places a buffer before each worker, and runs them. All are passed on, since the check doesn't cover a
+// drop of either at a type that has a parameter.
 fn gathered<R, L>(rt: &R, desk: &Desk, mails: Vec<L>) -> io::Result<Vec<Told>>
 where
     R: Threads + Wait + RandomSource + AllocGlobal + Eprint + Sync,
@@ -102,7 +104,7 @@ where
     }
 }
 
-// Who calls, and the set that has the workers of their buffers.
+// The callers, and the set of the workers of their buffers.
 #[derive(Drop)]
 struct Crew<C, W: Future<Output = ()>> {
     callers: Vec<C>,
@@ -140,7 +142,7 @@ impl<C: Drop, W: Future<Output = ()> + Drop> Crew<C, W> {
     }
 }
 
-// Each caller has a thread, and as many threads work at the tasks, until no buffer is left.
+// Gives each caller a thread, and has as many threads run the tasks, until no buffer is left.
 fn run<R, L>(
     rt: &R,
     desk: &Desk,
@@ -188,7 +190,8 @@ where
     ask(rt, desk, buffer)
 }
 
-// Takes one line after another, and calls about it. Of the service no more is known than that it is sound.
+// Takes one line after another, and calls the service with its job. All that is known of the service is
+// that it is sound.
 fn ask<R, B>(rt: &R, desk: &Desk, buffer: B) -> Told
 where
     R: Wait + RandomSource + AllocGlobal + Eprint,
@@ -227,13 +230,13 @@ fn answer_of<E: Display + Drop>(
 }
 
 impl Desk {
-    // The next line's place, or one where there is none.
+    // Returns the next line's place, or one without a line if there are no more.
     fn take(&self) -> usize {
         let place = self.taken.fetch_add(1, Ordering::SeqCst);
         usize::try_from(place).unwrap_or(usize::MAX)
     }
 
-    // One more line is done.
+    // Reports that one more line is done.
     fn tell<R: Eprint>(&self, rt: &R) {
         let done = self.done.fetch_add(1, Ordering::SeqCst).saturating_add(1);
         if self.shows_progress {

@@ -2,8 +2,8 @@
 ghost use Rattle.std.specs.Prelude.{◌≡◌, true};
 
 use std::marker::{Model, PhantomData};
-use tower_base::latch::held::{Fact, Viewed, open};
 use tower_base::service::Service;
+use tower_latch::held::{Fact, Viewed, open};
 
 // The service is sound, and may be called.
 struct MayCall<Request> {

@@ -6,8 +6,8 @@ use futures::task::{Poll, Solo};
 use std::alloc::{AllocError, Global};
 use std::fmt::{Debug, Display};
 use std::marker::Model;
-use tower_base::latch::held::{Fact, open};
 use tower_base::service::Flow;
+use tower_latch::held::{Fact, open};
 
 // The stream may be polled.
 struct MayFlow;

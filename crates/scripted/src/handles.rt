@@ -10,8 +10,8 @@ use std::alloc::{AllocError, Global};
 use std::fmt::{Debug, Display};
 use tests_support::run::{readiness, stepped};
 use tests_support::slots::{put, take};
-use tower_base::latch::held::Pollable;
 use tower_base::service::{Service, Steps};
+use tower_latch::held::Pollable;
 
 /// A response, which has answered or hasn't.
 #[derive(Drop)]

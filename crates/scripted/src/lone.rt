@@ -7,8 +7,8 @@ use futures::task::{Poll, Solo};
 use std::alloc::{AllocError, Global};
 use std::fmt::{Debug, Display};
 use tests_support::run::stepped;
-use tower_base::latch::held::Pollable;
 use tower_base::service::Steps;
+use tower_latch::held::Pollable;
 
 /// A future with the number 0.
 #[derive(Drop)]

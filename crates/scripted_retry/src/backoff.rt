@@ -4,7 +4,7 @@
 //! `fut 0` polls a wait and `drop 0` drops it; one that is over is dropped. `skip N` begins so many waits and drops them.
 
 use crate::budget::fraction_at;
-use crate::parts::Rising;
+use crate::rising::Rising;
 use futures::task::{Poll, Solo};
 use scripted::party::Party;
 use scripted::report::Report;
@@ -12,9 +12,9 @@ use scripted::script::Script;
 use std::alloc::{AllocError, Global};
 use tests_support::run::stepped;
 use tests_support::slots::{put, take};
-use tower_base::latch::held::Pollable;
 use tower_base::service::{Clock, Sleep};
 use tower_base::util::rng::Rng;
+use tower_latch::held::Pollable;
 use tower_retry::retry::backoff::{
     Backoff, ExponentialBackoff, ExponentialBackoffMaker, MakeBackoff,
 };

@@ -6,8 +6,8 @@ use scripted::report::Report;
 use scripted::script::Script;
 use std::alloc::{AllocError, Global};
 use std::sync::Wait;
-use tower_base::latch::Latch;
 use tower_base::service::{Clock, Fraction};
+use tower_latch::Latch;
 use tower_retry::retry::budget::{Budget, BudgetCore, TpsBudget};
 
 // A budget until the end of its script.

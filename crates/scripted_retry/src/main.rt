@@ -1,19 +1,30 @@
-//! Scripts of `tower::retry`, its budget and its backoff, in data/.
+//! Scripts of `tower::retry`, its budget and its backoff, of `tower::hedge` and of `tower::spawn_ready`, in data/.
 #![tactic(auto)]
 
 mod backoff;
 mod budget;
+mod delay;
+mod hedge;
+mod latency;
+mod nest;
+mod noted;
 mod paid;
-mod parts;
 mod policy;
 mod retry;
+mod rising;
+mod select;
+mod slot;
+mod spawn;
+mod tasks;
+mod turns;
 
 use scripted::player::Services;
 use scripted::program::run;
 use scripted::report::Report;
 use scripted::script::Script;
-use std::alloc::AllocError;
+use std::alloc::{AllocError, AllocGlobal};
 use std::io;
+use std::random::RandomSource;
 use std::sync::Wait;
 
 // The services of this program.
@@ -22,7 +33,7 @@ struct Retries<R> {
     rt: R,
 }
 
-impl<R: Wait + Copy> Services for Retries<R> {
+impl<R: Wait + RandomSource + AllocGlobal + Copy> Services for Retries<R> {
     fn play(&self, script: &Script<'_>, report: &mut Report<'_>) -> Result<(), AllocError> {
         match script.name() {
             "retry" if script.knows(&["uncopied", "layer", "get_mut", "into_inner"]) => retry::play(
@@ -34,8 +45,31 @@ impl<R: Wait + Copy> Services for Retries<R> {
             "budget" if script.knows(&[]) => budget::play(self.rt, script, report),
             "usual_budget" if script.knows(&[]) => budget::play_usual(self.rt, script, report),
             "backoff" if script.knows(&["refused"]) => backoff::play(script, report),
-            _ => script.unread(report),
+            "spawn_ready" if script.knows(&["at_once", "by_turns"]) => spawn::play(
+                self.rt, script, report,
+            ),
+            "spawn_ready_layer" if script.knows(&["cloned"]) => spawn::play_layer(
+                self.rt, script, report,
+            ),
+            _ => play_hedge(self.rt, script, report),
         }
+    }
+}
+
+// The services of `tower::hedge`.
+fn play_hedge<R: Wait + Copy>(
+    rt: R,
+    script: &Script<'_>,
+    report: &mut Report<'_>,
+) -> Result<(), AllocError> {
+    match script.name() {
+        "delay" if script.knows(&[]) => delay::play(script, report),
+        "longest_delay" if script.knows(&[]) => delay::play_longest(script, report),
+        "select" if script.knows(&[]) => select::play(script, report),
+        "latency" if script.knows(&[]) => latency::play(script, report),
+        "hedge" if script.knows(&["unseeded"]) => hedge::play(rt, script, report),
+        "locked_hedge" if script.knows(&["seeded"]) => hedge::play_locked(rt, script, report),
+        _ => script.unread(report),
     }
 }
 

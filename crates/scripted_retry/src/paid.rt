@@ -5,15 +5,15 @@
 ghost use Rattle.std.specs.Prelude.{⊤};
 
 use crate::budget::fraction_at;
-use crate::parts::Rising;
+use crate::rising::Rising;
 use futures::future::{Ready, ready};
 use scripted::report::Report;
 use scripted::script::Script;
 use std::alloc::AllocError;
 use std::sync::Wait;
-use tower_base::latch::Latch;
 use tower_base::service::{Clock, Sleep};
 use tower_base::util::rng::Rng;
+use tower_latch::Latch;
 use tower_retry::retry::backoff::{
     Backoff, ExponentialBackoff, ExponentialBackoffMaker, MakeBackoff,
 };

@@ -4,7 +4,7 @@ use futures::task::Context;
 use std::alloc::{AllocError, Global};
 use std::sync::Arc;
 use std::sync::atomic::{AtomicU64, Ordering};
-use tower_base::latch::Latch;
+use tower_latch::{Latch, Token};
 use tower_pool::buffer::{MailCore, MailReply, MailStep};
 
 /// How many places were given, and how many of them were sent into or given back.
@@ -69,6 +69,10 @@ impl<Q: Drop, F: Drop, E: Clone, L: Latch<MailCore<Q, F, E>>> Latch<MailCore<Q, 
     for Counted<L> {
     ghost gave = { λ latch step reply. L.gave latch.inner step reply };
 
+    ghost size = { λ latch. L.size latch.inner };
+
+    ghost its = { λ latch token. L.its latch.inner token };
+
     ghost honest = { λ latch step reply given. L.honest latch.inner step reply given };
 
     fn step(&self, step: MailStep<Q, F, E>) -> MailReply<Q, F, E> {
@@ -76,10 +80,23 @@ impl<Q: Drop, F: Drop, E: Clone, L: Latch<MailCore<Q, F, E>>> Latch<MailCore<Q, 
         self.inner.step(step)
     }
 
-    fn wait(&self, step: MailStep<Q, F, E>, cx: &mut Context<'_>) -> MailReply<Q, F, E> {
-        let reply = self.inner.wait(step, cx);
+    fn wait(&self, step: MailStep<Q, F, E>, cx: &mut Context<'_>) -> (MailReply<Q, F, E>, Token) {
+        let (reply, token) = self.inner.wait(step, cx);
         self.places.told(&reply);
-        reply
+        (reply, token)
+    }
+
+    fn give(&self, step: MailStep<Q, F, E>, token: Token) -> (MailReply<Q, F, E>, Token) {
+        self.places.asked(&step);
+        self.inner.give(step, token)
+    }
+
+    fn empty(&self) -> Token {
+        self.inner.empty()
+    }
+
+    fn merge(&self, token: Token, other: Token) -> Token {
+        self.inner.merge(token, other)
     }
 
     fn share(&self) -> Result<Counted<L>, AllocError> {

@@ -10,10 +10,10 @@ use std::random::RandomSource;
 use std::sync::Wait;
 use std::test::Fail;
 use tests_support::run::{called, polled, stepped, task};
-use tower_base::latch::Guarded;
-use tower_base::latch::held::Pollable;
 use tower_base::layer::Layer;
 use tower_base::service::{Executor, Service, Steps};
+use tower_latch::Guarded;
+use tower_latch::held::Pollable;
 use tower_pool::buffer::error::{Closed, ServiceError};
 use tower_pool::buffer::{Buffer, BufferLayer, Error, MailCore, Worker};
 

@@ -9,8 +9,8 @@ use tests_support::log::Log;
 use tests_support::run::{called, task};
 use tests_support::script::Script;
 use tests_support::service::Scripted;
-use tower_base::latch::Latch;
 use tower_base::layer::Layer;
+use tower_latch::Latch;
 use tower_limit::limit::concurrency::{LineCore, Semaphore};
 use tower_limit::limit::{ConcurrencyLimit, ConcurrencyLimitLayer, GlobalConcurrencyLimitLayer};
 

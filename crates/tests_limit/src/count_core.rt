@@ -1,7 +1,7 @@
 //! `tower::load::pending_requests::CountCore` by hand.
 
 use std::test::Fail;
-use tower_base::latch::Core;
+use tower_latch::Core;
 use tower_limit::load::pending_requests::{CountCore, CountReply, CountStep};
 
 #[test]

@@ -2,7 +2,7 @@
 
 use std::test::Fail;
 use tests_support::checks::Checks;
-use tower_base::latch::Core;
+use tower_latch::Core;
 use tower_limit::limit::concurrency::{LineCore, LineReply, LineStep};
 
 #[test]

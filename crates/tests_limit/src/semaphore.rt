@@ -7,7 +7,7 @@ use std::process::Abort;
 use std::random::RandomSource;
 use std::test::Fail;
 use tests_support::checks::Checks;
-use tower_base::latch::Latch;
+use tower_latch::Latch;
 use tower_limit::limit::concurrency::{LineCore, PollSemaphore, Semaphore};
 
 fn is_ok<T: Drop, E: Drop>(answer: &Poll<Result<T, E>>) -> bool {

@@ -13,8 +13,8 @@ use std::test::Fail;
 use std::{io, thread};
 use tests_support::checks::Checks;
 use tests_support::run::{called, stepped, task};
-use tower_base::latch::Latch;
 use tower_base::service::Service;
+use tower_latch::Latch;
 use tower_limit::limit::ConcurrencyLimit;
 use tower_limit::limit::concurrency::{LineCore, Permit, PollSemaphore, Semaphore};
 

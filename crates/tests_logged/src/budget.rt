@@ -11,8 +11,8 @@ use std::sync::ledger::Blank;
 use std::test::Fail;
 use std::thread;
 use std::thread::Threads;
-use tower_base::latch::{Log, LogTable, Logged, Pass};
 use tower_base::service::Fraction;
+use tower_latch::{Log, LogTable, Logged, Pass};
 use tower_retry::retry::budget::{BudgetCore, BudgetReply, BudgetStep};
 
 const MADE: u64 = 7;

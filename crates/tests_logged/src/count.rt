@@ -11,7 +11,7 @@ use std::sync::ledger::Blank;
 use std::test::Fail;
 use std::thread;
 use std::thread::Threads;
-use tower_base::latch::{Log, LogTable, Logged, Pass};
+use tower_latch::{Log, LogTable, Logged, Pass};
 use tower_limit::load::pending_requests::{CountCore, CountReply, CountStep};
 
 const ROUNDS: u32 = 500;

@@ -4,7 +4,7 @@ use std::alloc::{AllocError, Global};
 use std::test::Fail;
 use std::thread;
 use std::time::{Clock, Duration};
-use tower_base::latch::{Core, Log, Pass};
+use tower_latch::{Core, Log, Pass};
 
 /// So often does one look for what it waits for, before it gives up and the test fails.
 pub const LOOKS: u32 = 100_000;

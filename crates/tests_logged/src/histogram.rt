@@ -11,7 +11,7 @@ use std::sync::ledger::Blank;
 use std::test::Fail;
 use std::thread;
 use std::thread::Threads;
-use tower_base::latch::{Log, LogTable, Logged, Pass};
+use tower_latch::{Log, LogTable, Logged, Pass};
 use tower_limit::hedge::rotating_histogram::{HistoCore, HistoReply, HistoStep};
 
 const PERIOD: u64 = 10;

@@ -1,4 +1,4 @@
-//! Tests of the library's cores under threads: behind `tower_base::latch::Logged`.
+//! Tests of the library's cores under threads: behind `tower_latch::Logged`.
 #![tactic(auto)]
 
 #[cfg(test)]

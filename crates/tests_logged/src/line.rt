@@ -5,7 +5,7 @@ use crate::run::{Turn, one_pass_is_missing, two_passes_run};
 use std::marker::Brand;
 use std::sync::ledger::Blank;
 use std::test::Fail;
-use tower_base::latch::LogTable;
+use tower_latch::LogTable;
 use tower_limit::limit::concurrency::{LineCore, LineReply, LineStep};
 
 // Two ask for one permit. The first of all who wait has the key 0.

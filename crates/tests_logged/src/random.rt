@@ -3,8 +3,8 @@
 use crate::plain_line::PlainLine;
 use std::alloc::Global;
 use std::test::Fail;
-use tower_base::latch::Core;
 use tower_base::util::rng::{HasherRng, Rng};
+use tower_latch::Core;
 use tower_limit::limit::concurrency::{LineCore, LineReply, LineStep};
 
 const STEPS: u32 = 100_000;

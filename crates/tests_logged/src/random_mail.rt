@@ -3,8 +3,8 @@
 use crate::plain_mail::{PlainMail, Reply, Step};
 use std::alloc::Global;
 use std::test::Fail;
-use tower_base::latch::Core;
 use tower_base::util::rng::{HasherRng, Rng};
+use tower_latch::Core;
 use tower_pool::buffer::{MailCore, MailReply, MailStep};
 
 const ROUNDS: u32 = 1_000;

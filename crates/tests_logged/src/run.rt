@@ -7,7 +7,7 @@ use std::process::Abort;
 use std::sync::Wait;
 use std::sync::ledger::Blank;
 use std::test::Fail;
-use tower_base::latch::{Core, History, Log, LogTable, Logged, Pass};
+use tower_latch::{Core, History, Log, LogTable, Logged, Pass};
 
 /// What a run leaves: the history, with which the receipts of all passes agree.
 #[derive(Drop)]

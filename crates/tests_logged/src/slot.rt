@@ -16,8 +16,8 @@ use std::thread;
 use std::thread::Threads;
 use std::time::Clock;
 use tower::spawn_ready::{SlotCore, SlotReply, SlotStep};
-use tower_base::latch::{Log, LogTable, Logged, Pass};
 use tower_base::service::Service;
+use tower_latch::{Log, LogTable, Logged, Pass};
 
 // So many threads put services there, and so many look for them.
 const SIDES: u64 = 4;

@@ -7,8 +7,8 @@ use std::test::Fail;
 use std::thread;
 use tests_support::run::{awaited, called, task};
 use tower::spawn_ready::SpawnReady;
-use tower_base::latch::held::Pollable;
 use tower_base::service::{Executor, Service, Steps};
+use tower_latch::held::Pollable;
 
 const ROUNDS: u16 = 1000;
 

@@ -5,9 +5,9 @@ use std::cell::{Cell, RefCell};
 use tests_support::log::Log;
 use tests_support::run::stepped;
 use tower::spawn_ready::{SlotCore, SlotReply, SlotStep};
-use tower_base::latch::Latch;
-use tower_base::latch::held::Pollable;
 use tower_base::service::{Executor, Steps};
+use tower_latch::held::Pollable;
+use tower_latch::{Latch, Token};
 
 /// Where an executor keeps its task for the test.
 #[derive(Drop)]
@@ -110,6 +110,10 @@ fn word<S, E>(step: &SlotStep<S, E>) -> &'static str {
 impl<'a, S: Drop, E: Drop, L: Latch<SlotCore<S, E>>> Latch<SlotCore<S, E>> for Told<'a, L> {
     ghost gave = { λ latch step reply. L.gave latch.inner step reply };
 
+    ghost size = { λ latch. L.size latch.inner };
+
+    ghost its = { λ latch token. L.its latch.inner token };
+
     ghost honest = { λ latch step reply given. L.honest latch.inner step reply given };
 
     fn step(&self, step: SlotStep<S, E>) -> SlotReply<S, E> {
@@ -117,9 +121,22 @@ impl<'a, S: Drop, E: Drop, L: Latch<SlotCore<S, E>>> Latch<SlotCore<S, E>> for T
         self.inner.step(step)
     }
 
-    fn wait(&self, step: SlotStep<S, E>, cx: &mut Context<'_>) -> SlotReply<S, E> {
+    fn wait(&self, step: SlotStep<S, E>, cx: &mut Context<'_>) -> (SlotReply<S, E>, Token) {
         self.log.note(word(&step));
         self.inner.wait(step, cx)
+    }
+
+    fn give(&self, step: SlotStep<S, E>, token: Token) -> (SlotReply<S, E>, Token) {
+        self.log.note(word(&step));
+        self.inner.give(step, token)
+    }
+
+    fn empty(&self) -> Token {
+        self.inner.empty()
+    }
+
+    fn merge(&self, token: Token, other: Token) -> Token {
+        self.inner.merge(token, other)
     }
 
     fn share(&self) -> Result<Told<'a, L>, AllocError> {

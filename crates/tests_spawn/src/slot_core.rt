@@ -3,7 +3,7 @@
 use std::test::Fail;
 use tests_support::checks::Checks;
 use tower::spawn_ready::{SlotCore, SlotReply, SlotStep};
-use tower_base::latch::Core;
+use tower_latch::Core;
 
 type Slot = SlotCore<u8, u8>;
 

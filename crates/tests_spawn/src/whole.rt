@@ -13,9 +13,9 @@ use tests_support::checks::Checks;
 use tests_support::log::Log;
 use tests_support::run::{fire, polled, task};
 use tower::spawn_ready::{Error, SlotCore, SlotStep, SpawnReady};
-use tower_base::latch::held::Viewed;
-use tower_base::latch::{Guarded, Latch};
 use tower_base::service::{Executor, Service};
+use tower_latch::held::Viewed;
+use tower_latch::{Guarded, Latch};
 use tower_util::util::service_fn;
 
 fn two_polls<H: Service<u8>>(solo: &Solo, mut handle: H) -> u8

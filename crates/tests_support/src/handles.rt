@@ -9,8 +9,8 @@ use std::alloc::{AllocError, AllocGlobal};
 use std::fmt::Display;
 use std::random::RandomSource;
 use std::test::Fail;
-use tower_base::latch::held::Pollable;
 use tower_base::service::{Service, Steps};
+use tower_latch::held::Pollable;
 
 // One act. Services, the first one and its clones, have numbers from 0 on, and so have responses. An act upon what is gone does nothing.
 #[derive(Clone, Copy, Debug)]

@@ -6,7 +6,7 @@ use futures::task::Context;
 use std::alloc::AllocError;
 use std::cell::Cell;
 use std::fmt::Debug;
-use tower_base::latch::{Core, Latch};
+use tower_latch::{Core, Latch, Token};
 
 /// A latch over another. It notes its steps, shares and drop, and its shares may be refused.
 pub struct Noting<'a, L: Drop> {
@@ -30,6 +30,10 @@ where
 {
     ghost gave = { λ latch step reply. L.gave latch.inner step reply };
 
+    ghost size = { λ latch. L.size latch.inner };
+
+    ghost its = { λ latch token. L.its latch.inner token };
+
     ghost honest = { λ latch step reply given. L.honest latch.inner step reply given };
 
     fn step(&self, step: C::Step) -> C::Reply {
@@ -37,9 +41,22 @@ where
         self.inner.step(step)
     }
 
-    fn wait(&self, step: C::Step, cx: &mut Context<'_>) -> C::Reply {
+    fn wait(&self, step: C::Step, cx: &mut Context<'_>) -> (C::Reply, Token) {
         self.log.note(format_args!("latch waited {step:?}"));
         self.inner.wait(step, cx)
+    }
+
+    fn give(&self, step: C::Step, token: Token) -> (C::Reply, Token) {
+        self.log.note(format_args!("latch stepped {step:?}"));
+        self.inner.give(step, token)
+    }
+
+    fn empty(&self) -> Token {
+        self.inner.empty()
+    }
+
+    fn merge(&self, token: Token, other: Token) -> Token {
+        self.inner.merge(token, other)
     }
 
     fn share(&self) -> Result<Noting<'a, L>, AllocError> {

@@ -14,8 +14,8 @@ use std::{io, thread};
 use tests_support::checks::Checks;
 use tests_support::run::task;
 use tower::util::block_on_each;
-use tower_base::latch::Latch;
 use tower_base::service::{Service, Steps};
+use tower_latch::Latch;
 use tower_limit::limit::concurrency::{LineCore, Permit, PollSemaphore, Semaphore};
 
 // So often is each door asked at least before it opens.

@@ -1,6 +1,9 @@
-//! Tests of `tower::{filter, load_shed, reconnect, steer, timeout}` and of streams of calls, of what no script asks.
+//! Tests of `tower::{filter, load_shed, reconnect, steer, timeout}` and of streams of calls, of what no script asks, and of what
+//! all services stand on.
 #![tactic(auto)]
 
+#[cfg(test)]
+mod base;
 #[cfg(test)]
 mod call_all;
 #[cfg(test)]

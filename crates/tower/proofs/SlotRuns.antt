@@ -1,7 +1,7 @@
 -- Where a service that comes back came from.
 use Rattle.std.specs.Prelude.{◌≡◌, ◌⊎◌, List, [], ◌∷◌}
 use Rattle.std.proofs.Common.{ap, inl, inr, ⊎_elim}
-use Rattle.tower_base.specs.Latch.{Serves}
+use Rattle.tower_latch.specs.Latch.{Serves}
 use Rattle.tower.specs.Slot.{SlotSteps}
 use Rattle.tower.specs.SlotLaws.{ComesFromATask, GiveNone, GivesNone, PutBefore}
 use Rattle.tower.specs.declared.spawn_ready.slot_core.Slot.{Slot}

@@ -6,7 +6,7 @@ use Rattle.tower_base.specs.Passes.{Goes}
 use Rattle.tower_base.specs.ServiceRun.{Relations, relations, Action, Takes}
 use Rattle.tower_base.specs.Projection.{RunInside}
 use Rattle.tower_base.specs.ProjectionLemmas.{no_action, one_poll, one_call}
-use Rattle.tower_base.specs.declared.latch.Latch.{Ghosts as LatchOf}
+use Rattle.tower_latch.specs.declared.Latch.{Ghosts as LatchOf}
 use Rattle.tower_base.specs.declared.service.Executor.{Ghosts as ExecutorOf}
 use Rattle.tower_base.specs.declared.service.Service.{Ghosts as ServiceOf}
 use Rattle.tower_ware.proofs.RunsLemmas.{after}

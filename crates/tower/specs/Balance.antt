@@ -24,7 +24,8 @@ use Rattle.tower_pool.specs.declared.ready_cache.error.Failed.{Failed}
 use Rattle.tower_pool.specs.declared.ready_cache.error.Error.{Error as CacheError}
 use Rattle.tower_pool.specs.declared.ready_cache.error.Error.TheVariants.{Failed as EndpointFailed, Memory as NoRoom}
 
--- a `Balance`: the index of the endpoint that was chosen, an insert that found no room yet, and whether the discovery has ended
+-- The value of a `Balance`. `kept` is the index of the endpoint that was chosen, `change` an insert that found no room yet, and `is_over` says
+-- whether the discovery has ended.
 pub record BalanceView (D R K S : Type 0) : Type 0 where
   pub discover : D
   pub services : ReadyCacheView K S
@@ -33,19 +34,19 @@ pub record BalanceView (D R K S : Type 0) : Type 0 where
   pub change : Option (K × S)
   pub is_over : Bool
 
--- what it shows
+-- the view of a `Balance`
 abbrev pub view_of : {D R Q K S X : Type 0} → Balance D R Q K S X → BalanceView D R K S
 view_of b = record { discover = b.discover; services = b.services.lists; kept = b.kept; rng = b.rng; change = b.change; is_over = b.is_over }
 
--- a new one
+-- a new `Balance`
 abbrev pub fresh : {D R K S : Type 0} → D → R → BalanceView D R K S
 fresh discover rng = record { discover = discover; services = record { ready = []; pending = [] }; kept = None; rng = rng; change = None; is_over = false }
 
--- how many endpoints it has, ready or pending
+-- the number of endpoints, ready or pending
 abbrev pub count_of : {D R K S : Type 0} → BalanceView D R K S → ℕ
 count_of v = length v.services.ready + length v.services.pending
 
--- what constructors make: the discovery and each endpoint are sound, and so is whatever the discovery may insert
+-- A `Balance` is sound, as the constructors ensure, if the discovery, each endpoint and whatever the discovery may insert are sound.
 pub record Sound {D R K S X : Type 0} (discovers : D → Type 0) (discovered : D → Found K S X → D → Type 0) (sound : S → Type 0) (v : BalanceView D R K S) : Type 0 where
   pub discover : discovers v.discover
   pub services : CacheSound sound v.services
@@ -57,17 +58,17 @@ module _ {K S : Type 0} (eq : K → K → Bool) where
   abbrev pub pushed : ReadyCacheView K S → K → S → ReadyCacheView K S
   pushed c k s = record c { pending = cancel eq k c.pending ++ waiting k s ∷ [] }
 
-  -- and after an eviction
+  -- the cache after an eviction
   abbrev pub evicted : ReadyCacheView K S → K → ReadyCacheView K S
   evicted c k = record { ready = swap_remove_entry (eq k) c.ready; pending = cancel eq k c.pending }
 
 module _ {D R K S X : Type 0} (discovered : D → Found K S X → D → Type 0) (eq : K → K → Bool) {E : Type 0} where
-  -- An insert is pushed. Where there is no room it is kept for the next poll.
+  -- An insert is pushed. If there is no room, it is kept for the next poll.
   abbrev pub Inserted : BalanceView D R K S → K → S → Option (Result (Unit {0}) (Error E X)) → BalanceView D R K S → Type 0
   Inserted old k s answer new = ((answer ≡ None) × (new ≡ record old { services = pushed eq old.services k s }))
       ⊎ ((answer ≡ Some (Err Memory)) × (new ≡ record old { change = Some (k, s) }))
 
-  -- one pass of reading, by what was found
+  -- one pass of reading the discovery, by what was found
   abbrev pub AfterFound : BalanceView D R K S → Found K S X → Option (Result (Unit {0}) (Error E X)) → BalanceView D R K S → Type 0
   AfterFound old (Ready (Some (Ok (Insert k s)))) answer new = Inserted old k s answer new
   AfterFound old (Ready (Some (Ok (Remove k)))) answer new = (answer ≡ None) × (new ≡ record old { services = evicted eq old.services k })
@@ -75,15 +76,15 @@ module _ {D R K S X : Type 0} (discovered : D → Found K S X → D → Type 0) 
   AfterFound old (Ready None) answer new = (answer ≡ Some (Ok tt)) × (new ≡ record old { is_over = true })
   AfterFound old Pending answer new = (answer ≡ Some (Ok tt)) × (new ≡ old)
 
-  -- one pass of reading asks the discovery once
+  -- One pass of reading polls the discovery once.
   abbrev pub Reads : BalanceView D R K S → Option (Result (Unit {0}) (Error E X)) → BalanceView D R K S → Type 0
   Reads old answer new = (found : Found K S X) × (left : D) × discovered old.discover found left × AfterFound (record old { discover = left }) found answer new
 
-  -- a discovery that hasn't ended is read, 64 passes at most
+  -- A discovery that hasn't ended is read, in 64 passes at most.
   abbrev pub ReadsAll : BalanceView D R K S → Result (Unit {0}) (Error E X) → BalanceView D R K S → Type 0
   ReadsAll old answer new = ByTest old.is_over ((answer ≡ Ok tt) × (new ≡ old)) (Passes Reads (Ok tt) old answer new)
 
-  -- an insert that was kept comes first
+  -- An insert that was kept is pushed first.
   abbrev pub ChangedAt : Option (K × S) → BalanceView D R K S → Result (Unit {0}) (Error E X) → BalanceView D R K S → Type 0
   ChangedAt None old answer new = ReadsAll old answer new
   ChangedAt (Some e) old answer new = ((answer ≡ Err Memory) × (new ≡ old))
@@ -93,12 +94,12 @@ module _ {D R K S X : Type 0} (discovered : D → Found K S X → D → Type 0) 
   abbrev pub Changed : BalanceView D R K S → Result (Unit {0}) (Error E X) → BalanceView D R K S → Type 0
   Changed old answer new = ChangedAt old.change old answer new
 
--- the ready endpoint that a pass asks, if there is one: that at the kept index
+-- the ready endpoint that a pass polls, if there is one: the endpoint at the kept index
 abbrev pub asked_at : {K S : Type 0} → Option ℕ → List (K × S) → List (K × S)
 asked_at None ready = []
 asked_at (Some i) ready = option_map_or (λ e. e ∷ []) (slice_get ready i) []
 
--- a pass that picked an endpoint goes on
+-- If a pass picked an endpoint, another pass follows. If it picked none, the poll is pending.
 abbrev pub answer_of : {A : Type 0} → Option ℕ → Option (Poll A)
 answer_of None = Some Pending
 answer_of (Some i) = None
@@ -111,7 +112,7 @@ module _ {K S Q A E G X : Type 0} (eq : K → K → Bool) (s : ServiceOf S Q A E
   Ended (Ready (Err NoRoom)) answer = answer ≡ Err Memory
   Ended (Ready (Err (EndpointFailed k e))) answer = ⊥
 
-  -- the pending endpoints are polled again after each that failed, which is dropped: so many failed
+  -- The pending endpoints are polled again after each that failed, which is dropped. The number is that of the endpoints that failed.
   abbrev pub PromotesAfter : ℕ → ReadyCacheView K S → Result (Unit {0}) (Error E X) → ReadyCacheView K S → Type 0
   PromotesAfter zero old answer new = (inner : Poll (Result (Unit {0}) (CacheError K E))) × PendingPolled eq s old inner new × Ended inner answer
   PromotesAfter (suc n) old answer new = (mid : ReadyCacheView K S) × (k : K) × (e : E) × PendingPolled eq s old (Ready (Err (EndpointFailed k e))) mid × PromotesAfter n mid answer new
@@ -120,13 +121,13 @@ module _ {K S Q A E G X : Type 0} (eq : K → K → Bool) (s : ServiceOf S Q A E
   Promotes old answer new = (n : ℕ) × PromotesAfter n old answer new
 
 module _ {K S M : Type 0} (loaded : S → M → Type 0) (cmp : M → M → Option Ordering) where
-  -- whether the load that one endpoint tells is at most that of the other; of loads that don't compare it isn't
+  -- Whether the load that one endpoint reports is at most that of the other. If the loads don't compare, it isn't.
   abbrev pub IsLighter : List (K × S) → ℕ → ℕ → Bool → Type 0
   IsLighter ready i j lighter = (x : M) × (y : M) × At ready i (λ e. loaded e.1 x) × At ready j (λ e. loaded e.1 y) × (lighter ≡ partial_le cmp x y)
 
 module _ {R K S M : Type 0} (loaded : S → M → Type 0) (cmp : M → M → Option Ordering) (drew : R → ℕ → R → Type 0) where
-  -- Of no ready endpoint none is picked, and of one that one. Of more, two are drawn and their loads told: the first is picked exactly where its load is
-  -- at most the second's.
+  -- If no endpoint is ready, none is picked, and if one is, that one. Of more, two are drawn and report their loads: the first is picked exactly if
+  -- its load is at most the second's.
   abbrev pub PickedOf : List (K × S) → List (K × S) → R → Option ℕ → R → Type 0
   PickedOf [] ready old index new = (index ≡ None) × (new ≡ old)
   PickedOf (e ∷ []) ready old index new = (index ≡ Some 0) × (new ≡ old)
@@ -142,18 +143,18 @@ module _ {D R K S Q A E G X : Type 0} (eq : K → K → Bool) (s : ServiceOf S Q
   Promoted old answer new = Promotes eq s old.services answer new.services × (new ≡ record old { services = new.services })
 
 module _ {D R K S Q A E G X M : Type 0} (eq : K → K → Bool) (s : ServiceOf S Q A E G) (loaded : S → M → Type 0) (cmp : M → M → Option Ordering) (drew : R → ℕ → R → Type 0) where
-  -- what was picked is kept, and is checked in the next pass; where there is none the poll is pending
+  -- The index that was picked is kept, and is checked in the next pass. If none was picked, the poll is pending.
   abbrev pub Chooses : BalanceView D R K S → Option (Poll (Result (Unit {0}) (Error E X))) → BalanceView D R K S → Type 0
   Chooses old answer new = (index : Option ℕ) × (rng : R) × Picked loaded cmp drew old.services.ready old.rng index rng
       × (answer ≡ answer_of index) × (new ≡ record old { rng = rng; kept = index })
 
-  -- after a check, the endpoint at the kept index is ready, or another one is chosen
+  -- After a check the endpoint at the kept index is ready, or another one is chosen.
   abbrev pub AfterCheck : BalanceView D R K S → ℕ → Result Bool (Failed K E) → Option (Poll (Result (Unit {0}) (Error E X))) → BalanceView D R K S → Type 0
   AfterCheck old i (Ok true) answer new = At old.services.ready i (λ e. s.ready e.1) × (answer ≡ Some (Ready (Ok tt))) × (new ≡ old)
   AfterCheck old i (Ok false) answer new = Chooses old answer new
   AfterCheck old i (Err x) answer new = Chooses old answer new
 
-  -- one pass of the choosing: a kept index is checked, once
+  -- one pass of choosing, which checks a kept index once
   abbrev pub PassAt : Option ℕ → BalanceView D R K S → Option (Poll (Result (Unit {0}) (Error E X))) → BalanceView D R K S → Type 0
   PassAt None old answer new = Chooses old answer new
   PassAt (Some i) old answer new = (inner : Result Bool (Failed K E)) × (services : ReadyCacheView K S) × Checked eq s old.services i inner services
@@ -162,12 +163,12 @@ module _ {D R K S Q A E G X M : Type 0} (eq : K → K → Bool) (s : ServiceOf S
   abbrev pub Pass : BalanceView D R K S → Option (Poll (Result (Unit {0}) (Error E X))) → BalanceView D R K S → Type 0
   Pass old answer new = PassAt old.kept old answer new
 
-  -- a pass, and the endpoints that were asked so far
+  -- a pass, with the endpoints that were polled so far
   abbrev pub CountedPass : BalanceView D R K S × List (K × S) → Option (Poll (Result (Unit {0}) (Error E X))) → BalanceView D R K S × List (K × S) → Type 0
   CountedPass old answer new = Pass old.0 answer new.0 × (new.1 ≡ old.1 ++ asked_at old.0.kept old.0.services.ready)
 
-  -- The choosing of a poll: at most one pass more than endpoints were ready as it began. Those that were ready are, in some order, those that were asked
-  -- and the rest, so that each is asked at most once.
+  -- The choosing of a poll makes at most one pass more than endpoints were ready when it began. The endpoints that were ready then are, in some
+  -- order, those that were polled and the rest, so each is polled at most once.
   pub record Chosen (old : BalanceView D R K S) (answer : Poll (Result (Unit {0}) (Error E X))) (new : BalanceView D R K S) : Type 0 where
     pub count : ℕ
     pub last : BalanceView D R K S
@@ -178,7 +179,7 @@ module _ {D R K S Q A E G X M : Type 0} (eq : K → K → Bool) (s : ServiceOf S
     pub ends : Pass last (Some answer) new
     pub once : IsPermutation old.services.ready ((asked ++ asked_at last.kept last.services.ready) ++ rest)
 
-  -- after the promotion, and after the changes before it
+  -- `AfterPromotion` is what follows the promotion, and `AfterChanges` what follows the changes, which come first.
   abbrev pub AfterPromotion : Result (Unit {0}) (Error E X) → BalanceView D R K S → Poll (Result (Unit {0}) (Error E X)) → BalanceView D R K S → Type 0
   AfterPromotion (Err e) old answer new = (answer ≡ Ready (Err e)) × (new ≡ old)
   AfterPromotion (Ok u) old answer new = Chosen old answer new
@@ -199,13 +200,13 @@ abbrev pub IsReady : {D R K S : Type 0} → (S → Type 0) → BalanceView D R K
 IsReady ready v = MatchOption v.kept ⊥ (λ i. At v.services.ready i (λ e. ready e.1))
 
 module _ {D R K S Q A E G : Type 0} (eq : K → K → Bool) (s : ServiceOf S Q A E G) where
-  -- a call goes to the kept index, which is then kept no more
+  -- A call goes to the endpoint at the kept index, which is no longer kept afterwards.
   abbrev pub Called : BalanceView D R K S → Q → Option G → BalanceView D R K S → Type 0
   Called old request future new = MatchOption old.kept ⊥ (λ i. (inner : G) × CacheCalled eq s old.services i request inner new.services
       × (future ≡ Some inner) × (new ≡ record old { services = new.services; kept = None }))
 
 module _ {F A E X : Type 0} (f : StepsOf F (Result A E)) where
-  -- a poll of the response of an endpoint, whose error is marked; with its answer the response is dropped
+  -- A poll of an endpoint's response, whose error is wrapped in `Inner`. The response is dropped once it is ready.
   pub record Stepped (old : Option F) (answer : Poll (Result A (Error E X))) (new : Option F) : Type 0 where
     pub inner : Poll (Result A E)
     pub stepped : FuseStepped f.stepped old inner new

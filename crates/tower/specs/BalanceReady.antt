@@ -1,4 +1,4 @@
--- What `Ok` of a poll says, and what pending says.
+-- What `Ok` and `Pending` of a balancer's poll imply.
 use Rattle.std.specs.Prelude.{ℕ, Bool, true, false, ◌≡◌, List, [], ◌∷◌, Option, Some, None, Result, Ok, Err, if◌then◌else◌, refl}
 use Rattle.std.proofs.Common.{ap, subst, sym, ◌∙◌}
 use Rattle.std.specs.Option.{MatchOption}
@@ -18,7 +18,7 @@ picked_on None = λ e. cc
 picked_on (Some i) = λ e. cc
 
 module _ {R K S M : Type 0} (loaded : S → M → Type 0) (cmp : M → M → Option Ordering) (drew : R → ℕ → R → Type 0) where
-  -- where none is picked, none is ready
+  -- If no endpoint is picked, none is ready.
   picked_none : (ready all : List (K × S)) (old : R) (index : Option ℕ) (new : R) → ready ≡ all → PickedOf loaded cmp drew ready all old index new → index ≡ None → all ≡ []
   picked_none [] all old index new is h e = sym is
   picked_none (u ∷ []) all old index new is h e = let f : index ≡ Some 0 = h.0 in cc
@@ -76,11 +76,11 @@ module _ {D R K S Q A E G X M : Type 0} (eq : K → K → Bool) (s : ServiceOf S
 
 module _ {D R K S Q A E G X M : Type 0} {eq : K → K → Bool} {s : ServiceOf S Q A E G} {loaded : S → M → Type 0} {cmp : M → M → Option Ordering} {drew : R → ℕ → R → Type 0}
     {discovered : D → Found K S X → D → Type 0} where
-  -- `Ok` leaves a ready balancer
+  -- `Ok` leaves a ready balancer.
   pub polled_ok : (old : BalanceView D R K S) (new : BalanceView D R K S) → Polled eq s loaded cmp drew discovered old (Ready (Ok tt)) new → IsReady s.ready new
   polled_ok old new p = changed_ok eq s loaded cmp drew p.inner p.mid (Ready (Ok tt)) new p.goes refl
 
-  -- pending leaves no ready endpoint
+  -- `Pending` leaves no ready endpoint.
   pub polled_none : (old : BalanceView D R K S) (answer : Poll (Result (Unit {0}) (Error E X))) (new : BalanceView D R K S)
       → Polled eq s loaded cmp drew discovered old answer new → OnPending answer (new.services.ready ≡ [])
   polled_none old (Ready x) new p = tt

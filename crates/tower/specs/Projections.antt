@@ -1,4 +1,4 @@
--- What goes inside of what hedges, a `SpawnReady` and a `Balance` are asked, and of what a buffer's worker does.
+-- Which actions on hedges, a `SpawnReady` and a `Balance` reach the services inside, and what a buffer's worker does to its service.
 use Rattle.std.proofs.Common.{◌≡◌, ◌⊎◌, ℕ, true, Contains, inl, inr, refl, ap, subst, sym, Option, Some, None, Result, Ok, Err, List, []}
 use Rattle.std.specs.Bool.{⊤}
 use Rattle.std.specs.List.{AllByRecursion}
@@ -10,7 +10,7 @@ use Rattle.tower_base.specs.ServiceRun.{Relations, relations, Action, Takes}
 use Rattle.tower_base.specs.Projection.{Once, MappedOrNone, Never, Projects, RunInside}
 use Rattle.tower_base.specs.ProjectionLemmas.{forwards, no_action, one_poll, one_call}
 use Rattle.tower_base.specs.Sleep.{SleepView}
-use Rattle.tower_base.specs.declared.latch.Latch.{Ghosts as LatchOf}
+use Rattle.tower_latch.specs.declared.Latch.{Ghosts as LatchOf}
 use Rattle.tower_base.specs.declared.service.Clock.{Ghosts as ClockOf}
 use Rattle.tower_base.specs.declared.service.Service.{Ghosts as ServiceOf}
 use Rattle.tower_retry.specs.Delay as De
@@ -44,7 +44,7 @@ use Rattle.tower.specs.declared.spawn_ready.slot_core.SlotReply.{SlotReply}
 use Rattle.tower.specs.declared.spawn_ready.slot_core.SlotReply.TheVariants.{Service}
 use Rattle.tower.specs.declared.spawn_ready.task.Held.{Held}
 
--- the policy of a `Select` may make this copy of the request, at some value of it
+-- The policy of a `Select`, at some value of it, may make this copy of the request.
 abbrev pub Copies : {P Q : Type 0} → SelectPolicyOf P Q → Q → Q → Type 0
 Copies {P} p request copy = (before after : P) × p.cloned before request (Some copy) after
 
@@ -67,7 +67,7 @@ module _ {P A B Q T E G F H : Type 0} (p : SelectPolicyOf P Q) (a : ServiceOf A 
   second old (Action.call request future) new takes = copied old new request takes.1.copy future.b_fut takes.1.cloned takes.1.second_called
 
 module _ {S Q A E F C : Type 0} (s : ServiceOf S Q A E F) where
-  -- A delayed call: its service, a clone, stays as it was until the delay is over. Then it is that of a `Oneshot`.
+  -- The service of a delayed call, a clone, stays as it was until the delay is over. From then on it is that of a `Oneshot`.
   abbrev pub RunsInDelay : DelayState (SleepView C) S Q (Oneshot S Q A E F) → DelayState (SleepView C) S Q (Oneshot S Q A E F) → Type 0
   RunsInDelay (Delaying before old request) (Delaying after new same) = (new ≡ old) × (same ≡ request)
   RunsInDelay (Delaying before old request) (InFlight new) = RunsInOneshot s (NotReady old request) new.state
@@ -105,7 +105,7 @@ module _ {N Q A E F : Type 0} (n : ServiceOf N Q A (SelectError E (DelayError (F
   hedge old (Action.call request future) new takes = one_call (relations n) old new request future takes.0 takes.1 refl
 
 module _ {S Q A E F L : Type 0} (s : ServiceOf S Q A E F) (l : LatchOf L (Slot S E) (SlotStep S E) (SlotReply S E)) where
-  -- a run without calls from the service that was here
+  -- a run without calls, from the service that was here
   abbrev pub FromHere : Option S → S → Type 0
   FromHere (Some old) new = RunInside (relations s) (λ x. x ≡ []) old new
   FromHere None new = ⊥
@@ -115,7 +115,7 @@ module _ {S Q A E F L : Type 0} (s : ServiceOf S Q A E F) (l : LatchOf L (Slot S
   IsHereAgain latch old (Some new) = FromHere old new ⊎ ((given : S) × l.gave latch Look (Service given) × RunInside (relations s) (λ x. x ≡ []) given new)
   IsHereAgain latch old None = Unit {0}
 
-  -- what an action of a `SpawnReady` is for the service that is here: a call goes to it
+  -- What an action on a `SpawnReady` does to the service that is here. A call goes to it.
   abbrev pub RunsHere : {X G : Type 0} → Sp.SpawnReadyView S X L → Action Q (SpawnError E) G → Sp.SpawnReadyView S X L → Type 0
   RunsHere old (Action.poll answer) new = IsHereAgain old.latch old.service new.service
   RunsHere old (Action.call request future) new =
@@ -126,32 +126,32 @@ module _ {S Q A E F L : Type 0} (s : ServiceOf S Q A E F) (l : LatchOf L (Slot S
   EndsWith old = ((left : S) × RunInside (relations s) (λ x. x ≡ []) old.service left × Sp.StepMade l old.latch (Put left))
       ⊎ ((error : E) × Sp.StepMade l old.latch (PutError error)) ⊎ ((reply : SlotReply S E) × l.gave old.latch Aborted reply × (Sp.tells reply ≡ true))
 
-  -- a poll of a task makes no call of its service
+  -- A poll of a task doesn't call its service.
   abbrev pub RunsInTask : Option (Held S L) → Option (Held S L) → Type 0
   RunsInTask (Some old) (Some new) = RunInside (relations s) (λ x. x ≡ []) old.service new.service × (new.latch ≡ old.latch)
   RunsInTask (Some old) None = EndsWith old
   RunsInTask None new = ⊥
 
 module _ {S Q A E F : Type 0} (s : ServiceOf S Q A E F) where
-  -- a run whose requests have this leads to the service from one that has P
+  -- A run whose requests satisfy `Has` leads to the service `left`, from one that satisfies `P`.
   abbrev pub LedTo : (S → Type 0) → (List Q → Type 0) → S → Type 0
   LedTo P Has left = (first : S) × P first × RunInside (relations s) Has first left
 
--- the service is that of an endpoint of the balancer, or one that its discovery may insert
+-- The service is that of an endpoint of the balancer, or one that its discovery may insert.
 abbrev pub MayBeEndpoint : {D R K S X : Type 0} → (D → Found K S X → D → Type 0) → BalanceView D R K S → S → Type 0
 MayBeEndpoint {K = K} {S = S} discovered v service = ((key : K) × Contains v.services.ready (key, service))
     ⊎ ((pending : PendingView K S) × Contains v.services.pending pending × (pending.service ≡ service))
     ⊎ ((key : K) × (v.change ≡ Some (key, service))) ⊎ ((key : K) × MayInsert discovered v.discover key service)
 
--- P holds of each endpoint of a balancer that isn't cancelled, and of whatever its discovery may insert
+-- `P` holds for each endpoint of a balancer that isn't cancelled, and for whatever its discovery may insert.
 abbrev pub EachEndpoint : {D R K S X : Type 0} → (D → Found K S X → D → Type 0) → (S → Type 0) → BalanceView D R K S → Type 0
 EachEndpoint discovered P v = BalanceSound (λ d. Unit {0}) discovered P v
 
 module _ {L S Q A E F : Type 0} (gave : L → MailStep Q F E → MailReply Q F E → Type 0) (s : ServiceOf S Q A E F) where
-  -- the request is of the message that the worker keeps, or of one that the mail gave it
+  -- The request is that of the message that the worker keeps, or of one that the mail gave it.
   abbrev pub IsMessage : WorkerView L S Q → Q → Type 0
   IsMessage worker request = ((id : ℕ) × (worker.message ≡ Some (id, request))) ⊎ ((id : ℕ) × gave worker.latch Take (Message id request))
 
-  -- a poll of a buffer's worker is a run of its service, with the requests of messages alone
+  -- A poll of a buffer's worker is a run of its service, whose requests are all those of messages.
   abbrev pub RunsInWorker : WorkerView L S Q → WorkerView L S Q → Type 0
   RunsInWorker old new = RunInside (relations s) (AllByRecursion (IsMessage old)) old.service new.service

@@ -25,7 +25,7 @@ slot_step old Abort = (Done, Aborted)
 slot_step old TaskGone = (Done, old)
 slot_step old step = (Unknown, old)
 
--- the asker is to come again: the service isn't there yet, or the task is still waited for
+-- The caller has to wait: the service isn't there yet, or the task is still waited for.
 abbrev pub is_waiting : {S E : Type 0} → SlotReply S E → Bool
 is_waiting Waiting = true
 is_waiting (Truth false) = true

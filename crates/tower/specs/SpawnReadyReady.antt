@@ -1,10 +1,10 @@
--- An `Ok` of `SpawnReady` comes of the last pass, and leaves a ready value.
+-- An `Ok` of a `SpawnReady` comes from the last pass, and leaves a ready value.
 use Rattle.std.specs.Prelude.{Option, Some, None, Result, Ok, Err, IsSomeAnd}
 use Rattle.std.proofs.Common.{⊎_elim}
 use Rattle.futures.specs.declared.task.Poll.{Poll}
 use Rattle.futures.specs.declared.task.Poll.TheVariants.{Ready, Pending}
 use Rattle.tower_base.specs.PassesLemmas.{passes_last}
-use Rattle.tower_base.specs.declared.latch.Latch.{Ghosts as LatchOf}
+use Rattle.tower_latch.specs.declared.Latch.{Ghosts as LatchOf}
 use Rattle.tower_base.specs.declared.service.Executor.{Ghosts as ExecutorOf}
 use Rattle.tower_base.specs.declared.service.Service.{Ghosts as ServiceOf}
 use Rattle.tower.specs.SpawnReady.{AfterPoll, AfterReply, AfterSpawn, HandsOver, Pass, PassAt, Polled, SpawnReadyView}

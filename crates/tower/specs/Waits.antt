@@ -1,4 +1,4 @@
--- What waits on the calling thread: polls one after another until one answers, and a call with its response.
+-- Waiting on the calling thread: polls, one after another, until one is ready, and a call with its response.
 use Rattle.std.specs.Prelude.{◌≡◌, ℕ, zero, suc, ◌⊎◌, List, [], ◌∷◌, Result, Ok, Err}
 use Rattle.futures.specs.declared.task.Poll.{Poll}
 use Rattle.futures.specs.declared.task.Poll.TheVariants.{Ready, Pending}
@@ -6,7 +6,7 @@ use Rattle.tower_base.specs.Gives.{MayGive}
 use Rattle.tower_base.specs.declared.service.Service.{Ghosts as ServiceOf}
 
 module _ {S A : Type 0} (polled : S → Poll A → S → Type 0) where
-  -- so many pending polls lead from old to new
+  -- The given number of pending polls leads from `old` to `new`.
   abbrev pub Pends : ℕ → S → S → Type 0
   Pends zero old new = new ≡ old
   Pends (suc n) old new = (mid : S) × Pends n old mid × polled mid Pending new
@@ -16,14 +16,14 @@ module _ {S A : Type 0} (polled : S → Poll A → S → Type 0) where
   Pended old new = (n : ℕ) × Pends n old new
 
 module _ {S Q A E F : Type 0} (s : ServiceOf S Q A E F) where
-  -- some number of pending polls of readiness, and then one that answers
+  -- some number of pending polls of readiness, and then one that is ready
   pub record Waited (old : S) (answer : Result (Unit {0}) E) (new : S) : Type 0 where
     pub last : S
     pub pended : Pended s.polled old last
     pub polled : s.polled last (Ready answer) new
 
 module _ {S Q A E F : Type 0} (s : ServiceOf S Q A E F) (stepped : F → Poll (Result A E) → F → Type 0) where
-  -- the service was waited for and called, and its future may give the answer
+  -- The service was waited for and called, and its future may give the answer.
   pub record Replied (old : S) (request : Q) (answer : Result A E) (new : S) : Type 0 where
     pub asked : S
     pub future : F
@@ -32,7 +32,7 @@ module _ {S Q A E F : Type 0} (s : ServiceOf S Q A E F) (stepped : F → Poll (R
     pub called : s.called asked request future new
     pub gives : MayGive stepped future answer
 
-  -- the service was waited for, and readiness answered an error, which is the answer
+  -- The service was waited for, and its readiness failed with an error, which is the answer.
   pub record Refused (old : S) (answer : Result A E) (new : S) : Type 0 where
     pub error : E
     pub waited : Waited s old (Err error) new
@@ -43,7 +43,7 @@ module _ {S Q A E F : Type 0} (s : ServiceOf S Q A E F) (stepped : F → Poll (R
 
 module _ {S Q A E F C : Type 0} (s : ServiceOf S Q A E F) (stepped : F → Poll (Result A E) → F → Type 0)
     (told : C → Result A E → Unit {0} → C → Type 0) where
-  -- the requests were called one after another, and each answer told to the closure before the next call
+  -- The service was called with the requests, one after another, and each answer was passed to the closure before the next call.
   abbrev pub Each : List Q → S → C → S → C → Type 0
   Each [] old each new last = (new ≡ old) × (last ≡ each)
   Each (request ∷ requests) old each new last = (answer : Result A E) × (left : S) × (after : C)

@@ -1,4 +1,4 @@
-//! Layers on layers: the Rust's `tower::builder`.
+//! A builder that stacks layers: the Rust's `tower::builder`.
 ghost use Rattle.std.specs.Prelude.{◌≡◌, ◌≢◌, ◌<◌, IfOk, Some, None};
 ghost use Rattle.tower_util.specs.declared.util.either.Either.TheVariants.{Left, Right};
 
@@ -19,10 +19,10 @@ use std::marker::Model;
 use std::sync::Wait;
 use tower_base::service::{Clock, Service};
 
-/// Layers, the first of which is outermost: the Rust's `tower::ServiceBuilder`.
+/// A builder of a stack of layers, the first of which is outermost: the Rust's `tower::ServiceBuilder`.
 ///
-/// Contracts see it as the one layer that it is. A layer that is added goes inside those that
-/// are there, so it is applied before them.
+/// Contracts see the builder as the one layer that it amounts to. A layer that is added goes inside those
+/// that are there, so it is applied before them.
 #[derive(Clone, Drop)]
 pub struct ServiceBuilder<L> {
     layer: L,
@@ -35,7 +35,7 @@ impl<L> Model for ServiceBuilder<L> {
 }
 
 impl ServiceBuilder<Identity> {
-    /// No layers.
+    /// Creates a builder without layers.
     pub fn new() -> ServiceBuilder<Identity> {
         ServiceBuilder {
             layer: Identity::new(),
@@ -66,14 +66,14 @@ impl<L> ServiceBuilder<L> {
         self.layer(option_layer(layer))
     }
 
-    /// Adds a layer by a closure.
+    /// Adds a layer that is made from a closure.
     pub fn layer_fn<F>(self, f: F) -> ServiceBuilder<Stack<LayerFn<F>, L>>
         ensures { result ≡ record { inner = f; outer = self } }
     {
         self.layer(layer_fn(f))
     }
 
-    /// Adds a limit on the time of a response, in nanoseconds of the clock.
+    /// Adds a limit on the time that a response may take, `duration` nanoseconds of the clock.
     pub fn timeout<C: Clock>(
         self,
         duration: u64,
@@ -84,8 +84,8 @@ impl<L> ServiceBuilder<L> {
         self.layer(TimeoutLayer::new(duration, clock))
     }
 
-    /// Adds a queue of so many messages, whose worker goes to the executor. It asks for what
-    /// `Buffer::fits` tests, and for errors whose clones equal what was cloned.
+    /// Adds a queue of `bound` messages, whose worker is spawned on the executor. Requires what
+    /// `Buffer::fits` tests, and that a clone of an error equals the error.
     pub fn buffer<Request, E: Clone, X, R>(
         self,
         rt: R,
@@ -100,7 +100,7 @@ impl<L> ServiceBuilder<L> {
         self.layer(BufferLayer::new(rt, alloc, bound, executor))
     }
 
-    /// Adds a limit on the calls in flight, one for each service that is made.
+    /// Adds a limit of `max` calls in flight. Each service that the layer makes has its own limit.
     pub fn concurrency_limit<R: Wait + Copy>(
         self,
         rt: R,
@@ -112,8 +112,7 @@ impl<L> ServiceBuilder<L> {
         self.layer(ConcurrencyLimitLayer::new(rt, alloc, max))
     }
 
-    /// Adds a limit of so many calls in so many nanoseconds of the clock. It asks for what
-    /// `Rate::fits` tests.
+    /// Adds a limit of `num` calls in `per` nanoseconds of the clock. Requires what `Rate::fits` tests.
     pub fn rate_limit<C: Clock>(
         self,
         alloc: Global,
@@ -128,35 +127,35 @@ impl<L> ServiceBuilder<L> {
         self.layer(RateLimitLayer::new(alloc, num, per, clock))
     }
 
-    /// Answers `Overloaded` where what is inside isn't ready.
+    /// Adds load shedding: a call fails with `Overloaded` if the inner service isn't ready.
     pub fn load_shed(self) -> ServiceBuilder<Stack<LoadShedLayer, L>>
         ensures { result ≡ record { inner = record {}; outer = self } }
     {
         self.layer(LoadShedLayer::new())
     }
 
-    /// Adds retries by clones of the policy.
+    /// Adds retries, which clones of the policy decide.
     pub fn retry<P>(self, policy: P) -> ServiceBuilder<Stack<RetryLayer<P>, L>>
         ensures { result ≡ record { inner = policy; outer = self } }
     {
         self.layer(RetryLayer::new(policy))
     }
 
-    /// Lets through the requests that the predicate lets through.
+    /// Adds a filter, which passes on only the requests that the predicate accepts.
     pub fn filter<P>(self, predicate: P) -> ServiceBuilder<Stack<FilterLayer<P>, L>>
         ensures { result ≡ record { inner = predicate; outer = self } }
     {
         self.layer(FilterLayer::new(predicate))
     }
 
-    /// As `filter`, by a predicate that answers later.
+    /// Adds a filter as `filter` does, by a predicate that returns a future.
     pub fn filter_async<P>(self, predicate: P) -> ServiceBuilder<Stack<AsyncFilterLayer<P>, L>>
         ensures { result ≡ record { inner = predicate; outer = self } }
     {
         self.layer(AsyncFilterLayer::new(predicate))
     }
 
-    /// Adds a closure over the requests.
+    /// Adds a closure that changes each request.
     pub fn map_request<F, R1, R2>(self, f: F) -> ServiceBuilder<Stack<MapRequestLayer<F>, L>>
     where
         F: FnMut(R1) -> R2 + Clone,
@@ -165,56 +164,56 @@ impl<L> ServiceBuilder<L> {
         self.layer(MapRequestLayer::new(f))
     }
 
-    /// Adds a closure over the responses.
+    /// Adds a closure that changes each response.
     pub fn map_response<F>(self, f: F) -> ServiceBuilder<Stack<MapResponseLayer<F>, L>>
         ensures { result ≡ record { inner = record { f = f }; outer = self } }
     {
         self.layer(MapResponseLayer::new(f))
     }
 
-    /// Adds a closure over the errors.
+    /// Adds a closure that changes each error.
     pub fn map_err<F>(self, f: F) -> ServiceBuilder<Stack<MapErrLayer<F>, L>>
         ensures { result ≡ record { inner = record { f = f }; outer = self } }
     {
         self.layer(MapErrLayer::new(f))
     }
 
-    /// Adds a closure over the futures.
+    /// Adds a closure that changes each future.
     pub fn map_future<F>(self, f: F) -> ServiceBuilder<Stack<MapFutureLayer<F>, L>>
         ensures { result ≡ record { inner = record { f = f }; outer = self } }
     {
         self.layer(MapFutureLayer::new(f))
     }
 
-    /// Adds a closure over the results.
+    /// Adds a closure that changes each result.
     pub fn map_result<F>(self, f: F) -> ServiceBuilder<Stack<MapResultLayer<F>, L>>
         ensures { result ≡ record { inner = record { f = f }; outer = self } }
     {
         self.layer(MapResultLayer::new(f))
     }
 
-    /// Adds a second future for each result.
+    /// Adds a closure that goes on from each result with a second future.
     pub fn then<F>(self, f: F) -> ServiceBuilder<Stack<ThenLayer<F>, L>>
         ensures { result ≡ record { inner = record { f = f }; outer = self } }
     {
         self.layer(ThenLayer::new(f))
     }
 
-    /// Adds a second future for each response.
+    /// Adds a closure that goes on from each response with a second future.
     pub fn and_then<F>(self, f: F) -> ServiceBuilder<Stack<AndThenLayer<F>, L>>
         ensures { result ≡ record { inner = record { f = f }; outer = self } }
     {
         self.layer(AndThenLayer::new(f))
     }
 
-    /// The layer.
+    /// Returns the layer.
     pub fn into_inner(self) -> L
         ensures { result ≡ self }
     {
         self.layer
     }
 
-    /// Wraps the service. Where a layer was refused memory, the service is dropped.
+    /// Wraps the service in the layers. Returns an error, and drops the service, if allocation fails.
     pub fn service<S>(&self, service: S) -> Result<L::Service, AllocError>
     where
         L: Layer<S>,
@@ -224,7 +223,7 @@ impl<L> ServiceBuilder<L> {
         self.layer.layer(service)
     }
 
-    /// Wraps a service by a closure.
+    /// Wraps a service that is made from a closure.
     pub fn service_fn<F>(self, f: F) -> Result<L::Service, AllocError>
     where
         L: Layer<ServiceFn<F>> + Drop,
@@ -234,7 +233,7 @@ impl<L> ServiceBuilder<L> {
         self.service(service_fn(f))
     }
 
-    /// The builder itself, which has a clone.
+    /// Returns the builder itself, which has to be `Clone`.
     pub fn check_clone(self) -> ServiceBuilder<L>
     where
         L: Clone,
@@ -243,7 +242,7 @@ impl<L> ServiceBuilder<L> {
         self
     }
 
-    /// The builder itself, of whose service there is a clone.
+    /// Returns the builder itself, whose service has to be `Clone`.
     pub fn check_service_clone<S>(self) -> ServiceBuilder<L>
     where
         L: Layer<S>,
@@ -253,7 +252,8 @@ impl<L> ServiceBuilder<L> {
         self
     }
 
-    /// The builder itself, whose service takes these requests and gives these answers.
+    /// Returns the builder itself, whose service has to take requests `T` and return responses `U` and
+    /// errors `E`.
     pub fn check_service<S, T, U, E>(self) -> ServiceBuilder<L>
     where
         L: Layer<S>,

@@ -1,8 +1,8 @@
-//! What makes a service of another: the Rust's `tower::layer`.
+//! Layers, which make a service from another: the Rust's `tower::layer`.
 
 pub use tower_base::layer::{Layer, LayerFn, layer_fn};
 
-/// The Rust's `tower::layer::util`.
+/// The layer that changes nothing, and a stack of two layers: the Rust's `tower::layer::util`.
 pub mod util {
     pub use tower_base::layer::{Identity, Stack};
 }

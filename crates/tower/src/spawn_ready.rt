@@ -1,4 +1,4 @@
-//! A service that gets ready in a task of its own: the Rust's `tower::spawn_ready`.
+//! A service that becomes ready in a task of its own: the Rust's `tower::spawn_ready`.
 
 pub mod error;
 pub mod future;

@@ -1,4 +1,4 @@
-//! Small services and what combines them: the Rust's `tower::util`.
+//! Small services and combinators: the Rust's `tower::util`.
 
 mod ext;
 mod waits;

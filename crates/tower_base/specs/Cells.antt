@@ -1,4 +1,4 @@
--- What the contracts of `Cells` say of a slab of entries.
+-- What the contracts of `Cells` say about a slab of entries.
 use Rattle.std.specs.Prelude.{ℕ, map, Option, Some, None}
 use Rattle.tower_base.specs.Order.{with_next, with_previous}
 use Rattle.slab.specs.Slab.{Slab, get, with_value}
@@ -9,7 +9,7 @@ module _ {T : Type 0} where
   abbrev pub entry : T → Place → Entry T
   entry value place = record { value = value; place = place }
 
-  -- where the entry stands, if there is one
+  -- the place of the entry, if there is one
   abbrev pub place_of : Option (Entry T) → Option Place
   place_of None = None
   place_of (Some e) = Some e.place
@@ -25,7 +25,7 @@ module _ {T : Type 0} where
   abbrev pub value_at : Slab (Entry T) → ℕ → Option T
   value_at s key = value_of (get s key)
 
-  -- the slab where this entry, if there is one, has its place changed so
+  -- the slab in which the place of this entry, if there is one, is changed by f
   abbrev pub with_place_if : Slab (Entry T) → ℕ → (Place → Place) → Option (Entry T) → Slab (Entry T)
   with_place_if s key f None = s
   with_place_if s key f (Some e) = with_value s key (entry e.value (f e.place))
@@ -37,7 +37,7 @@ module _ {T : Type 0} where
   with_place_at s None f = s
   with_place_at s (Some key) f = with_place s key f
 
-  -- the slab where the entries at these keys, if there are such, name each other
+  -- the slab in which the entries at these keys, if there are any, link to each other
   abbrev pub bypassed : Slab (Entry T) → Option ℕ → Option ℕ → Slab (Entry T)
   bypassed s previous next =
       with_place_at (with_place_at s previous (with_next next)) next (with_previous previous)

@@ -1,4 +1,4 @@
--- Whole runs of a service and of the futures that its calls give.
+-- Whole runs of a service and of the futures that its calls return.
 use Rattle.std.specs.Prelude.{◌≡◌, ℕ, Bool, true, false, List, [], ◌∷◌, ◌++◌, length, Option, Some, None, Result, Ok, Err, slice_get, slice_set}
 use Rattle.futures.specs.declared.task.Poll.{Poll}
 use Rattle.futures.specs.declared.task.Poll.TheVariants.{Ready, Pending}
@@ -17,36 +17,36 @@ pub record State (S F O : Type 0) : Type 0 where
   pub may_call : Bool
   pub outside : O
 
--- before the first event
+-- the state before the first event
 abbrev pub opening : {S F O : Type 0} → S → O → State S F O
 opening service outside = record { service = service; futures = []; may_call = false; outside = outside }
 
--- the answer says that a call may be made
+-- whether the answer allows a call
 abbrev pub allows : {E : Type 0} → Poll (Result (Unit {0}) E) → Bool
 allows (Ready (Ok x)) = true
 allows (Ready (Err e)) = false
 allows Pending = false
 
--- a future after its poll
+-- the slot of a future after its poll
 abbrev pub slot_after : {F R : Type 0} → F → Poll R → Slot F
 slot_after f (Ready x) = Finished f
 slot_after f Pending = Live f
 
--- at this place stands a future that may be polled
+-- The slot has a future that may be polled.
 abbrev pub IsLive : {F : Type 0} → Option (Slot F) → Type 0
 IsLive (Some (Live f)) = Unit {0}
 IsLive (Some (Finished f)) = ⊥
 IsLive (Some Dropped) = ⊥
 IsLive None = ⊥
 
--- at this place stands a future that wasn't dropped
+-- The slot has a future that wasn't dropped.
 abbrev pub IsKept : {F : Type 0} → Option (Slot F) → Type 0
 IsKept (Some (Live f)) = Unit {0}
 IsKept (Some (Finished f)) = Unit {0}
 IsKept (Some Dropped) = ⊥
 IsKept None = ⊥
 
--- a call is made where it may be, of a ready service, and its future is numbered next
+-- A call is made only if it may be, and the service is ready. Its future gets the next number.
 pub record Calls {S Q A E F O : Type 0} (s : ServiceOf S Q A E F) (old : State S F O) (request : Q) (index : ℕ) (new : State S F O) : Type 0 where
   pub may_call : old.may_call ≡ true
   pub ready : s.ready old.service
@@ -55,7 +55,7 @@ pub record Calls {S Q A E F O : Type 0} (s : ServiceOf S Q A E F) (old : State S
   pub number : index ≡ length old.futures
   pub after : new ≡ record { service = new.service; futures = old.futures ++ Live future ∷ []; may_call = false; outside = old.outside }
 
--- the live future at this place is polled, and is finished by an answer
+-- The live future at this index is polled. If it returns an output, it is finished.
 pub record Polls {F R : Type 0} (stepped : F → Poll R → F → Type 0) (old : List (Slot F)) (index : ℕ) (answer : Poll R) (new : List (Slot F)) : Type 0 where
   pub future : F
   pub left : F
@@ -65,29 +65,29 @@ pub record Polls {F R : Type 0} (stepped : F → Poll R → F → Type 0) (old :
 
 module _ {S Q A E F T U O : Type 0} (s : ServiceOf S Q A E F)
     (stepped : F → Poll (Result A E) → F → Type 0) (turned : O → T → U → O → Type 0) where
-  -- From old, the event may have this entry and lead to new.
+  -- From `old`, the event may have this entry and lead to `new`.
   abbrev pub Step : State S F O → Event Q T → Entry A E U → State S F O → Type 0
-  -- the service is asked, and a call may be made exactly after `Ok`
+  -- The service's readiness is polled. A call may be made exactly after `Ok`.
   Step old PollEvent (Polled answer) new = s.polled old.service answer new.service
       × (new ≡ record old { service = new.service; may_call = allows answer })
-  -- a call is made where it may be, at a ready service; its future is numbered next
+  -- A call is made only if it may be, and the service is ready. Its future gets the next number.
   Step old (Call request) (Called index) new = Calls s old request index new
-  -- and it is skipped exactly where it may not
+  -- It is skipped exactly if it may not be made.
   Step old (Call request) Skipped new = (old.may_call ≡ false) × (new ≡ old)
-  -- a live future is polled, and is finished by an answer
+  -- A live future is polled. If it returns an output, it is finished.
   Step old (Future index) (Answered place answer) new = (place ≡ index) × Polls stepped old.futures index answer new.futures
       × (new ≡ record old { futures = new.futures })
   Step old (Future index) Skipped new = ¬ IsLive (slice_get old.futures index) × (new ≡ old)
-  -- a future that is kept is dropped
+  -- A future that is kept is dropped.
   Step old (Drop index) (DroppedEntry place) new = (place ≡ index) × IsKept (slice_get old.futures index)
       × (new ≡ record old { futures = slice_set old.futures index Dropped })
   Step old (Drop index) Skipped new = ¬ IsKept (slice_get old.futures index) × (new ≡ old)
-  -- the closure is called
+  -- The closure is called.
   Step old (Turn t) (Turned u) new = turned old.outside t u new.outside × (new ≡ record old { outside = new.outside })
-  -- nothing else happens
+  -- Nothing else happens.
   Step old event entry new = ⊥
 
-  -- the events may have these entries, one after another
+  -- The events, one after another, may have these entries.
   abbrev pub Run : State S F O → List (Event Q T) → List (Entry A E U) → State S F O → Type 0
   Run old [] [] new = new ≡ old
   Run old (event ∷ events) (entry ∷ entries) new = (mid : State S F O) × Step old event entry mid × Run mid events entries new

@@ -1,4 +1,4 @@
--- The ends of the order, and what a call leaves of them and of the entries.
+-- The ends of the order, and how a call changes them and the entries.
 use Rattle.std.specs.Prelude.{ℕ, ◌+◌, ◌-◌, List, Option, Some, None}
 use Rattle.slab.specs.Slab.{Slab}
 use Rattle.tower_base.specs.declared.links.cells.Place.{Place}
@@ -18,7 +18,7 @@ abbrev pub pushed_ends : ℕ → Ends → Ends
 pushed_ends key e = record { first = end_after e.last (Some key) e.first; last = Some key; len = e.len + 1 }
 
 module _ {T : Type 0} where
-  -- the keys of the linked entries, the front first
+  -- the keys of the linked entries, from the front
   abbrev pub order_of : Slab (Entry T) → Ends → List ℕ
   order_of s e = chain (place_at s) e.len e.first
 

@@ -8,12 +8,6 @@ pub mod Driver
 pub mod Ends
 pub mod Gives
 pub mod GivesLemmas
-pub mod Guarded
-pub mod Held
-pub mod History
-pub mod HistoryLemmas
-pub mod Latch
-pub mod LatchLemmas
 pub mod Links
 pub mod LinksLends
 pub mod Monotonic
@@ -26,4 +20,3 @@ pub mod Rng
 pub mod ServiceRun
 pub mod Sleep
 pub mod SystemClock
-pub mod Tokens

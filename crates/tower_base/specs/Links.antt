@@ -1,10 +1,10 @@
--- What a contract sees of a `Links`.
+-- What contracts see of a `Links`.
 use Rattle.std.specs.Prelude.{ℕ, List, refl}
 use Rattle.std.specs.Coded.{Coded, code_by, coded×, coded_ℕ, coded_list}
 use Rattle.slab.specs.Slab.{Slab, slab_code}
 
--- the keys that are linked, the front first, the value under each key, linked or not, with the room
--- that the slab has, and how many entries were reached so far
+-- The linked keys, from the front; the slab of the values under all keys, linked or not, with its capacity; and how many entries were
+-- reached so far.
 pub record LinksView (T : Type 0) : Type 0 where
   pub order : List ℕ
   pub entries : Slab T

@@ -1,4 +1,4 @@
--- What a `Links` ends as, where a `&` to one of its values is returned.
+-- What a `Links` ends as, if a `&` to one of its values is returned.
 use Rattle.std.specs.Prelude.{◌≡◌, ◌+◌, ◌≤◌}
 use Rattle.std.specs.Borrow.{Fml, RattleType, MutBor}
 use Rattle.std.specs.Io.BufRead.{Rests}

@@ -1,14 +1,14 @@
--- What it is that the entries of a slab stand in one order.
+-- What it means that the entries of a slab are linked in one order.
 use Rattle.std.specs.Prelude.{◌≡◌, ℕ, zero, suc, ◌<◌, Bool, true, false, eqb, not, if◌then◌else◌, List, [], ◌∷◌, length, Option, Some, None}
 use Rattle.std.specs.List.{list_any, filter}
 use Rattle.tower_base.specs.declared.links.cells.Place.{Place}
 use Rattle.tower_base.specs.declared.links.cells.Place.TheVariants.{Linked, Outside}
 
--- where each key's entry stands
+-- the place of each key's entry
 abbrev pub Places : Type 0
 Places = ℕ → Option Place
 
--- the list has this key
+-- whether the list has this key
 abbrev pub has : List ℕ → ℕ → Bool
 has keys key = list_any (eqb key) keys
 
@@ -16,7 +16,7 @@ has keys key = list_any (eqb key) keys
 abbrev pub without : List ℕ → ℕ → List ℕ
 without keys key = filter (λ other. not (eqb key other)) keys
 
--- no key stands twice
+-- No key occurs twice.
 abbrev pub Apart : List ℕ → Type 0
 Apart [] = Unit {0}
 Apart (key ∷ rest) = (has rest key ≡ false) × Apart rest
@@ -33,7 +33,7 @@ abbrev pub place_map : (Place → Place) → Option Place → Option Place
 place_map f None = None
 place_map f (Some place) = Some (f place)
 
--- the places after the one at this key, if there is a key, was changed
+-- the places, with the one at this key changed by f if there is a key
 abbrev pub moved : Places → Option ℕ → (Place → Place) → Places
 moved places None f key = places key
 moved places (Some at) f key = if eqb key at then place_map f (places key) else places key
@@ -48,29 +48,29 @@ next_of None = None
 next_of (Some Outside) = None
 next_of (Some (Linked before after)) = after
 
--- the keys from this one on, at most so many
+-- the keys from this one on, at most the given number of them
 abbrev pub chain : Places → ℕ → Option ℕ → List ℕ
 chain places zero at = []
 chain places (suc count) None = []
 chain places (suc count) (Some key) = key ∷ chain places count (next_of (places key))
 
--- the first of the keys, or else this
+-- the first of the keys, or else `after`
 abbrev pub first_or : List ℕ → Option ℕ → Option ℕ
 first_or [] after = after
 first_or (key ∷ rest) after = Some key
 
--- the last of the keys, or else this
+-- the last of the keys, or else `before`
 abbrev pub last_or : List ℕ → Option ℕ → Option ℕ
 last_or [] before = before
 last_or (key ∷ rest) before = last_or rest (Some key)
 
--- each key's entry names the keys before and after it
+-- Each key's entry has the keys before and after it.
 abbrev pub IsChain : Places → Option ℕ → List ℕ → Option ℕ → Type 0
 IsChain places before [] after = Unit {0}
 IsChain places before (key ∷ rest) after =
     (places key ≡ Some (Linked before (first_or rest after))) × IsChain places (Some key) rest after
 
--- the keys are those of the linked entries, in their order
+-- The keys are those of the linked entries, in their order.
 pub record IsOrder (places : Places) (keys : List ℕ) (first last : Option ℕ) (len capacity : ℕ) : Type 0 where
   pub starts : first ≡ first_or keys None
   pub ends : last ≡ last_or keys None
@@ -80,7 +80,7 @@ pub record IsOrder (places : Places) (keys : List ℕ) (first last : Option ℕ)
   pub all : (key : ℕ) → is_linked (places key) ≡ true → has keys key ≡ true
   pub in_range : (key : ℕ) → has keys key ≡ true → key < capacity
 
--- the end of the order once an entry is taken out: where none stood on its one side, what stood on its other
+-- One end of the order after an entry is taken out. If the entry had none beside it on that side, the end is its neighbour on the other side.
 abbrev pub end_after : Option ℕ → Option ℕ → Option ℕ → Option ℕ
 end_after None beyond end = beyond
 end_after (Some beside) beyond end = end

@@ -1,4 +1,4 @@
--- Runs and projections, one after another.
+-- How runs and projections are composed.
 use Rattle.std.proofs.Common.{◌≡◌, subst, List, [], ◌∷◌, ◌++◌, refl, ap, sym, ◌∙◌, append_assoc, Result}
 use Rattle.std.proofs.lemmas.List.{append-nil}
 use Rattle.futures.specs.declared.task.Poll.{Poll}
@@ -6,7 +6,7 @@ use Rattle.tower_base.specs.ServiceRun.{Relations, Action, Transition, ServiceRu
 use Rattle.tower_base.specs.Projection.{Once, ByAction, Each, Through, RunInside, Projects, RunsProject}
 
 module _ {S Q E F : Type 0} (s : Relations S Q E F) where
-  -- a run, and one that goes on from it
+  -- A run and one that continues from it are one run.
   pub joined : (old mid new : S) (first second : List (Transition S Q E F)) → ServiceRun s old first mid → ServiceRun s mid second new
       → ServiceRun s old (first ++ second) new
   joined old mid new [] second before after = let P : S → Type 0 = λ x. ServiceRun s x second new in subst P before after
@@ -16,7 +16,7 @@ module _ {S Q E F : Type 0} (s : Relations S Q E F) where
   requests_joined [] second = refl
   requests_joined (t ∷ rest) second = ap (λ x. request_of t.action ++ x) (requests_joined rest second) ∙ sym (append_assoc (request_of t.action) (requests rest) (requests second))
 
-  -- no action, one poll, one call
+  -- Runs of no action, of one poll and of one call.
   pub no_action : {Has : List Q → Type 0} (old new : S) → new ≡ old → Has [] → RunInside s Has old new
   no_action old new here has = record { transitions = []; run = here; has = has }
 
@@ -59,24 +59,24 @@ module _ {W S X Q P R E D H F G I : Type 0} (outer : Relations W Q E F) (middle 
   has_through (Action.poll answer) between last here there = subst (λ x. Each on x last) here there
   has_through (Action.call request future) between last here there = (between, here, there)
 
-  -- Composition: what is inside of the service inside is inside.
+  -- Projections compose: a service inside of the service inside is itself inside.
   pub composed : Projects outer middle outside goes → Projects middle inner inside on → Projects outer inner (λ w. inside (outside w)) (Through goes on)
   composed first second old action new takes =
       let here = first old action new takes in
       let there = projected middle inner inside on second (outside old) (outside new) here.transitions here.run in
       record { transitions = there.transitions; run = there.run; has = has_through action (requests here.transitions) (requests there.transitions) here.has there.has }
 
--- a service is inside of itself
+-- A service is inside of itself.
 pub itself : {S Q E F : Type 0} (s : Relations S Q E F) → Projects s s (λ x. x) Once
 itself s old (Action.poll answer) new takes = one_poll s old new answer takes refl
 itself s old (Action.call request future) new takes = one_call s old new request future takes.0 takes.1 refl
 
--- once each: just the same requests
+-- If each request is made inside once, the requests inside are just the same.
 pub once_same : {Q : Type 0} (outside inside : List Q) → Each Once outside inside → inside ≡ outside
 once_same [] inside here = here
 once_same (request ∷ rest) inside here = here.4 ∙ (ap (λ x. x ++ here.1) here.2 ∙ ap (λ x. request ∷ x) (once_same rest here.1 here.3))
 
--- If each call goes in once, what is made further inside of it is made of the same request.
+-- If each call makes the same request inside once, the requests further inside come from that request.
 module _ {W S X Q R E D H F G I : Type 0} (outer : Relations W Q E F) (middle : Relations S Q D G) (inner : Relations X R H I)
     (outside : W → S) (inside : S → X) (on : Q → List R → Type 0) where
   on_each : (request : Q) (last : List R) → Each on (request ∷ []) last → on request last
@@ -92,7 +92,7 @@ module _ {W S X Q R E D H F G I : Type 0} (outer : Relations W Q E F) (middle : 
       let there = projected middle inner inside on second (outside old) (outside new) here.transitions here.run in
       record { transitions = there.transitions; run = there.run; has = has_once action (requests here.transitions) (requests there.transitions) here.has there.has }
 
--- What forwards each poll and each call, changed or not, to the service inside.
+-- A service that forwards each poll and each call to the service inside, and may change what it returns.
 module _ {W S Q E D F G : Type 0} (outer : Relations W Q E F) (inner : Relations S Q D G) (inside : W → S) where
   pub forwards : ((old new : W) (answer : Poll (Result (Unit {0}) E)) → outer.polled old answer new → (within : Poll (Result (Unit {0}) D)) × inner.polled (inside old) within (inside new))
       → ((old new : W) (request : Q) (future : F) → outer.called old request future new → (response : G) × inner.ready (inside old) × inner.called (inside old) request response (inside new))

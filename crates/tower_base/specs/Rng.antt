@@ -8,21 +8,21 @@ use Rattle.std.specs.declared.hash.FoldHasher.{FoldHasher}
 use Rattle.std.specs.declared.hash.Hasher.{Ghosts as HasherOf}
 use Rattle.std.specs.declared.hash.BuildHasher.{Ghosts as BuildHasherOf}
 
--- a `HasherRng`
+-- what contracts see of a `HasherRng`
 pub record HasherRngView (H : Type 0) : Type 0 where
   pub hasher : H
   pub counter : ℕ
 
--- before the first word, with the hasher that a `HashMap` has by default
+-- The generator has the default hasher of a `HashMap`, and hasn't made a word yet.
 pub record New (rng : HasherRngView (BuildHasherDefault FoldHasher)) : Type 0 where
   pub hasher : initial_hasher rng.hasher ≡ initial
   pub counter : rng.counter ≡ 0
 
--- the builder's hash of a number of 64 bits
+-- the builder's hash of a 64-bit number
 abbrev pub hash_of : {H S : Type 0} → BuildHasherOf H S → HasherOf S → H → ℕ → ℕ
 hash_of b h hasher counter = h.finish (fold h.write (b.build_hasher hasher) (u64 counter))
 
--- a word: the hash of the counter, which goes up by one and wraps
+-- A word is the hash of the counter, which goes up by one and wraps.
 pub record Word {H S : Type 0} (b : BuildHasherOf H S) (h : HasherOf S) (old : HasherRngView H) (word : ℕ) (new : HasherRngView H) : Type 0 where
   pub hashed : word ≡ hash_of b h old.hasher old.counter
   pub hasher : new.hasher ≡ old.hasher

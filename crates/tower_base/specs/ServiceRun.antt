@@ -1,4 +1,4 @@
--- Runs of a service: what its polls and calls lead it through.
+-- Runs of a service: the values that its polls and calls lead it through.
 use Rattle.std.specs.Prelude.{◌≡◌, List, [], ◌∷◌, ◌++◌, Result}
 use Rattle.futures.specs.declared.task.Poll.{Poll}
 use Rattle.tower_base.specs.Drive.{State, Run}
@@ -48,13 +48,13 @@ module _ {S Q E F : Type 0} (s : Relations S Q E F) where
   ServiceRun old [] new = new ≡ old
   ServiceRun old (first ∷ rest) new = Takes old first.action first.left × ServiceRun first.left rest new
 
--- some run of the service that makes these requests
+-- There is a run of the service that makes these requests.
 pub record Makes {S Q E F : Type 0} (s : Relations S Q E F) (old : S) (made : List Q) (new : S) : Type 0 where
   pub transitions : List (Transition S Q E F)
   pub run : ServiceRun s old transitions new
   pub same : requests transitions ≡ made
 
--- the requests that `drive` made: those of the calls that it didn't skip
+-- the requests that `drive` made, which are those of the calls that it didn't skip
 abbrev pub made_by : {Q A E T U : Type 0} → Event Q T → Entry A E U → List Q
 made_by (Call request) (Called index) = request ∷ []
 made_by event entry = []
@@ -64,7 +64,7 @@ made (event ∷ events) (entry ∷ entries) = made_by event entry ++ made events
 made [] entries = []
 made (event ∷ events) [] = []
 
--- every run of `drive` is a run of its service, which makes those requests
+-- Every run of `drive` is a run of its service, which makes those requests.
 abbrev pub RunsMake : {S Q A E F T U O : Type 0} → ServiceOf S Q A E F → (F → Poll (Result A E) → F → Type 0) → (O → T → U → O → Type 0) → Type 0
 RunsMake {S} {Q} {A} {E} {F} {T} {U} {O} s stepped turned = (old new : State S F O) (events : List (Event Q T)) (entries : List (Entry A E U))
     → Run s stepped turned old events entries new → Makes (relations s) old.service (made events entries) new.service

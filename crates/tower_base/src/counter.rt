@@ -1,4 +1,4 @@
-//! A count that contracts alone see. It takes no bytes, and its calls do nothing at run time.
+//! A count that only contracts see. It has no bytes, and its calls do nothing at run time.
 ghost use Rattle.std.specs.Prelude.{◌≡◌, ℕ, ◌+◌};
 ghost use Rattle.std.specs.Borrow.{ftrue};
 
@@ -32,7 +32,7 @@ impl GhostCounter {
         }
     }
 
-    /// Counts one more.
+    /// Adds one to the count.
     #[inline(always)]
     pub fn tick(&mut self)
         ensures { self.new.count ≡ self.old.count + 1 }

@@ -1,4 +1,4 @@
-//! A whole run of a service, by a list of events. The Rust has no such call.
+//! Whole runs of a service, driven by a list of events. The Rust has no such function.
 ghost use Rattle.std.specs.Prelude.{◌≡◌, [], ◌+◌, ◌<◌, true, false, All, IfOk, OnErr, Some, slice_get, slice_set, Result, IfSome, IfNone, IsOk};
 ghost use Rattle.futures.specs.Task.{Keeps};
 ghost use Rattle.tower_base.specs.Drive.{Step, Run, Calls, Polls, opening, allows, slot_after, IsLive, IsKept};
@@ -10,56 +10,56 @@ use futures::task::{Context, Poll};
 use std::alloc::{AllocError, Global};
 use std::mem;
 
-/// What is done next.
+/// An event of a run: what `drive` does next.
 #[derive(Drop)]
 pub enum Event<Request, T> {
-    /// The service's readiness is asked.
+    /// Polls the service's readiness.
     Poll,
-    /// The service is called.
+    /// Calls the service.
     Call(Request),
-    /// The future of this number is polled.
+    /// Polls the future with this number.
     Future(usize),
-    /// The future of this number is dropped.
+    /// Drops the future with this number.
     Drop(usize),
-    /// The closure is called.
+    /// Calls the closure.
     Turn(T),
 }
 
-/// What came of an event.
+/// The outcome of an event.
 #[derive(Drop)]
 pub enum Entry<A, E, U> {
-    /// The answer to a poll of readiness.
+    /// What the poll of readiness returned.
     Polled(Poll<Result<(), E>>),
     /// A call was made, and its future has this number.
     Called(usize),
-    /// The future of this number was polled, and answered so.
+    /// The future with this number was polled, and returned this.
     Answered(usize, Poll<Result<A, E>>),
-    /// The future of this number was dropped.
+    /// The future with this number was dropped.
     Dropped(usize),
-    /// What the closure answered.
+    /// What the closure returned.
     Turned(U),
     /// The event didn't fit, and nothing was done.
     Skipped,
 }
 
-/// What came of each event, in order.
+/// The outcomes of the events, in order.
 #[derive(Drop)]
 pub struct Transcript<A, E, U> {
     pub entries: Vec<Entry<A, E, U>>,
 }
 
-/// The place of a call's future, of which the contract of `drive` speaks.
+/// The slot of a call's future. The contract of `drive` refers to it.
 #[derive(Drop)]
 pub enum Slot<F> {
-    /// It may be polled.
+    /// The future may be polled.
     Live(F),
-    /// It gave its output, and is kept until it is dropped.
+    /// The future has returned its output, and is kept until it is dropped.
     Finished(F),
-    /// It is no longer there.
+    /// The future was dropped.
     Dropped,
 }
 
-/// A service, its futures by their numbers, and the closure, as the last event left them.
+/// A service, its numbered futures and the closure, as the last event left them.
 #[derive(Drop)]
 pub struct Driver<S, F, O> {
     service: S,
@@ -68,15 +68,15 @@ pub struct Driver<S, F, O> {
     outside: O,
 }
 
-/// Does what the events say, one after another, and tells what came of each.
+/// Performs the events, one after another, and returns the outcome of each.
 ///
-/// The entry of an event that doesn't fit is `Skipped`, and nothing is done then: a call unless the
-/// last `Poll` answered `Ok` and no call came since; a poll of a future that is finished, dropped or
-/// unknown; a drop of one that is dropped or unknown. Futures are numbered from 0 in the order of
-/// the calls, and a finished one is kept until it is dropped.
+/// An event that doesn't fit does nothing, and its entry is `Skipped`: a call, unless the last `Poll`
+/// returned `Ok` and no call came since; a poll of a future that is finished, dropped or unknown; a drop
+/// of one that is dropped or unknown. Futures are numbered from 0 in the order of the calls, and a
+/// finished one is kept until it is dropped.
 ///
-/// Room for an entry and for a future is made before the event. Where there is none, the service and
-/// all futures are dropped and the answer is `AllocError`.
+/// Memory for an entry and for a future is reserved before the event. If that fails, the service and all
+/// futures are dropped, and `AllocError` is returned.
 pub fn drive<Request, S, T, U, O>(
     alloc: Global,
     cx: &mut Context<'_>,
@@ -100,8 +100,8 @@ where
     Ok(transcript)
 }
 
-/// As `drive`, and hands out what the last event left. So a future is dropped by its `Drop` event alone, and
-/// nothing is polled after the last event.
+/// Like `drive`, but also returns what the last event left. So a future is dropped only by its `Drop`
+/// event, and nothing is polled after the last event.
 pub fn drive_with_state<Request, S, T, U, O>(
     alloc: Global,
     cx: &mut Context<'_>,
@@ -186,7 +186,7 @@ where
     }
 }
 
-// Asks for readiness.
+// Polls the service's readiness.
 fn ask<Request, S: Service<Request>, F, O>(
     driver: &mut Driver<S, F, O>,
     cx: &mut Context<'_>,
@@ -214,7 +214,7 @@ fn ask<Request, S: Service<Request>, F, O>(
     }
 }
 
-// Calls the service, if it may be called. It answers the number of the future.
+// Calls the service, if it may be called. Returns the number of the future.
 fn call<Request: Drop, S: Service<Request>, O>(
     driver: &mut Driver<S, S::Future, O>,
     request: Request,
@@ -240,7 +240,7 @@ fn call<Request: Drop, S: Service<Request>, O>(
     Ok(Some(index))
 }
 
-// Polls the future at this place, if it is live.
+// Polls the future at this index, if it is live.
 fn poll_at<F: Steps>(
     slots: &mut Vec<Slot<F>>,
     index: usize,
@@ -256,7 +256,7 @@ fn poll_at<F: Steps>(
     poll_slot(slot, cx)
 }
 
-// Drops the future at this place, if there is one.
+// Drops the future at this index. Returns whether there was one.
 fn drop_at<F: Drop>(slots: &mut Vec<Slot<F>>, index: usize) -> bool
     ensures dropped { result ≡ true → IsKept (slice_get slots.old.items index) × (slots.new.items ≡ slice_set slots.old.items index Slot.Dropped) }
     ensures skipped { result ≡ false → ¬ IsKept (slice_get slots.old.items index) × (slots.new.items ≡ slots.old.items) }
@@ -289,7 +289,7 @@ fn poll_slot<F: Steps>(slot: &mut Slot<F>, cx: &mut Context<'_>) -> Option<Poll<
     Some(answer)
 }
 
-// A live future gave its output.
+// Marks a live future as finished.
 fn finish<F: Drop>(slot: &mut Slot<F>)
     ensures { (future : F) → slot.old ≡ Slot.Live future → slot.new ≡ Slot.Finished future }
 {

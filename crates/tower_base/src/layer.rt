@@ -1,31 +1,31 @@
-//! What makes a service of another: the Rust's `tower_layer`.
+//! Layers, which wrap a service in another. The Rust's `tower_layer`.
 ghost use Rattle.std.specs.Prelude.{◌≡◌, ⊤, IfOk, Ok};
 
 use std::alloc::AllocError;
 use std::marker::Model;
 
-/// Makes a service of another.
+/// A layer, which wraps a service in another one.
 pub trait Layer<S> {
     type Service;
 
-    // It may be applied to the service s.
+    // The layer may be applied to the service s.
     ghost can_layer: { Self → S → Type 0 } = { λ _ _. ⊤ };
 
-    // Of the service s it may make t.
+    // From the service s the layer may make t.
     ghost made: { Self → S → Self.Service → Type 0 };
 
-    /// Wraps the service. It answers an error only for want of memory, and the service is dropped then.
+    /// Wraps the service. Returns an error only if allocation fails; the service is dropped then.
     fn layer(&self, service: S) -> Result<Self::Service, AllocError>
         requires { can_layer self.now service }
         ensures { IfOk result (λ t. made self.now service t) };
 }
 
-/// Gives the service itself: the Rust's `tower::layer::util::Identity`.
+/// A layer that returns the service unchanged. It is the Rust's `tower::layer::util::Identity`.
 #[derive(Clone, Copy, Debug, PartialEq, Eq)]
 pub struct Identity;
 
 impl Identity {
-    /// It takes no memory, and neither does its `layer`.
+    /// Creates the layer. Neither this nor its `layer` allocates.
     pub fn new() -> Identity {
         Identity
     }
@@ -47,8 +47,8 @@ impl<S> Layer<S> for Identity {
     }
 }
 
-/// Two layers: the inner one is applied first, and the outer one to what it makes. The Rust's
-/// `tower::layer::util::Stack`.
+/// Two layers: the inner one is applied first, and the outer one to the resulting service. It is the
+/// Rust's `tower::layer::util::Stack`.
 #[derive(Clone, Drop)]
 pub struct Stack<Inner, Outer> {
     inner: Inner,
@@ -56,7 +56,7 @@ pub struct Stack<Inner, Outer> {
 }
 
 impl<Inner, Outer> Stack<Inner, Outer> {
-    /// `inner` is the one that is applied first.
+    /// Combines two layers. `inner` is applied first.
     pub fn new(inner: Inner, outer: Outer) -> Stack<Inner, Outer>
         ensures { result ≡ record { inner = inner; outer = outer } }
     {
@@ -78,8 +78,8 @@ impl<S, Inner: Layer<S>, Outer: Layer<Inner::Service>> Layer<S> for Stack<Inner,
     }
 }
 
-/// A layer by a closure, which answers an error only for want of memory: the Rust's
-/// `tower::layer::LayerFn`.
+/// A layer that calls a closure: the Rust's `tower::layer::LayerFn`. The closure returns an error only
+/// if allocation fails.
 #[derive(Clone, Copy, Drop)]
 pub struct LayerFn<F> {
     f: F,
@@ -93,7 +93,7 @@ impl<F> Model for LayerFn<F> {
     ghost inverse = { λ v. record { f = v } };
 }
 
-/// A layer that calls the closure with the service: the Rust's `tower::layer::layer_fn`.
+/// Creates a layer that calls the closure with the service. It is the Rust's `tower::layer::layer_fn`.
 pub fn layer_fn<F>(f: F) -> LayerFn<F>
     ensures { result ≡ f }
 {

@@ -3,7 +3,6 @@
 
 pub mod counter;
 pub mod drive;
-pub mod latch;
 pub mod layer;
 pub mod links;
 pub mod passes;

@@ -1,4 +1,4 @@
-//! A list of values in one order. A value keeps its key, also once it is taken out of the order.
+//! A linked list of values under keys. A value keeps its key even when it is taken out of the order.
 ghost use Rattle.std.specs.Prelude.{◌≡◌, ◌+◌, ◌<◌, ◌≤◌, ◌^◌, true, ◌∷◌, ◌++◌, [], Some, None, OnOk, OnSome, IfNone, IsOk, length, ℕ, Option};
 ghost use Rattle.slab.specs.Slab.{get, slab_len, ContainsKey, HasRoomFor, Updates};
 ghost use Rattle.tower_base.specs.Order.{has, without, first_or, is_linked};
@@ -19,7 +19,7 @@ struct Ends {
     len: usize,
 }
 
-/// Values under keys of their own, some of them in one order.
+/// Values under keys of their own. Some of the values are linked in one order.
 #[derive(Drop)]
 pub struct Links<T> {
     cells: Cells<T>,
@@ -46,7 +46,7 @@ impl<T> Model for Links<T> {
     ghost invariant = { λ l. IsSound l.cells.slab l.ends };
 }
 
-// The last entry so far names the one at `key`, which is the last now.
+// Makes `key` the last in the order: the entry that was last links to it.
 fn arrive<T>(cells: &mut Cells<T>, ends: &mut Ends, key: usize)
     requires { ends.old.len + 1 < 2 ^ 64 }
     ensures slab { cells.new.slab ≡ pushed_slab cells.old.slab key ends.old }
@@ -61,7 +61,8 @@ fn arrive<T>(cells: &mut Cells<T>, ends: &mut Ends, key: usize)
     ends.len += 1;
 }
 
-// The entries on both sides of one that stood there name each other.
+// Closes the gap that an entry at `place` left: the entries on both sides link to each other. Returns
+// whether `place` was in the order.
 fn leave<T>(cells: &mut Cells<T>, ends: &mut Ends, place: Option<Place>) -> bool
     requires { is_linked place ≡ true → 0 < ends.old.len }
     ensures linked { result ≡ is_linked place }
@@ -90,7 +91,7 @@ impl<T> Links<T> {
     ghost use Rattle.std.specs.Prelude.{option_copied};
     ghost use Rattle.tower_base.specs.LinksLends.{ends_looked};
 
-    /// An empty list, which allocates nothing until the first `reserve`.
+    /// Creates an empty list. It allocates nothing until the first `reserve`.
     pub fn new(alloc: Global) -> Links<T>
         ensures order { result.order ≡ [] }
         ensures entries { result.entries.slots ≡ [] }
@@ -107,7 +108,7 @@ impl<T> Links<T> {
         }
     }
 
-    /// Makes room for `additional` more values.
+    /// Makes room for `additional` more values. Returns an error if allocation fails.
     pub fn reserve(&mut self, additional: usize) -> Result<(), AllocError>
         ensures room { OnOk result (HasRoomFor self.new.entries additional) }
         ensures succeeds { HasRoomFor self.old.entries additional → IsOk result }
@@ -119,7 +120,7 @@ impl<T> Links<T> {
         self.cells.reserve(additional)
     }
 
-    /// How many values fit with no allocation. Each key is below it. It reaches no entry.
+    /// Returns how many values fit without allocation. Each key is below this number. Reaches no entry.
     pub fn capacity(&self) -> usize
         ensures value { result ≡ self.now.entries.capacity }
         ensures slots { length self.now.entries.slots ≤ result }
@@ -127,7 +128,7 @@ impl<T> Links<T> {
         self.cells.capacity()
     }
 
-    /// Puts a value behind the last, under the key that it returns.
+    /// Appends a value to the order, and returns its key.
     pub fn push_back(&mut self, value: T) -> usize
         requires { HasRoomFor self.old.entries 1 }
         ensures was_vacant { get self.old.entries result ≡ None }
@@ -137,7 +138,8 @@ impl<T> Links<T> {
         ensures capacity { self.new.entries.capacity ≡ self.old.entries.capacity }
         ensures touches { self.new.touches ≤ self.old.touches + 2 }
     {
-        // By this contract there are fewer entries than a `usize` counts, so the length can grow by one.
+        // The contract of `capacity` shows that there are fewer entries than a `usize` can count, so
+        // that the length can grow by one.
         let _capacity = self.cells.capacity();
         let key = self
             .cells
@@ -146,21 +148,21 @@ impl<T> Links<T> {
         key
     }
 
-    /// The key of the first value in the order. It reaches no entry.
+    /// Returns the key of the first value in the order. Reaches no entry.
     pub fn front(&self) -> Option<usize>
         ensures { result ≡ first_or self.now.order None }
     {
         self.ends.first
     }
 
-    /// How many values are in the order. It reaches no entry.
+    /// Returns how many values are in the order. Reaches no entry.
     pub fn len(&self) -> usize
         ensures { result ≡ length self.now.order }
     {
         self.ends.len
     }
 
-    /// The value under the key, in the order or not.
+    /// Returns the value under the key, whether it is in the order or not.
     pub fn get(&mut self, key: usize) -> Option<&T>
         ensures* rests { sem 𝓛 (ends_looked T.row self.entry) }
         ensures value { option_copied result ≡ get self.old.entries key }
@@ -168,7 +170,7 @@ impl<T> Links<T> {
         self.cells.get(key)
     }
 
-    /// Whether the value under the key is in the order.
+    /// Returns whether the value under the key is in the order.
     pub fn is_linked(&mut self, key: usize) -> bool
         ensures linked { result ≡ has self.old.order key }
         ensures order { self.new.order ≡ self.old.order }
@@ -179,7 +181,7 @@ impl<T> Links<T> {
         stands_linked(place)
     }
 
-    /// Puts another value in the place of the one under the key, and returns that one.
+    /// Replaces the value under the key, and returns the old one.
     pub fn replace(&mut self, key: usize, value: T) -> T
         requires { ContainsKey self.old.entries key }
         ensures value { get self.old.entries key ≡ Some result }
@@ -192,7 +194,7 @@ impl<T> Links<T> {
         self.cells.replace(key, value)
     }
 
-    /// Takes a value out of the order. It stays under its key. It tells whether it was in the order.
+    /// Takes a value out of the order, but keeps it under its key. Returns whether it was in the order.
     pub fn unlink(&mut self, key: usize) -> bool
         ensures linked { result ≡ has self.old.order key }
         ensures order { self.new.order ≡ without self.old.order key }
@@ -204,7 +206,7 @@ impl<T> Links<T> {
         leave(&mut self.cells, &mut self.ends, place)
     }
 
-    /// Removes a value and frees its key, whether it is in the order or not.
+    /// Removes a value and frees its key, whether the value is in the order or not. Returns the value.
     pub fn remove(&mut self, key: usize) -> Option<T>
         ensures value { result ≡ get self.old.entries key }
         ensures order { self.new.order ≡ without self.old.order key }

@@ -2,11 +2,11 @@
 ghost use Rattle.std.specs.Prelude.{◌≡◌};
 ghost use Rattle.tower_base.specs.Passes.{limit as pass_limit};
 
-/// A poll that loops over what others answer makes so many passes at most; then it is pending and has woken its own
-/// task. The Rust's loops have no bound.
+/// The largest number of passes that one poll makes if it loops over what others return. After that many
+/// it returns `Pending` and has woken its own task. The Rust's loops have no bound.
 pub const TURNS: u8 = 64;
 
-/// `TURNS`, as contracts know it.
+/// Returns `TURNS`, which specs call `limit`.
 pub fn limit() -> u8
     ensures { result ≡ pass_limit }
 {

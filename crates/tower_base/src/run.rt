@@ -1,4 +1,4 @@
-//! Runs of a service, and what they are for a service inside it. The Rust has no such module.
+//! Runs of a service, and the runs that they make of a service inside it. The Rust has no such module.
 ghost use Rattle.std.specs.Prelude.{List};
 ghost use Rattle.tower_base.specs.ServiceRun.{relations};
 ghost use Rattle.tower_base.specs.Projection.{Projects};
@@ -8,10 +8,10 @@ mod laws;
 use crate::service::Service;
 pub use laws::{compose, inside, law, once};
 
-/// A service that makes its calls of the service `L` inside it, with requests of type `Passed`.
+/// A service that calls the service `L` inside it, with requests of type `Passed`.
 ///
-/// A layer of one's own has it by two ghost lines and a projection, which `ProjectionLemmas` composes with
-/// that of the service it wraps.
+/// A layer of your own implements it by two ghost lines and a projection. `ProjectionLemmas` composes
+/// that projection with the one of the wrapped service.
 pub trait Contains<Request, Passed, L: Service<Passed>>: Service<Request> {
     // The service inside.
     ghost inside: { Self → L };

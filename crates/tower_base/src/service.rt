@@ -1,4 +1,4 @@
-//! Services, the futures and streams that they stand on, clocks and executors.
+//! Services, the futures and streams that they use, clocks and executors.
 ghost use Rattle.std.specs.Prelude.{◌≡◌, ◌≢◌, ⊤, ℕ, Result, Ok, ◌↔◌, IsTrue, IfErr, OnSome, Option};
 ghost use Rattle.futures.specs.Task.{Covers, Keeps, IsArmed};
 ghost use Rattle.futures.specs.Poll.{OnPending, IfReady};
@@ -18,23 +18,25 @@ pub use polled::Polled;
 pub use sleep::Sleep;
 pub use system::SystemClock;
 
-/// A future whose poll has a relation, which a proof above it may use.
+/// A future whose poll is specified by a relation, which proofs about its users may use.
 ///
-/// It has what `Future` has, and isn't a `Future` by a bound: each instance of a trait that a call
-/// needs is written out as often as ways lead to it, and two ways down a stack double at each layer.
+/// It has the members of `Future`, but `Future` isn't a bound. Each instance of a trait that a call
+/// needs is written out once for every path to it, and with two paths down a stack their number doubles
+/// at each layer.
 pub trait Steps: Drop {
     type Output;
 
     // `step` may be called.
     ghost can_poll: { Self → Type 0 } = { λ _. ⊤ };
 
-    // Holds of each source that the future waits for.
+    // Holds for each source that the future waits for.
     ghost needs: { Self → ℕ → Type 0 } = { λ _ _. ⊥ };
 
-    // A poll may give this answer and leave the second value. Left out, nothing is known of its answers.
+    // A poll may return this and leave the second value. If this is left out, nothing is known of what
+    // it returns.
     ghost stepped: { Self → Poll Self.Output → Self → Type 0 } = { λ _ _ _. ⊤ };
 
-    /// One poll. `Future::poll` is this call.
+    /// Polls the future once. `Future::poll` is this call.
     fn step(&mut self, cx: &mut Context<'_>) -> Poll<Self::Output>
         requires { can_poll self.old }
         ensures step { stepped self.old result self.new }
@@ -43,12 +45,13 @@ pub trait Steps: Drop {
         ensures kept { Keeps cx.old cx.new };
 }
 
-/// A stream whose poll has a relation, which a proof above it may use.
+/// A stream whose poll is specified by a relation, which proofs about its users may use.
 pub trait Flow: Stream {
-    // A poll may give this answer and leave the second value. Left out, nothing is known of its answers.
+    // A poll may return this and leave the second value. If this is left out, nothing is known of what
+    // it returns.
     ghost flowed: { Self → Poll (Option Self.Item) → Self → Type 0 } = { λ _ _ _. ⊤ };
 
-    /// One poll. `Stream::poll_next` is this call.
+    /// Polls the stream once. `Stream::poll_next` is this call.
     fn flow(&mut self, cx: &mut Context<'_>) -> Poll<Option<Self::Item>>
         requires { Self.can_poll self.old }
         ensures flow { flowed self.old result self.new }
@@ -58,11 +61,11 @@ pub trait Flow: Stream {
         ensures kept { Keeps cx.old cx.new };
 }
 
-/// An asynchronous function from a request to a response: the Rust's `tower_service::Service`.
+/// An asynchronous function from a request to a response. It is the Rust's `tower_service::Service`.
 ///
-/// A caller asks `poll_ready` until it answers `Ok`, and then makes one call. Where `ready`, `polled` and
-/// `called` are left out, it may always be called, and nothing is known of what it answers: then
-/// `ghost readies = { λ _ _ _. tt };` is its one ghost line.
+/// A caller polls `poll_ready` until it returns `Ok`, and then makes one call. If `ready`, `polled` and
+/// `called` are left out, the service may always be called, and nothing is known of what it returns: then
+/// `ghost readies = { λ _ _ _. tt };` is its only ghost line.
 pub trait Service<Request>: Drop {
     type Response: Drop;
 
@@ -70,19 +73,19 @@ pub trait Service<Request>: Drop {
 
     type Future: Steps<Output = Result<Self::Response, Self::Error>>;
 
-    // What constructors make has it, and every call keeps it.
+    // It holds after construction, and every call preserves it.
     ghost sound: { Self → Type 0 } = { λ _. ⊤ };
 
     // A call may be made.
     ghost ready: { Self → Type 0 } = { λ _. ⊤ };
 
-    // A poll of readiness may give this answer and leave the second value.
+    // A poll of readiness may return this and leave the second value.
     ghost polled: { Self → Poll (Result (Unit {0}) Self.Error) → Self → Type 0 } = { λ _ _ _. ⊤ };
 
-    // A call with the request may give this future and leave the second value.
+    // A call with the request may return this future and leave the second value.
     ghost called: { Self → Request → Self.Future → Self → Type 0 } = { λ _ _ _ _. ⊤ };
 
-    /// Asks whether a call may be made. An error says that the service can't be used any more.
+    /// Polls the service's readiness for a call. An error means that the service can't be used any more.
     fn poll_ready(&mut self, cx: &mut Context<'_>) -> Poll<Result<(), Self::Error>>
         requires { sound self.old }
         ensures polled { polled self.old result self.new }
@@ -90,7 +93,7 @@ pub trait Service<Request>: Drop {
         ensures armed { OnPending result (IsArmed cx.new) }
         ensures kept { Keeps cx.old cx.new };
 
-    /// Makes a call.
+    /// Calls the service with the request, and returns the future of its response.
     fn call(&mut self, request: Request) -> Self::Future
         requires sound { sound self.old }
         requires ready { ready self.old }
@@ -98,27 +101,29 @@ pub trait Service<Request>: Drop {
         ensures called { called self.old request result self.new }
         ensures fresh { Self.Future.can_poll result };
 
-    // An answer of `Ok` leaves a value that is ready.
+    // If `poll_ready` returns `Ok`, it leaves a value that is ready.
     ghost readies: { (old new : Self) → polled old (Ready (Ok tt)) new → ready new };
 }
 
-/// A clock, which may stand still and may go back. It stands for tokio's timer.
+/// A clock, which may stand still and may go back. It takes the place of tokio's timer.
 pub trait Clock: Drop {
-    // The last reading. It can't be left out: what waits names the moment that was read.
+    // The last reading. It can't be left out, because specs of what waits name the moment that was read.
     ghost reading: { Self → ℕ };
 
-    // One reading may leave the second value. Left out, it isn't known how often the clock is read.
+    // One reading may leave the second value. If this is left out, it isn't known how often the clock is
+    // read.
     ghost read: { Self → Self → Type 0 } = { λ _ _. ⊤ };
 
-    // The second is a further handle to the clock of the first. Left out, handles aren't known to agree.
+    // The second value is another handle to the clock of the first. If this is left out, handles aren't
+    // known to agree.
     ghost shared: { Self → Self → Type 0 } = { λ _ _. ⊤ };
 
-    /// The moment now, in nanoseconds.
+    /// Reads the clock and returns the current moment, in nanoseconds.
     fn now(&mut self) -> u64
         ensures moment { result ≡ reading self.new }
         ensures read { read self.old self.new };
 
-    /// A further handle to the same clock. It takes no memory and reads nothing.
+    /// Returns another handle to the same clock. It doesn't allocate, and doesn't read the clock.
     fn share(&self) -> Self
         ensures { shared self.now result };
 }
@@ -128,15 +133,15 @@ pub trait Monotonic: Clock {
     ghost forward: { IsMonotonic Self.reading Self.read };
 }
 
-/// What runs tasks beside the caller. It stands for tokio's `spawn`.
+/// An executor, which runs tasks beside the caller. It takes the place of tokio's `spawn`.
 pub trait Executor<T> {
-    // The task may be handed over.
+    // The task may be spawned.
     ghost can_spawn: { Self → T → Type 0 } = { λ _ _. ⊤ };
 
-    // A spawn of the task may have this answer. Left out, it isn't known which tasks are taken.
+    // A spawn of the task may return this. If this is left out, it isn't known which tasks are accepted.
     ghost spawned: { Self → T → Result (Unit {0}) T → Type 0 } = { λ _ _ _. ⊤ };
 
-    /// Takes the task, or gives it back as it was.
+    /// Spawns the task. If the executor doesn't accept it, returns it unchanged as the error.
     fn spawn(&self, task: T) -> Result<(), T>
         requires { can_spawn self.now task }
         ensures spawned { spawned self.now task result }
@@ -152,7 +157,7 @@ pub struct Fraction {
 }
 
 impl Fraction {
-    /// It asks for a divisor that isn't zero, which `fits` tests.
+    /// Creates a fraction. It requires a divisor that isn't zero, which `fits` checks.
     pub fn new(numerator: u32, divisor: u32) -> Fraction
         requires { divisor ≢ 0 }
         ensures numerator { result.numerator ≡ numerator }
@@ -161,7 +166,7 @@ impl Fraction {
         Fraction { numerator, divisor }
     }
 
-    /// The divisor isn't zero.
+    /// Returns whether the divisor isn't zero.
     pub fn fits(_numerator: u32, divisor: u32) -> bool
         ensures { IsTrue result ↔ (divisor ≢ 0) }
     {

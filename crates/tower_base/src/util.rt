@@ -1,2 +1,2 @@
-//! What the libraries share.
+//! Utilities that the libraries share.
 pub mod rng;

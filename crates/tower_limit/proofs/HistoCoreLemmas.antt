@@ -10,12 +10,13 @@ use Rattle.std.specs.Map.{lookup, keys_of, values_of}
 use Rattle.std.specs.BTreeMap.{is_at}
 use Rattle.std.proofs.lemmas.Bool.Decides.{nat_tests}
 use Rattle.std.proofs.lemmas.List.Sums.{sum_by-cons}
-use Rattle.tower_base.specs.Latch.{Came, StepsAs}
+use Rattle.tower_latch.specs.Latch.{StepsAs}
 use Rattle.tower_base.specs.declared.service.Fraction.{Fraction}
 use Rattle.tower_limit.specs.Histogram.{Histogram, Point, added, read_at, present_of, sorted, quantile, rank, most, Takes, Steps}
-use Rattle.tower_limit.specs.HistoCore.{times, tallied, flat, Adds, Stands, StandsFor, Opens}
+use Rattle.tower_limit.specs.HistoCore.{times, tallied, flat, Adds, Stands, StandsFor}
 use Rattle.tower_limit.specs.declared.hedge.rotating_histogram.histo_core.HistoCore.{HistoCore}
 use Rattle.tower_limit.specs.declared.hedge.rotating_histogram.steps.HistoReply.{HistoReply}
+use Rattle.tower_limit.specs.declared.hedge.rotating_histogram.steps.HistoStep.{HistoStep}
 use Rattle.tower_limit.specs.declared.hedge.rotating_histogram.steps.HistoStep.TheVariants.{Points, Quantile}
 use Rattle.tower_limit.specs.declared.hedge.rotating_histogram.steps.HistoReply.TheVariants.{Done, Memory, Full, Count, Millis}
 use Rattle.tower_limit.specs.declared.hedge.rotating_histogram.tally.Tally.{Tally}
@@ -235,16 +236,20 @@ module _ (moment duration number : ℕ) (first second : Tally) (h : Histogram) (
 -- ---- replies
 
 -- only a count replies to a question for one, and only milliseconds to one for a quantile
-pub counts : (moment : ℕ) (reply : HistoReply) → Came Opens (StepsAs StandsFor Steps) (Points moment) reply → ((n : ℕ) → reply ≡ Count n → ⊥) → ⊥
-counts moment (Count n) came other = other n refl
-counts moment Done came other = (came.3.1 came.3.0.0 came.3.0.1).1
-counts moment Memory came other = (came.3.1 came.3.0.0 came.3.0.1).1
-counts moment Full came other = (came.3.1 came.3.0.0 came.3.0.1).1
-counts moment (Millis n) came other = (came.3.1 came.3.0.0 came.3.0.1).1
+-- some core gives this reply to the step
+abbrev Gave : HistoStep → HistoReply → Type 0
+Gave step reply = (old : HistoCore) × (new : HistoCore) × StepsAs StandsFor Steps old step reply new
 
-pub ranks : (moment : ℕ) (part : Fraction) (reply : HistoReply) → Came Opens (StepsAs StandsFor Steps) (Quantile moment part) reply → ((n : ℕ) → reply ≡ Millis n → ⊥) → ⊥
+pub counts : (moment : ℕ) (reply : HistoReply) → Gave (Points moment) reply → ((n : ℕ) → reply ≡ Count n → ⊥) → ⊥
+counts moment (Count n) came other = other n refl
+counts moment Done came other = (came.2.1 came.2.0.0 came.2.0.1).1
+counts moment Memory came other = (came.2.1 came.2.0.0 came.2.0.1).1
+counts moment Full came other = (came.2.1 came.2.0.0 came.2.0.1).1
+counts moment (Millis n) came other = (came.2.1 came.2.0.0 came.2.0.1).1
+
+pub ranks : (moment : ℕ) (part : Fraction) (reply : HistoReply) → Gave (Quantile moment part) reply → ((n : ℕ) → reply ≡ Millis n → ⊥) → ⊥
 ranks moment part (Millis n) came other = other n refl
-ranks moment part Done came other = (came.3.1 came.3.0.0 came.3.0.1).1
-ranks moment part Memory came other = (came.3.1 came.3.0.0 came.3.0.1).1
-ranks moment part Full came other = (came.3.1 came.3.0.0 came.3.0.1).1
-ranks moment part (Count n) came other = (came.3.1 came.3.0.0 came.3.0.1).1
+ranks moment part Done came other = (came.2.1 came.2.0.0 came.2.0.1).1
+ranks moment part Memory came other = (came.2.1 came.2.0.0 came.2.0.1).1
+ranks moment part Full came other = (came.2.1 came.2.0.0 came.2.0.1).1
+ranks moment part (Count n) came other = (came.2.1 came.2.0.0 came.2.0.1).1

@@ -1,15 +1,13 @@
 pub mod Counts
 pub mod HistoCoreLemmas
 pub mod HistogramLemmas
-pub mod KeysLemmas
 pub mod LineHistoryLemmas
 pub mod LineMoves
 pub mod LineRuns
 pub mod Lines
+pub mod Permits
 pub mod Places
 pub mod RateBound
 pub mod RateRuns
 pub mod RateStands
 pub mod Replies
-pub mod WaitQueues
-pub mod Waiters

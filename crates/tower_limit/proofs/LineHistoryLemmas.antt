@@ -1,6 +1,6 @@
 -- The history of a line is a run of its machine.
 use Rattle.std.specs.Prelude.{take}
-use Rattle.tower_base.specs.HistoryLemmas.{serves_first, plain_run}
+use Rattle.tower_latch.specs.HistoryLemmas.{serves_first, plain_run}
 use Rattle.tower_limit.specs.Line.{LineSteps, blank}
 use Rattle.tower_limit.specs.LineCore.{StandsFor, Opens}
 use Rattle.tower_limit.specs.LineHistory.{BoundedHistory}

@@ -2,16 +2,16 @@
 use Rattle.std.proofs.Common.{◌≡◌, ℕ, ◌+◌, ◌-◌, ◌<◌, ◌≤◌, zero, suc, Bool, true, false, List, [], ◌∷◌, ◌++◌, length, remove, Result, Ok, Err, slice_get, refl, sym, ap, ◌∙◌, inl, inr, arith}
 use Rattle.std.specs.declared.alloc.AllocError.{AllocError}
 use Rattle.tower_base.specs.Order.{has}
-use Rattle.tower_limit.specs.Turns.{Turns, Admits, Enters, Leaves, Looks, empty}
-use Rattle.tower_limit.specs.WaitQueue.{Follows, StandsFor, granted, waiting}
+use Rattle.tower_latch.specs.Turns.{Turns, Admits, Enters, Leaves, Looks, empty}
+use Rattle.tower_latch.specs.WaitQueue.{Follows, StandsFor, granted, waiting}
 use Rattle.tower_limit.specs.Line.{Ticket, Steps}
 use Rattle.tower_limit.specs.LineCore.{Stands, StandsAt}
 use Rattle.tower_limit.specs.declared.limit.concurrency.line_core.LineStep.TheVariants.{Join, Look, Cancel, Release, Free}
 use Rattle.tower_limit.specs.declared.limit.concurrency.line_core.LineReply.TheVariants.{Granted, Waiting, Left, Count, Unknown, Memory}
-use Rattle.tower_limit.specs.declared.wait_queue.Turn.TheVariants.{Granted as IsGranted, Waiting as IsWaiting, Unknown as HasNobody}
-use Rattle.tower_limit.specs.declared.wait_queue.WaitQueue.{WaitQueue}
+use Rattle.tower_latch.specs.declared.wait_queue.Turn.TheVariants.{Granted as IsGranted, Waiting as IsWaiting, Unknown as HasNobody}
+use Rattle.tower_latch.specs.declared.wait_queue.WaitQueue.{WaitQueue}
 use Rattle.tower_limit.proofs.Lines.{counted, held_last, waits_last, found, lacks, leaves, no_holder}
-use Rattle.tower_limit.proofs.WaitQueues.{SameSizes, admits_one, empty_sizes, entered_none, entered_one, keys_count, left_nobody, left_one, saw_nobody, saw_one, saw_waiting}
+use Rattle.tower_latch.proofs.WaitQueues.{SameSizes, admits_one, empty_sizes, entered_none, entered_one, keys_count, left_nobody, left_one, saw_nobody, saw_one, saw_waiting}
 
 pub positive : (n : ℕ) → (n ≡ 0 → ⊥) → 0 < n
 positive zero h = absurd (h refl)

@@ -3,7 +3,7 @@ use Rattle.std.proofs.Common.{◌≡◌, ◌⊎◌, ℕ, ◌+◌, ◌-◌, ◌<�
 use Rattle.std.proofs.lemmas.Bool.{cases_order}
 use Rattle.std.proofs.lemmas.Option.{slice_get_within}
 use Rattle.tower_limit.specs.Line.{Ticket, Line, At, Lacks, Steps, LineSteps, blank}
-use Rattle.tower_base.specs.Latch.{Serves}
+use Rattle.tower_latch.specs.Latch.{Serves}
 use Rattle.tower_limit.specs.LineCore.{holders, HoldersBelow}
 use Rattle.tower_limit.specs.LineLaws.{Sees, Ends, Always, Bounded, InOrder, Lasts, Counts, grants, returns, taken, one_if_granted, one_if_left}
 use Rattle.tower_limit.specs.declared.limit.concurrency.line_core.LineStep.{LineStep}

@@ -1,12 +1,12 @@
 -- What holds of each list that a line stands for.
 use Rattle.std.proofs.Common.{◌≡◌, ℕ, false, ◌+◌, ◌-◌, ◌<◌, ◌≤◌, zero, suc, List, [], ◌∷◌, ◌++◌, length, Some, slice_get, slice_set, remove, refl, ap, ◌∙◌, sym, subst, arith}
 use Rattle.tower_base.specs.Order.{has}
-use Rattle.tower_limit.specs.WaitQueue.{room, size}
-use Rattle.tower_limit.proofs.KeysLemmas.{has_at, not_both}
-use Rattle.tower_limit.proofs.WaitQueues.{keys_count, some_queue}
+use Rattle.tower_latch.specs.WaitQueue.{room, size}
+use Rattle.tower_latch.proofs.KeysLemmas.{has_at, not_both}
+use Rattle.tower_latch.proofs.WaitQueues.{keys_count, some_queue}
 use Rattle.tower_limit.specs.Line.{Ticket, Line, At, Lacks, Steps, LineSteps, keys_of}
 use Rattle.tower_limit.specs.LineCore.{holders, HoldersBelow, Stands, StandsFor, Follows}
-use Rattle.tower_base.specs.Latch.{FollowsMachine, StepsAs}
+use Rattle.tower_latch.specs.Latch.{FollowsMachine, StepsAs}
 use Rattle.tower_limit.specs.declared.limit.concurrency.line_core.LineCore.{LineCore}
 use Rattle.tower_limit.specs.declared.limit.concurrency.line_core.LineStep.{LineStep}
 use Rattle.tower_limit.specs.declared.limit.concurrency.line_core.LineReply.{LineReply}

@@ -4,15 +4,14 @@ use Rattle.futures.specs.declared.task.Poll.{Poll}
 use Rattle.futures.specs.declared.task.Poll.TheVariants.{Ready, Pending}
 use Rattle.tower_base.specs.declared.service.Steps.{Ghosts as StepsOf}
 
--- a `TrackCompletionFuture`, which may have its handle yet
+-- a `TrackCompletionFuture`, which may still have its handle
 pub record TrackCompletionFutureView (F C H : Type 0) : Type 0 where
   pub future : F
   pub completion : C
   pub handle : Option H
 
 module _ {C H V O : Type 0} (tracked : C → H → V → O → Type 0) where
-  -- After the inner answer, this is answered and this handle is left: the completion gets the handle with an `Ok`, and
-  -- with any other answer it stays.
+  -- After the inner result, this result is returned and this handle is left. On `Ok` the completion takes the handle. Otherwise the handle stays.
   abbrev pub Completes : {E : Type 0} → C → Option H → Poll (Result V E) → Poll (Result O E) → Option H → Type 0
   Completes completion (Some handle) (Ready (Ok value)) (Ready (Ok output)) left = tracked completion handle value output × (left ≡ None)
   Completes completion held (Ready (Err e)) answer left = (answer ≡ Ready (Err e)) × (left ≡ held)

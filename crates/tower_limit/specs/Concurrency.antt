@@ -4,7 +4,8 @@ use Rattle.std.specs.declared.alloc.AllocError.{AllocError}
 use Rattle.futures.specs.declared.task.Poll.{Poll}
 use Rattle.futures.specs.declared.task.Poll.TheVariants.{Ready, Pending}
 use Rattle.tower_base.specs.Answers.{answered}
-use Rattle.tower_base.specs.declared.latch.Latch.{Ghosts as LatchOf}
+use Rattle.tower_latch.specs.declared.Latch.{Ghosts as LatchOf}
+use Rattle.tower_latch.specs.declared.guarded.token.Token.{Token}
 use Rattle.tower_base.specs.declared.service.Service.{Ghosts as ServiceOf}
 use Rattle.tower_base.specs.declared.service.Steps.{Ghosts as StepsOf}
 use Rattle.tower_limit.specs.declared.limit.concurrency.error.Error.{Error}
@@ -40,38 +41,46 @@ pub record ResponseFutureView (F L : Type 0) : Type 0 where
   pub response : F
   pub permit : Option (PermitView L)
 
--- the step that asks for a permit, where this key waits
+-- the step that requests a permit, if this key waits
 abbrev pub step_of : Option ℕ → LineStep
 step_of None = Join
 step_of (Some key) = Look key
 
--- nobody waits and nothing is held
+-- a `ConcurrencyLimit` that doesn't wait and holds no permit
 abbrev pub idle : {S L : Type 0} → S → SemaphoreView L → ConcurrencyLimitView S L
 idle inner semaphore = record { inner = inner; asking = record { semaphore = semaphore; key = None }; permit = None }
 
--- round the service, over a semaphore of its own of so many permits, idle
-pub record New {S L : Type 0} (service : S) (max : ℕ) (made : ConcurrencyLimitView S L) : Type 0 where
-  pub size : made.asking.semaphore.max ≡ max
+-- an idle `ConcurrencyLimit` around the service, over a semaphore of its own with `max` permits
+pub record New {S L : Type 0} (places : L → ℕ) (service : S) (max : ℕ) (made : ConcurrencyLimitView S L) : Type 0 where
+  pub number : made.asking.semaphore.max ≡ max
+  pub size : places made.asking.semaphore.latch ≡ max
   pub round : made ≡ idle service made.asking.semaphore
 
--- the answer is that there is no memory
+-- The result is that allocation failed.
 abbrev pub RanOut : {T : Type 0} → Poll (Result T AllocError) → Type 0
 RanOut (Ready (Err e)) = Unit {0}
 RanOut (Ready (Ok x)) = ⊥
 RanOut Pending = ⊥
 
 module _ {L : Type 0} (l : LatchOf L LineCore LineStep LineReply) where
-  -- the second is a share of the first: what it gave, the first gave
-  abbrev pub Shares : L → L → Type 0
-  Shares latch other = (step : LineStep) (reply : LineReply) → l.gave other step reply → l.gave latch step reply
+  -- The second latch is a share of the first: what it gave, the first gave, and their tokens are the same.
+  pub record Shares (latch other : L) : Type 0 where
+    pub gives : (step : LineStep) (reply : LineReply) → l.gave other step reply → l.gave latch step reply
+    pub size : l.size other ≡ l.size latch
+    pub its : (token : Token) → l.its other token → l.its latch token
+    pub takes : (token : Token) → l.its latch token → l.its other token
 
-  -- a semaphore that shares the permits of the first, by a share that its latch made
+  -- The permit is one of the semaphore's: tokens of its latch are tokens of the semaphore's latch.
+  abbrev pub IsOf : SemaphoreView L → PermitView L → Type 0
+  IsOf semaphore permit = (token : Token) → l.its permit.latch token → l.its semaphore.latch token
+
+  -- a semaphore that shares the permits of the first, over a share that the first one's latch created
   pub record SharesPermits (semaphore other : SemaphoreView L) : Type 0 where
     pub shared : l.shares semaphore.latch (Ok other.latch)
     pub latch : Shares semaphore.latch other.latch
     pub max : other.max ≡ semaphore.max
 
-  -- after the reply, a poll for a permit gives this answer and keeps the new key; a permit takes the share that was made for it
+  -- After this reply, a poll for a permit returns this result and keeps the new key. A permit takes the share that was created for it.
   abbrev pub Replies : PollSemaphoreView L → L → LineReply → Poll (Result (PermitView L) AllocError) → Option ℕ → Type 0
   Replies old share Granted (Ready (Ok permit)) key = (permit.latch ≡ share) × (key ≡ None)
   Replies old share (Waiting place) Pending key = key ≡ Some place
@@ -79,14 +88,14 @@ module _ {L : Type 0} (l : LatchOf L LineCore LineStep LineReply) where
   Replies old share Memory (Ready (Err e)) key = key ≡ old.key
   Replies old share _ _ key = ⊥
 
-  -- the latch refuses the permit's share, and that is all
+  -- The latch refuses the permit's share, and nothing changes.
   pub record Refused (old : PollSemaphoreView L) (answer : Poll (Result (PermitView L) AllocError)) (new : PollSemaphoreView L) : Type 0 where
     pub error : AllocError
     pub shared : l.shares old.semaphore.latch (Err error)
     pub ran_out : RanOut answer
     pub same : new ≡ old
 
-  -- the permit's share is made, and one step asks for the permit
+  -- The permit's share is created, and one step requests the permit.
   pub record Asked (old : PollSemaphoreView L) (answer : Poll (Result (PermitView L) AllocError)) (new : PollSemaphoreView L) : Type 0 where
     pub share : L
     pub shared : l.shares old.semaphore.latch (Ok share)
@@ -101,31 +110,31 @@ module _ {L : Type 0} (l : LatchOf L LineCore LineStep LineReply) where
   Acquired old answer new = Refused old answer new ⊎ Asked old answer new
 
   module _ {S : Type 0} where
-    -- what the layer over a semaphore makes: round the service, over a share of the permits, idle
+    -- what the layer over a semaphore creates: an idle `ConcurrencyLimit` around the service, over a share of the permits
     pub record Made (semaphore : SemaphoreView L) (service : S) (made : ConcurrencyLimitView S L) : Type 0 where
       pub shares : SharesPermits semaphore made.asking.semaphore
       pub round : made ≡ idle service made.asking.semaphore
 
-    -- a clone: of the inner service, over a share of the permits, idle
+    -- a clone: an idle `ConcurrencyLimit` around a clone of the inner service, over a share of the permits
     pub record IsClone (is_clone : S → S → Type 0) (old copy : ConcurrencyLimitView S L) : Type 0 where
       pub inner : is_clone old.inner copy.inner
       pub shares : SharesPermits old.asking.semaphore copy.asking.semaphore
       pub round : copy ≡ idle copy.inner copy.asking.semaphore
 
-  -- the permit that is held, or one that is asked for
+  -- the permit that is held, or one that is requested
   abbrev pub Gets : Option (PermitView L) → PollSemaphoreView L → Poll (Result (PermitView L) AllocError) → PollSemaphoreView L → Type 0
   Gets (Some permit) old got new = (got ≡ Ready (Ok permit)) × (new ≡ old)
   Gets None old got new = Acquired old got new
 
   module _ {S Q A E F : Type 0} (s : ServiceOf S Q A E F) where
-    -- after the answer about a permit, the inner service is polled once where there is one, and the permit is kept
+    -- After the result of the request for a permit: if there is a permit, the inner service is polled once, and the permit is kept.
     abbrev pub Goes : Poll (Result (PermitView L) AllocError) → ConcurrencyLimitView S L → Poll (Result (Unit {0}) (Error E)) → ConcurrencyLimitView S L → Type 0
     Goes (Ready (Ok permit)) old answer new =
         (new.permit ≡ Some permit) × ((inner : Poll (Result (Unit {0}) E)) × s.polled old.inner inner new.inner × (answer ≡ answered Inner inner))
     Goes (Ready (Err e)) old answer new = (new.permit ≡ None) × (new.inner ≡ old.inner) × (answer ≡ Ready (Err NoMemory))
     Goes Pending old answer new = (new.permit ≡ None) × (new.inner ≡ old.inner) × (answer ≡ Pending)
 
-    -- a poll of readiness: a permit that was held or is asked for, and where there is one the inner service is polled once
+    -- a poll of readiness: a permit is held or is requested, and if there is one, the inner service is polled once
     pub record Polled (old : ConcurrencyLimitView S L) (answer : Poll (Result (Unit {0}) (Error E))) (new : ConcurrencyLimitView S L) : Type 0 where
       pub got : Poll (Result (PermitView L) AllocError)
       pub gets : Gets old.permit old.asking got new.asking

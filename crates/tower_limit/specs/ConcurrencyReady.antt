@@ -1,10 +1,10 @@
--- After a poll that answers `Ok` there is a permit, and the inner service is ready.
+-- After a poll that returns `Ok` there is a permit, and the inner service is ready.
 use Rattle.std.specs.Prelude.{Result, Ok, Err, IsSome, refl}
 use Rattle.std.specs.declared.alloc.AllocError.{AllocError}
 use Rattle.futures.specs.declared.task.Poll.{Poll}
 use Rattle.futures.specs.declared.task.Poll.TheVariants.{Ready, Pending}
 use Rattle.tower_base.specs.AnswersLemmas.{answered_ok}
-use Rattle.tower_base.specs.declared.latch.Latch.{Ghosts as LatchOf}
+use Rattle.tower_latch.specs.declared.Latch.{Ghosts as LatchOf}
 use Rattle.tower_base.specs.declared.service.Service.{Ghosts as ServiceOf}
 use Rattle.tower_limit.specs.Concurrency.{PermitView, ConcurrencyLimitView, Polled, Goes}
 use Rattle.tower_limit.specs.declared.limit.concurrency.error.Error.TheVariants.{Inner}

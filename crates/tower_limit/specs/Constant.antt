@@ -21,7 +21,7 @@ module _ {S M Q A E F : Type 0} (s : ServiceOf S Q A E F) where
     pub called : s.called old.inner request future new.inner
     pub same : new.load ≡ old.load
 
--- with this load
+-- the service with this load
 abbrev pub loaded : {S M : Type 0} → M → S → ConstantView S M
 loaded load service = record { inner = service; load = load }
 

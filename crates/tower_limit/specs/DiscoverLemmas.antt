@@ -1,4 +1,4 @@
--- What the discoveries of this crate may insert, of which a balancer over them wants to know that it is sound.
+-- What the discoveries of this crate may insert. A balancer over them requires that it is sound.
 use Rattle.std.specs.Prelude.{◌≡◌, ℕ, Some, None, Ok, Err, refl}
 use Rattle.std.specs.List.{AllByRecursion}
 use Rattle.std.specs.declared.convert.Infallible.{Infallible}
@@ -12,7 +12,7 @@ use Rattle.tower_limit.specs.declared.discover.Change.TheVariants.{Insert, Remov
 use Rattle.tower_limit.specs.declared.load.error.Error.{Error}
 use Rattle.tower_limit.specs.declared.load.error.Error.TheVariants.{Inner}
 
--- an answer that inserts a service has P
+-- If the result inserts a service, P holds of it.
 abbrev Inserts : {K S E : Type 0} → (K → S → Type 0) → Found K S E → Type 0
 Inserts P (Ready (Some (Ok (Insert key service)))) = P key service
 Inserts P (Ready (Some (Ok (Remove key)))) = Unit {0}
@@ -20,7 +20,7 @@ Inserts P (Ready (Some (Err e))) = Unit {0}
 Inserts P (Ready None) = Unit {0}
 Inserts P Pending = Unit {0}
 
--- where the services have P, so have those that are inserted once each is changed
+-- If P holds of the services, it holds of those that are inserted after each is changed.
 through : {K S T E U : Type 0} (service : S → T) (error : E → U) (P : K → T → Type 0) (inner : Found K S E)
     → Inserts (λ key s. P key (service s)) inner → Inserts P (changed service error inner)
 through service error P (Ready (Some (Ok (Insert key s)))) h = h
@@ -30,21 +30,21 @@ through service error P (Ready None) h = tt
 through service error P Pending h = tt
 
 module _ {D K S E : Type 0} (discovered : D → Found K S E → D → Type 0) where
-  -- what a poll inserts is what the discovery may insert
+  -- What a poll inserts is what the discovery may insert.
   pub inserts_now : (d : D) (key : K) (service : S) (e : D) → discovered d (inserted key service) e → MayInsert discovered d key service
   inserts_now d key service e h = answers_now discovered d (inserted key service) e h
 
-  -- after a poll a discovery may insert no more than before it
+  -- After a poll a discovery may insert no more than before it.
   pub inserts_later : (d : D) (answer : Found K S E) (e : D) → discovered d answer e
       → (key : K) (service : S) → MayInsert discovered e key service → MayInsert discovered d key service
   inserts_later d answer e h key service may = answers_later discovered d answer e h (inserted key service) may
 
-  -- where each poll keeps I and inserts only what has P, whatever may be inserted has P
+  -- If each poll keeps I and inserts only what has P, whatever may be inserted has P.
   pub inserts_kept : (I : D → Type 0) (P : K → S → Type 0) → ((d : D) (a : Found K S E) (e : D) → I d → discovered d a e → Inserts P a × I e)
       → (d : D) (key : K) (service : S) → I d → MayInsert discovered d key service → P key service
   inserts_kept I P step d key service i may = answers_kept discovered I (Inserts P) step d (inserted key service) i may
 
-  -- all that a poll inserts may be inserted
+  -- All that a poll inserts may be inserted.
   each_now : (d e : D) (a : Found K S E) → discovered d a e → Inserts (MayInsert discovered d) a
   each_now d e (Ready (Some (Ok (Insert key service)))) h = inserts_now d key service e h
   each_now d e (Ready (Some (Ok (Remove key)))) h = tt
@@ -69,17 +69,17 @@ module _ {S : Type 0} (P : S → Type 0) where
   list_keeps d (Ready (Some (Err x))) e all h = absurd h
   list_keeps d Pending e all h = absurd h
 
-  -- a list inserts its own services alone
+  -- A list inserts only its own services.
   pub list_inserts : (list : ServiceListView S) → AllByRecursion P list.services → (key : ℕ) (service : S) → MayInsert Listed list key service → P service
   list_inserts list all key service may = inserts_kept Listed (λ d. AllByRecursion P d.services) (λ _. P) list_keeps list key service all may
 
 module _ {D K S E M : Type 0} (discovered : D → Found K S E → D → Type 0) (first : ConstantView D M) where
-  -- it is reached from the first
+  -- a discovery that was reached from the first one
   record IsLater (d : ConstantView D M) : Type 0 where
     may : (key : K) (service : S) → MayInsert discovered d.inner key service → MayInsert discovered first.inner key service
     load : d.load ≡ first.load
 
-  -- what the inner one may insert, with the load
+  -- what the inner discovery may insert, with the load
   abbrev Given : K → ConstantView S M → Type 0
   Given key made = MayInsert discovered first.inner key made.inner × (made.load ≡ first.load)
 
@@ -95,7 +95,7 @@ module _ {D K S E M : Type 0} (discovered : D → Found K S E → D → Type 0) 
     },
   )
 
-  -- a discovery with a load inserts what the inner one may insert, with that load
+  -- A discovery with a load inserts what the inner one may insert, with that load.
   pub constant_inserts : (key : K) (made : ConstantView S M) → MayInsert (ConstantDiscovered discovered) first key made
       → MayInsert discovered first.inner key made.inner × (made.load ≡ first.load)
   constant_inserts key made may =
@@ -103,13 +103,13 @@ module _ {D K S E M : Type 0} (discovered : D → Found K S E → D → Type 0) 
       (record { may = λ _ _ m. m; load = refl }) may
 
 module _ {D K S E C : Type 0} (discovered : D → Found K S E → D → Type 0) (first : PendingRequestsDiscoverView D C) where
-  -- it is reached from the first
+  -- a discovery that was reached from the first one
   record IsAfter (d : PendingRequestsDiscoverView D C) : Type 0 where
     may : (key : K) (service : S) → MayInsert discovered d.discover key service → MayInsert discovered first.discover key service
     completion : d.completion ≡ first.completion
 
   module _ {L : Type 0} (is_first : L → Type 0) where
-    -- what the inner one may insert, with the completion, over a latch that is no share of another
+    -- what the inner discovery may insert, with the completion, over a latch that is no share of another
     abbrev Counts : K → PendingRequestsView S L C → Type 0
     Counts key made = MayInsert discovered first.discover key made.service × (made.completion ≡ first.completion) × is_first made.latch
 
@@ -126,7 +126,7 @@ module _ {D K S E C : Type 0} (discovered : D → Found K S E → D → Type 0) 
       },
     )
 
-    -- a discovery that counts requests inserts what the inner one may insert, with its completion, each over a latch that is no share of another
+    -- A discovery that counts requests inserts what the inner one may insert, with its completion, each over a latch that is no share of another.
     pub pending_inserts : (key : K) (made : PendingRequestsView S L C) → MayInsert (Discovered is_first discovered) first key made
         → MayInsert discovered first.discover key made.service × (made.completion ≡ first.completion) × is_first made.latch
     pending_inserts key made may =

@@ -18,7 +18,7 @@ times v (x ∷ rest) = (if nat_eq x v then 1 else 0) + times v rest
 abbrev pub tallied : Tally → ℕ → ℕ
 tallied tally v = unwrap_or (get nat_cmp tally.counts v) 0
 
--- the number k so many times, and then these
+-- the number k this many times, and then these
 abbrev pub repeated : ℕ → ℕ → List ℕ → List ℕ
 repeated zero k more = more
 repeated (suc n) k more = k ∷ repeated n k more
@@ -28,14 +28,15 @@ abbrev pub flat : List (ℕ × ℕ) → List ℕ
 flat [] = []
 flat (e ∷ rest) = repeated e.1 e.0 (flat rest)
 
--- one number more is tallied; else nothing changes
+-- After `Done` one more number is tallied. After any other reply nothing changes.
 abbrev pub Adds : Tally → ℕ → HistoReply → Tally → Type 0
 Adds old millis Done new = (old.total < most) × ((v : ℕ) → tallied new v ≡ (if nat_eq millis v then 1 else 0) + tallied old v)
 Adds old millis Memory new = (old.total < most) × ((v : ℕ) → tallied new v ≡ tallied old v)
 Adds old millis Full new = (old.total ≡ most) × ((v : ℕ) → tallied new v ≡ tallied old v)
 Adds old millis reply new = ⊥
 
--- Of what is read in the present and in the next period, each tally has each number as often as the list. What is later isn't there.
+-- The first tally has each number as often as the points that are read in the present period, and the second one as often as those of the next
+-- period. There are no later points.
 pub record Stands (moment duration number : ℕ) (first second : Tally) (h : Histogram) : Type 0 where
   pub made : h.made ≡ moment
   pub period : h.period ≡ duration
@@ -47,10 +48,10 @@ pub record Stands (moment duration number : ℕ) (first second : Tally) (h : His
 abbrev pub StandsFor : HistoCore → Histogram → Type 0
 StandsFor core h = Stands core.made core.period core.present core.read core.written h
 
--- what is made at some moment for some period
+-- a new core: for some moment and some positive period
 abbrev pub Opens : HistoCore → Type 0
 Opens core = (moment : ℕ) × (period : ℕ) × (period ≢ 0) × StandsFor core (blank moment period)
 
--- where the old core stands for a histogram, the new one stands for that histogram changed in this way
+-- If the old core stands for a histogram, the new one stands for that histogram changed in this way.
 abbrev pub Changes : (Histogram → Histogram) → HistoCore → HistoCore → Type 0
 Changes change old new = (h : Histogram) → StandsFor old h → StandsFor new (change h)

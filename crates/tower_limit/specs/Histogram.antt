@@ -7,23 +7,23 @@ use Rattle.tower_limit.specs.declared.hedge.rotating_histogram.steps.HistoStep.T
 use Rattle.tower_limit.specs.declared.hedge.rotating_histogram.steps.HistoReply.{HistoReply}
 use Rattle.tower_limit.specs.declared.hedge.rotating_histogram.steps.HistoReply.TheVariants.{Done, Memory, Full, Count, Millis}
 
--- a latency of so many milliseconds, and the period in which it is read
+-- a latency in milliseconds, and the period in which it is read
 pub record Point : Type 0 where
   pub period : ℕ
   pub millis : ℕ
 
--- The moment of making, how long a period is, the present period, and every point so far, the newest first.
+-- The moment of creation, the length of a period, the present period, and every point so far, the newest first.
 pub record Histogram : Type 0 where
   pub made : ℕ
   pub period : ℕ
   pub present : ℕ
   pub points : List Point
 
--- at the moment of making
+-- a histogram at the moment of its creation
 abbrev pub blank : ℕ → ℕ → Histogram
 blank made period = record { made = made; period = period; present = 0; points = [] }
 
--- The present period is the greatest number of whole periods since the making so far. A clock that went back leaves it.
+-- The present period is the greatest number of whole periods since the creation so far. A clock that went back doesn't change it.
 abbrev pub rotated : Histogram → ℕ → Histogram
 rotated h moment = record h { present = max h.present ((moment - h.made) / h.period) }
 
@@ -38,7 +38,7 @@ read_at period (p ∷ rest) = if nat_eq p.period period then p.millis ∷ read_a
 abbrev pub present_of : Histogram → List ℕ
 present_of h = read_at h.present h.points
 
--- ascending
+-- insertion into an ascending list
 abbrev pub placed : ℕ → List ℕ → List ℕ
 placed x [] = x ∷ []
 placed x (y ∷ rest) = if nat_le x y then x ∷ y ∷ rest else y ∷ placed x rest
@@ -47,31 +47,32 @@ abbrev pub sorted : List ℕ → List ℕ
 sorted [] = []
 sorted (x ∷ rest) = placed x (sorted rest)
 
--- that part of so many points, rounded up, held between the first and the last of them; 0 where there is none
+-- that fraction of `total` points, rounded up, and at least 1 and at most `total`; 0 if there are none
 abbrev pub rank : ℕ → Fraction → ℕ
 rank total part = min total (max 1 (div_ceil (total * part.numerator) part.divisor))
 
--- the ascending list's point of that number, from 1 on; 0 where there is none
+-- the point of that rank in the ascending list, counted from 1, or 0 if there is none
 abbrev pub quantile : Fraction → List ℕ → ℕ
 quantile part xs = slice_index_or (sorted xs) (rank (length xs) part - 1) 0
 
--- as many points as a period may have
+-- the greatest number of points of a period
 abbrev pub most : ℕ
 most = 2 ^ 64 - 1
 
--- A point is taken. It is refused where its period is full. Where it finds no memory it is left out too.
+-- A point is added. It is left out if its period is full, or if allocation fails.
 abbrev pub Takes : Histogram → ℕ → ℕ → HistoReply → Histogram → Type 0
 Takes old period millis Done new = (length (read_at period old.points) < most) × (new ≡ added old period millis)
 Takes old period millis Memory new = (length (read_at period old.points) < most) × (new ≡ old)
 Takes old period millis Full new = (length (read_at period old.points) ≡ most) × (new ≡ old)
--- no other reply is given
+-- No other reply is given.
 Takes old period millis reply new = ⊥
 
--- The histogram's machine: one step with its reply. Each first rotates. What is recorded is read in the next period, and a seed in the present one.
+-- The histogram's machine: one step with its reply. Each step first rotates. What is recorded is read in the next period, and a seed in the present
+-- one.
 abbrev pub Steps : Histogram → HistoStep → HistoReply → Histogram → Type 0
 Steps old (Record moment millis) reply new = Takes (rotated old moment) ((rotated old moment).present + 1) millis reply new
 Steps old (Seed moment millis) reply new = Takes (rotated old moment) (rotated old moment).present millis reply new
 Steps old (Points moment) (Count n) new = (n ≡ length (present_of (rotated old moment))) × (new ≡ rotated old moment)
 Steps old (Quantile moment part) (Millis n) new = (n ≡ quantile part (present_of (rotated old moment))) × (new ≡ rotated old moment)
--- no other reply is given
+-- No other reply is given.
 Steps old step reply new = ⊥

@@ -5,23 +5,23 @@ use Rattle.tower_limit.specs.declared.load.pending_requests.count_core.CountStep
 use Rattle.tower_limit.specs.declared.load.pending_requests.count_core.CountReply.{CountReply}
 use Rattle.tower_limit.specs.declared.load.pending_requests.count_core.CountReply.TheVariants.{Counted, Full, Done, Count, Unknown}
 
--- One that was counted and lives. Nothing tells two of them apart.
+-- A live holder that was counted. Holders can't be told apart.
 pub data Holder : Type 0 where
   holder : Holder
 
--- how many can be counted
+-- the greatest number that can be counted
 abbrev pub most : ℕ
 most = 2 ^ 64 - 1
 
--- Of these holders, the step may give this reply and leave the new ones.
+-- With these holders, the step may give this reply and leave the new ones.
 abbrev pub HolderSteps : List Holder → CountStep → CountReply → List Holder → Type 0
--- one more is counted, while that can be
+-- One more is counted, if it can be.
 HolderSteps old Take Counted new = (length old < most) × (new ≡ old ++ Holder.holder ∷ [])
 HolderSteps old Take Full new = (length old ≡ most) × (new ≡ old)
--- a holder is gone
+-- A holder is gone.
 HolderSteps old Give Done new = (place : ℕ) × (place < length old) × (new ≡ remove old place)
 HolderSteps old Give Unknown new = (old ≡ []) × (new ≡ old)
--- the load is their number
+-- The load is their number.
 HolderSteps old Load (Count n) new = (n ≡ length old) × (new ≡ old)
--- no other reply is given
+-- No other reply is given.
 HolderSteps old _ _ new = ⊥

@@ -13,6 +13,8 @@ pub mod Line
 pub mod LineCore
 pub mod LineHistory
 pub mod LineLaws
+pub mod LineTokens
+pub mod LineTokensLemmas
 pub mod PendingRequests
 pub mod Projections
 pub mod Rate
@@ -21,6 +23,3 @@ pub mod RateLends
 pub mod RateReady
 pub mod RateRun
 pub mod RotatingHistogram
-pub mod Turns
-pub mod WaitQueue
-pub mod Waiters

@@ -1,4 +1,4 @@
--- The line of permits, as a plain list of tickets in the order of asking.
+-- The line of permits, as a plain list of tickets in the order of requests.
 use Rattle.std.specs.Prelude.{◌≡◌, ◌≢◌, ◌<◌, ◌≤◌, ◌-◌, ℕ, Bool, true, false, List, [], ◌∷◌, ◌++◌, length, slice_get, slice_set, remove, Some}
 use Rattle.tower_limit.specs.declared.limit.concurrency.line_core.LineStep.{LineStep}
 use Rattle.tower_limit.specs.declared.limit.concurrency.line_core.LineStep.TheVariants.{Join, Look, Cancel, Release, Free}
@@ -10,51 +10,51 @@ pub data Ticket : Type 0 where
   held : Ticket
   waits : ℕ → Ticket
 
--- The first `max` tickets have a permit. So many waiters fit without a growth.
+-- The first `max` tickets have a permit. `room` waiters fit without an allocation.
 pub record Line : Type 0 where
   pub max : ℕ
   pub tickets : List Ticket
   pub room : ℕ
 
--- nobody has asked
+-- the line before any request
 abbrev pub blank : ℕ → Line
 blank max = record { max = max; tickets = []; room = 0 }
 
--- the keys that wait, in the order of asking
+-- the keys that wait, in the order of requests
 abbrev pub keys_of : List Ticket → List ℕ
 keys_of [] = []
 keys_of (Ticket.held ∷ line) = keys_of line
 keys_of (Ticket.waits key ∷ line) = key ∷ keys_of line
 
--- this ticket stands at that place
+-- This ticket stands at that place.
 abbrev pub At : List Ticket → ℕ → Ticket → Type 0
 At line place ticket = slice_get line place ≡ Some ticket
 
--- no place has this ticket
+-- No place has this ticket.
 abbrev pub Lacks : List Ticket → Ticket → Type 0
 Lacks line ticket = (place : ℕ) → slice_get line place ≢ Some ticket
 
--- Of a line with permits for its first max places, the step may give this reply and leave the new line.
+-- In a line with permits for its first max places, the step may give this reply and leave the new line.
 abbrev pub Steps : ℕ → List Ticket → LineStep → LineReply → List Ticket → Type 0
--- a place below max is a permit
+-- A place below max is a permit.
 Steps max old Join Granted new = (length old < max) × (new ≡ old ++ Ticket.held ∷ [])
 Steps max old Join (Waiting key) new = (max ≤ length old) × Lacks old (Ticket.waits key) × (new ≡ old ++ Ticket.waits key ∷ [])
 Steps max old Join Memory new = (max ≤ length old) × (new ≡ old)
--- a key ends as its permit is seen
+-- A key ends when its permit is seen.
 Steps max old (Look key) Granted new = (place : ℕ) × At old place (Ticket.waits key) × (place < max) × (new ≡ slice_set old place Ticket.held)
 Steps max old (Look key) (Waiting again) new = (place : ℕ) × At old place (Ticket.waits key) × (max ≤ place) × (again ≡ key) × (new ≡ old)
 Steps max old (Look key) Unknown new = Lacks old (Ticket.waits key) × (new ≡ old)
--- a wait ends, granted or not
+-- A wait ends, granted or not.
 Steps max old (Cancel key) Left new = (place : ℕ) × At old place (Ticket.waits key) × (new ≡ remove old place)
 Steps max old (Cancel key) Unknown new = Lacks old (Ticket.waits key) × (new ≡ old)
--- a holder leaves
+-- A holder leaves.
 Steps max old Release Left new = (place : ℕ) × At old place Ticket.held × (new ≡ remove old place)
 Steps max old Release Unknown new = Lacks old Ticket.held × (new ≡ old)
 Steps max old Free (Count free) new = (free ≡ max - length old) × (new ≡ old)
--- no other reply is given
+-- No other reply is given.
 Steps max old _ _ new = ⊥
 
--- `Memory` is a refused growth, of a line where so many wait and no more fit.
+-- `Memory` replies that an allocation failed. It is possible only if so many wait that no more fit.
 abbrev pub Excused : ℕ → ℕ → LineReply → Type 0
 Excused room waiting Memory = room ≤ waiting
 Excused room waiting _ = Unit {0}
@@ -66,7 +66,7 @@ LineSteps old step reply new = (new.max ≡ old.max)
     × Excused old.room (length (keys_of old.tickets)) reply
     × (old.room ≤ new.room)
 
--- the reply asks its caller to look again
+-- whether the reply requires its caller to look again
 abbrev pub is_waiting : LineReply → Bool
 is_waiting (Waiting key) = true
 is_waiting _ = false

@@ -1,46 +1,46 @@
 -- Which plain lines a `LineCore` stands for.
 use Rattle.std.specs.Prelude.{◌≡◌, ◌<◌, ◌≤◌, ◌+◌, ◌-◌, ℕ, suc, List, [], ◌∷◌, ⊤}
 use Rattle.tower_limit.specs.Line.{Ticket, Line, Steps, Excused, blank, keys_of}
-use Rattle.tower_limit.specs.Turns.{Turns}
-use Rattle.tower_limit.specs.WaitQueue.{StandsFor as QueueStandsFor, room, size, touches as queue_touches}
+use Rattle.tower_latch.specs.Turns.{Turns}
+use Rattle.tower_latch.specs.WaitQueue.{StandsFor as QueueStandsFor, room, size, touches as queue_touches}
 use Rattle.tower_limit.specs.declared.limit.concurrency.line_core.LineCore.{LineCore}
 use Rattle.tower_limit.specs.declared.limit.concurrency.line_core.LineStep.{LineStep}
 use Rattle.tower_limit.specs.declared.limit.concurrency.line_core.LineReply.{LineReply}
-use Rattle.tower_limit.specs.declared.wait_queue.WaitQueue.{WaitQueue}
+use Rattle.tower_latch.specs.declared.wait_queue.WaitQueue.{WaitQueue}
 
--- how many hold a permit
+-- the number of holders of permits
 abbrev pub holders : List Ticket → ℕ
 holders [] = 0
 holders (Ticket.held ∷ line) = suc (holders line)
 holders (Ticket.waits key ∷ line) = holders line
 
--- each holder stands below max
+-- Each holder stands below max.
 abbrev pub HoldersBelow : ℕ → List Ticket → Type 0
 HoldersBelow max [] = ⊤
 HoldersBelow max (Ticket.held ∷ line) = (0 < max) × HoldersBelow (max - 1) line
 HoldersBelow max (Ticket.waits key ∷ line) = HoldersBelow (max - 1) line
 
--- so many holders, and these keys
+-- The line has `held` holders, all below `max`, and these keys.
 abbrev pub Stands : ℕ → ℕ → List ℕ → List Ticket → Type 0
 Stands max held keys line = (holders line ≡ held) × (keys_of line ≡ keys) × HoldersBelow max line
 
--- of so many permits so many are held, and these wait
+-- The line has `held` holders below `max`, and its waiters are those of the queue.
 abbrev pub StandsAt : ℕ → ℕ → WaitQueue → List Ticket → Type 0
 StandsAt max held queue line = (plain : Turns) × QueueStandsFor queue plain × Stands max held plain.keys line
 
--- the line has as many permits and holders, the same who wait, and as much room
+-- The line has the core's permits, holders and waiters, and as much room.
 abbrev pub StandsFor : LineCore → Line → Type 0
 StandsFor core line = (line.max ≡ core.max) × StandsAt core.max core.held core.queue line.tickets × (line.room ≡ room core.queue)
 
--- a line that nobody has asked
+-- a new core: it stands for an empty line
 abbrev pub Opens : LineCore → Type 0
 Opens core = (max : ℕ) × StandsFor core (blank max)
 
--- how many entries of those who wait were reached so far
+-- how many entries of the wait queue were reached so far
 abbrev pub touches : LineCore → ℕ
 touches core = queue_touches core.queue
 
--- Each list that the old core stands for makes the machine's step to one that the new core stands for, by six touches at most.
+-- From each list that the old core stands for, the machine's step leads to one that the new core stands for. It reaches at most six entries.
 pub record Follows (old : LineCore) (step : LineStep) (reply : LineReply) (new : LineCore) : Type 0 where
   pub same : new.max ≡ old.max
   pub goes : (line : List Ticket) → StandsAt old.max old.held old.queue line

@@ -1,7 +1,7 @@
 -- What holds of the history of a line of permits that threads shared.
 use Rattle.std.specs.Prelude.{◌≡◌, ◌≤◌, ◌+◌, ℕ, List, take, Option, Some}
-use Rattle.tower_base.specs.Latch.{StepsAs}
-use Rattle.tower_base.specs.History.{IsLegal}
+use Rattle.tower_latch.specs.Latch.{StepsAs}
+use Rattle.tower_latch.specs.History.{IsLegal}
 use Rattle.tower_limit.specs.Line.{LineSteps, blank}
 use Rattle.tower_limit.specs.LineCore.{StandsFor, Opens}
 use Rattle.tower_limit.specs.LineLaws.{grants, returns}
@@ -9,7 +9,7 @@ use Rattle.tower_limit.specs.declared.limit.concurrency.line_core.LineCore.{Line
 use Rattle.tower_limit.specs.declared.limit.concurrency.line_core.LineStep.{LineStep}
 use Rattle.tower_limit.specs.declared.limit.concurrency.line_core.LineReply.{LineReply}
 
--- Where the log opened with an empty line, the permits that are out never pass max: in each beginning of the history.
+-- If the log opened with an empty line, never more than max permits are out, in each prefix of the history.
 abbrev pub BoundedHistory : Type 0
 BoundedHistory =
     (max : ℕ) (line : LineCore) (opening : Option LineCore) (history : List (LineStep × LineReply)) → StandsFor line (blank max) → opening ≡ Some line

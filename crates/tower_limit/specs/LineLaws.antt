@@ -1,6 +1,6 @@
 -- What holds of every list of steps and replies from the empty line.
 use Rattle.std.specs.Prelude.{◌≡◌, ◌⊎◌, ◌<◌, ◌≤◌, ◌+◌, ℕ, zero, suc, List, [], ◌∷◌}
-use Rattle.tower_base.specs.Latch.{Serves}
+use Rattle.tower_latch.specs.Latch.{Serves}
 use Rattle.tower_limit.specs.Line.{Ticket, Line, At, Steps, LineSteps, blank}
 use Rattle.tower_limit.specs.declared.limit.concurrency.line_core.LineStep.{LineStep}
 use Rattle.tower_limit.specs.declared.limit.concurrency.line_core.LineStep.TheVariants.{Join, Look, Cancel, Release, Free}
@@ -24,21 +24,21 @@ abbrev pub returns : List (LineStep × LineReply) → ℕ
 returns [] = 0
 returns (step ∷ steps) = one_if_left step.0 step.1 + returns steps
 
--- a look at the key may give this reply
+-- A look at the key may give this reply.
 abbrev pub Sees : ℕ → List Ticket → ℕ → LineReply → Type 0
 Sees max line key reply = (next : List Ticket) × Steps max line (Look key) reply next
 
--- young asked after old
+-- young joined the line after old
 abbrev pub IsYounger : List Ticket → ℕ → ℕ → Type 0
 IsYounger line old young = (p : ℕ) × (q : ℕ) × At line p (Ticket.waits old) × At line q (Ticket.waits young) × (p < q)
 
--- the step ends the key
+-- The step ends the key.
 abbrev pub Ends : ℕ → LineStep → LineReply → Type 0
 Ends key (Look other) Granted = other ≡ key
 Ends key (Cancel other) Left = other ≡ key
 Ends key _ _ = ⊥
 
--- how many have a permit: each holder, and each waiter whose place is below max, seen or not
+-- how many permits are taken: by each holder, and by each waiter whose place is below max, seen or not
 abbrev pub taken : ℕ → List Ticket → ℕ
 taken max [] = 0
 taken zero (Ticket.held ∷ line) = suc (taken zero line)
@@ -46,24 +46,24 @@ taken (suc max) (Ticket.held ∷ line) = suc (taken max line)
 taken zero (Ticket.waits key ∷ line) = taken zero line
 taken (suc max) (Ticket.waits key ∷ line) = suc (taken max line)
 
--- P holds of each list of steps and replies from the empty line, and of the line that they leave
+-- P holds of each list of steps and replies from the empty line, and of the line that they leave.
 abbrev pub Always : (ℕ → List (LineStep × LineReply) → List Ticket → Type 0) → Type 0
 Always P = (max : ℕ) (steps : List (LineStep × LineReply)) (line : Line) → Serves LineSteps (blank max) steps line → P max steps line.tickets
 
--- the permits that are out never pass max
+-- Never more than max permits are out.
 abbrev pub Bounded : ℕ → List (LineStep × LineReply) → List Ticket → Type 0
 Bounded max steps line = grants steps ≤ max + returns steps
 
--- while a key waits, nobody who asks later is granted
+-- While a key waits, no later request is granted.
 abbrev pub InOrder : ℕ → List (LineStep × LineReply) → List Ticket → Type 0
 InOrder max steps line = (key : ℕ) → Sees max line key (Waiting key)
     → ((next : List Ticket) → ¬ (Steps max line Join Granted next)) × ((young : ℕ) → IsYounger line key young → ¬ (Sees max line young Granted))
 
--- a key that is granted stays so until it ends
+-- A granted key stays granted until it ends.
 abbrev pub Lasts : ℕ → List (LineStep × LineReply) → List Ticket → Type 0
 Lasts max steps line = (key : ℕ) → Sees max line key Granted → (step : LineStep) (reply : LineReply) (next : List Ticket)
     → Steps max line step reply next → Ends key step reply ⊎ Sees max next key Granted
 
--- the free permits and those that somebody has are max
+-- The free permits and those that are taken add up to max.
 abbrev pub Counts : ℕ → List (LineStep × LineReply) → List Ticket → Type 0
 Counts max steps line = (free : ℕ) (next : List Ticket) → Steps max line Free (Count free) next → free + taken max line ≡ max

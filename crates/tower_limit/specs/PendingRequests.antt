@@ -3,7 +3,7 @@ use Rattle.std.specs.Prelude.{◌≡◌, ◌⊎◌, ℕ, Option, None, Some, Res
 use Rattle.std.specs.declared.alloc.AllocError.{AllocError}
 use Rattle.futures.specs.declared.task.Poll.{Poll}
 use Rattle.futures.specs.declared.task.Poll.TheVariants.{Ready}
-use Rattle.tower_base.specs.declared.latch.Latch.{Ghosts as LatchOf}
+use Rattle.tower_latch.specs.declared.Latch.{Ghosts as LatchOf}
 use Rattle.tower_base.specs.declared.service.Service.{Ghosts as ServiceOf}
 use Rattle.tower_limit.specs.Completion.{TrackCompletionFutureView}
 use Rattle.tower_limit.specs.Discover.{Found, changed}
@@ -15,7 +15,7 @@ use Rattle.tower_limit.specs.declared.load.pending_requests.count_core.CountStep
 use Rattle.tower_limit.specs.declared.load.pending_requests.count_core.CountReply.{CountReply}
 use Rattle.tower_limit.specs.declared.load.pending_requests.count_core.CountReply.TheVariants.{Counted, Count}
 
--- a `Handle`, which is counted where it has a share of the latch
+-- a `Handle`, which is counted if it has a share of the latch
 pub record HandleView (L : Type 0) : Type 0 where
   pub share : Option L
 
@@ -30,30 +30,30 @@ pub record PendingRequestsDiscoverView (D C : Type 0) : Type 0 where
   pub discover : D
   pub completion : C
 
--- round the service, with this completion, over the first latch of a core of its own
+-- a `PendingRequests` around the service, with this completion, over the first latch of a core of its own
 pub record New {S L C : Type 0} (is_first : L → Type 0) (service : S) (completion : C) (made : PendingRequestsView S L C) : Type 0 where
   pub inside : made.service ≡ service
   pub same : made.completion ≡ completion
   pub first : is_first made.latch
 
 module _ {L : Type 0} (l : LatchOf L CountCore CountStep CountReply) where
-  -- the second is a share of the first, which that made: what it gave, the first gave
+  -- The second latch is a share that the first one created: what it gave, the first gave.
   pub record IsShare (latch other : L) : Type 0 where
     pub shared : l.shares latch (Ok other)
     pub same : (step : CountStep) (reply : CountReply) → l.gave other step reply → l.gave latch step reply
 
-  -- the handle has the share exactly where the reply is that it was counted
+  -- The handle has the share exactly if the reply says that it was counted.
   abbrev pub Holds : L → CountReply → Option L → Type 0
   Holds share Counted held = held ≡ Some share
   Holds share _ held = held ≡ None
 
-  -- the latch refuses the share, and there is no step
+  -- The latch refuses the share, and there is no step.
   pub record Refused (latch : L) (handle : HandleView L) : Type 0 where
     pub error : AllocError
     pub shared : l.shares latch (Err error)
     pub none : handle.share ≡ None
 
-  -- the handle's share is made, and one step takes its part
+  -- The handle's share is created, and one `Take` step is made.
   pub record Asked (latch : L) (handle : HandleView L) : Type 0 where
     pub share : L
     pub shares : IsShare latch share
@@ -87,12 +87,12 @@ module _ {L : Type 0} (l : LatchOf L CountCore CountStep CountReply) where
       pub latch : new.latch ≡ old.latch
       pub completion : new.completion ≡ old.completion
 
--- what is made of a service that was discovered, with a latch of its own
+-- a `PendingRequests` around a discovered service, with a latch of its own
 abbrev pub counted : {S L C : Type 0} → C → L → S → PendingRequestsView S L C
 counted completion latch service = record { service = service; latch = latch; completion = completion }
 
 module _ {D K S E L C : Type 0} (is_first : L → Type 0) (discovered : D → Found K S E → D → Type 0) where
-  -- the latch of a further service is there, no share of another's, and the inner discovery is polled once
+  -- The latch of the next service is there and is no share of another's, and the inner discovery is polled once.
   pub record FoundInside (old : PendingRequestsDiscoverView D C) (answer : Found K (PendingRequestsView S L C) (Error E)) (new : PendingRequestsDiscoverView D C) : Type 0 where
     pub latch : L
     pub first : is_first latch
@@ -101,6 +101,6 @@ module _ {D K S E L C : Type 0} (is_first : L → Type 0) (discovered : D → Fo
     pub answers : answer ≡ changed (counted old.completion latch) Inner inner
     pub same : new.completion ≡ old.completion
 
-  -- a poll of the discovery: no memory for a latch, and nothing is asked; or the inner one is polled once
+  -- a poll of the discovery: either allocation of a latch fails and the inner discovery isn't polled, or it is polled once
   abbrev pub Discovered : PendingRequestsDiscoverView D C → Found K (PendingRequestsView S L C) (Error E) → PendingRequestsDiscoverView D C → Type 0
   Discovered old answer new = ((answer ≡ Ready (Some (Err Memory))) × (new ≡ old)) ⊎ FoundInside old answer new

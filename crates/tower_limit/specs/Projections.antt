@@ -1,4 +1,4 @@
--- What goes inside of what each middleware is asked.
+-- What each middleware passes on to its inner service.
 use Rattle.std.proofs.Common.{IsSome, List, [], refl, Result, Ok, Err}
 use Rattle.std.specs.declared.alloc.AllocError.{AllocError}
 use Rattle.futures.specs.declared.task.Poll.{Poll}
@@ -6,7 +6,7 @@ use Rattle.futures.specs.declared.task.Poll.TheVariants.{Ready, Pending}
 use Rattle.tower_base.specs.ServiceRun.{Relations, relations, Action}
 use Rattle.tower_base.specs.Projection.{Once, RunInside, Projects}
 use Rattle.tower_base.specs.ProjectionLemmas.{forwards, no_action, one_poll, one_call}
-use Rattle.tower_base.specs.declared.latch.Latch.{Ghosts as LatchOf}
+use Rattle.tower_latch.specs.declared.Latch.{Ghosts as LatchOf}
 use Rattle.tower_base.specs.declared.service.Service.{Ghosts as ServiceOf}
 use Rattle.tower_limit.specs.Completion.{TrackCompletionFutureView}
 use Rattle.tower_limit.specs.Concurrency as C

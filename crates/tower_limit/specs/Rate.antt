@@ -5,8 +5,8 @@ use Rattle.futures.specs.declared.task.Poll.TheVariants.{Pending}
 use Rattle.tower_base.specs.declared.service.Service.{Ghosts as ServiceOf}
 use Rattle.tower_base.specs.declared.service.Clock.{Ghosts as ClockOf}
 
--- So many calls fit an interval that is so long. The moments of all calls are listed, the newest first. A pass is open
--- from a poll that passes until the next poll or call.
+-- `num` calls fit into an interval of length `per`. The moments of all calls are listed, the newest first. A pass is open from a poll that passes
+-- until the next poll or call.
 pub record Calls : Type 0 where
   pub num : ℕ
   pub per : ℕ
@@ -32,23 +32,23 @@ pub record RateLimitLayerView (C : Type 0) : Type 0 where
   pub per : ℕ
   pub clock : C
 
--- at first there were no calls
+-- the list before any call
 abbrev pub opening : ℕ → ℕ → Calls
 opening num per = record { num = num; per = per; moments = []; passed = false }
 
--- `num` or more calls were made
+-- whether `num` or more calls were made
 abbrev pub is_limited : Calls → Bool
 is_limited plain = nat_le plain.num (length plain.moments)
 
--- the moment of the `num`-th last call, if so many were made
+-- the moment of the `num`-th last call, if that many were made
 abbrev pub oldest : Calls → ℕ
 oldest plain = slice_index plain.moments (plain.num - 1)
 
--- A poll passes unless the `num`-th last call plus the period is past this moment.
+-- whether a poll passes at this moment: it does unless the `num`-th last call plus the period is later
 abbrev pub passes : Calls → ℕ → Bool
 passes plain moment = if is_limited plain then nat_le (oldest plain + plain.per) moment else true
 
--- A call may be made.
+-- whether a call may be made
 abbrev pub may_call : Calls → Bool
 may_call plain = not (is_limited plain) || plain.passed
 
@@ -56,7 +56,7 @@ may_call plain = not (is_limited plain) || plain.passed
 abbrev pub after_poll : Calls → ℕ → Calls
 after_poll plain moment = record plain { passed = passes plain moment }
 
--- A call joins the list, and closes the pass.
+-- A call joins the list and closes the pass.
 abbrev pub after_call : Calls → ℕ → Calls
 after_call plain moment = record plain { moments = moment ∷ plain.moments; passed = false }
 
@@ -68,17 +68,17 @@ pub record StandsFor (core : RateCoreView) (plain : Calls) : Type 0 where
   pub last : core.kept ≡ take plain.num plain.moments
   pub pass : plain.passed ≡ core.passed
 
--- the core stands for calls of which P holds
+-- The core stands for calls of which P holds.
 abbrev pub Stands : RateCoreView → (Calls → Type 0) → Type 0
 Stands core P = (plain : Calls) × StandsFor core plain × P plain
 
 module _ {S C Q A E F : Type 0} (s : ServiceOf S Q A E F) (c : ClockOf C) where
-  -- the inner service is polled once, or the answer is pending without a poll
+  -- The inner service is polled once, or the result is pending without a poll.
   abbrev pub Asks : Bool → S → Poll (Result (Unit {0}) E) → S → Type 0
   Asks true old answer new = s.polled old answer new
   Asks false old answer new = (answer ≡ Pending) × (new ≡ old)
 
-  -- A poll of readiness after these calls. If they limit it, the clock is read once, else not at all.
+  -- A poll of readiness after these calls. If they limit it, the clock is read once. Otherwise it isn't read.
   abbrev pub PollsAt : Bool → Calls → RateLimitView S C → Poll (Result (Unit {0}) E) → RateLimitView S C → Type 0
   PollsAt true plain old answer new = c.read old.clock new.clock
       × StandsFor new.core (after_poll plain (c.reading new.clock))
@@ -98,12 +98,12 @@ module _ {S C Q A E F : Type 0} (s : ServiceOf S Q A E F) (c : ClockOf C) where
     pub joins : (plain : Calls) → StandsFor old.core plain → StandsFor new.core (after_call plain (c.reading new.clock))
     pub called : s.called old.inner request future new.inner
 
--- what is made of a service with this clock, which isn't read
+-- a new rate limit of a service with this clock, which isn't read
 pub record New {S C : Type 0} (num per : ℕ) (service : S) (clock : C) (made : RateLimitView S C) : Type 0 where
   pub inside : made.inner ≡ service
   pub unread : made.clock ≡ clock
   pub core : StandsFor made.core (opening num per)
 
--- what the layer makes: with a share of its clock
+-- what the layer creates: a rate limit with a share of its clock
 abbrev pub Made : {S C : Type 0} → ClockOf C → RateLimitLayerView C → S → RateLimitView S C → Type 0
 Made {C = C} c layer service made = (share : C) × c.shared layer.clock share × New layer.num layer.per service share made

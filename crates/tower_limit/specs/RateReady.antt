@@ -1,16 +1,16 @@
--- After a poll that answers `Ok` a call may be made.
+-- After a poll that returns `Ok` a call may be made.
 use Rattle.std.proofs.Common.{◌≡◌, ◌||◌, Bool, true, false, Ok, not, refl, ap}
 use Rattle.futures.specs.declared.task.Poll.TheVariants.{Ready}
 use Rattle.tower_base.specs.declared.service.Service.{Ghosts as ServiceOf}
 use Rattle.tower_base.specs.declared.service.Clock.{Ghosts as ClockOf}
 use Rattle.tower_limit.specs.Rate.{Calls, RateLimitView, StandsFor, Stands, Polled, PollsAt, Asks, is_limited, passes, may_call}
 
--- a pass that is open allows a call
+-- An open pass allows a call.
 pub open-allows : (limited : Bool) → not limited || true ≡ true
 open-allows true = refl
 open-allows false = refl
 
--- and so do fewer calls than the number
+-- Fewer calls than `num` allow one too.
 pub free-allows : (limited passed : Bool) → limited ≡ false → not limited || passed ≡ true
 free-allows true passed h = absurd (cc h)
 free-allows false passed h = refl

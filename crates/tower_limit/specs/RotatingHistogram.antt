@@ -19,14 +19,14 @@ abbrev pub millis_of : ℕ → ℕ
 millis_of nanos = div_ceil nanos 1000000
 
 module _ {L C : Type 0} (gave : L → HistoStep → HistoReply → Type 0) (c : ClockOf C) where
-  -- a latency in nanoseconds: one reading, and one step at that moment, whatever the reply
+  -- a latency in nanoseconds is recorded: the clock is read once, and one step is made at that moment, whatever the reply
   pub record Recorded (old : RotatingHistogramView L C) (latency : ℕ) (new : RotatingHistogramView L C) : Type 0 where
     pub read : c.read old.clock new.clock
     pub reply : HistoReply
     pub gave_reply : gave old.latch (Record (c.reading new.clock) (millis_of latency)) reply
     pub same : new.latch ≡ old.latch
 
-  -- a latency in milliseconds that is read at once: likewise
+  -- a latency in milliseconds is seeded, in the same way
   pub record Seeded (old : RotatingHistogramView L C) (millis : ℕ) (new : RotatingHistogramView L C) : Type 0 where
     pub read : c.read old.clock new.clock
     pub reply : HistoReply
@@ -38,19 +38,19 @@ module _ {L C : Type 0} (gave : L → HistoStep → HistoReply → Type 0) (c : 
   SeededAll old [] new = new ≡ old
   SeededAll old (millis ∷ rest) new = (mid : RotatingHistogramView L C) × Seeded old millis mid × SeededAll mid rest new
 
-  -- how many points are read: one reading, and the reply to one step
+  -- how many points are read: the clock is read once, and the reply to one step is returned
   pub record Counted (old : RotatingHistogramView L C) (answer : ℕ) (new : RotatingHistogramView L C) : Type 0 where
     pub read : c.read old.clock new.clock
     pub gave_count : gave old.latch (Points (c.reading new.clock)) (Count answer)
     pub same : new.latch ≡ old.latch
 
-  -- a quantile in milliseconds: likewise
+  -- a quantile in milliseconds, in the same way
   pub record Ranked (old : RotatingHistogramView L C) (part : Fraction) (answer : ℕ) (new : RotatingHistogramView L C) : Type 0 where
     pub read : c.read old.clock new.clock
     pub gave_millis : gave old.latch (Quantile (c.reading new.clock) part) (Millis answer)
     pub same : new.latch ≡ old.latch
 
--- a clone: over a share that its latch made, and what that gives, the first one gives
+-- a clone: its latch is a share that the old latch created, and what it gives, the old one gives
 pub record IsClone {L C : Type 0} (gave : L → HistoStep → HistoReply → Type 0) (may_share : L → Result L AllocError → Type 0) (c : ClockOf C)
     (old copy : RotatingHistogramView L C) : Type 0 where
   pub shared : may_share old.latch (Ok copy.latch)

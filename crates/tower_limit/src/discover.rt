@@ -13,14 +13,14 @@ pub use list::ServiceList;
 /// One change of a set of services by key: the Rust's `tower::discover::Change`.
 #[derive(Clone, Debug, Drop)]
 pub enum Change<K, V> {
-    /// The service stands under this key, in place of an older one.
+    /// Inserts the service under this key, in place of an older one.
     Insert(K, V),
-    /// No service stands under this key any more.
+    /// Removes the service under this key.
     Remove(K),
 }
 
-/// Tells which services there are, by one change after another: the Rust's `tower::discover::Discover`, which
-/// there is each fallible stream of changes.
+/// Reports which services there are, by one change after another: the Rust's
+/// `tower::discover::Discover`, which every fallible stream of changes implements there.
 pub trait Discover: Drop {
     type Key: Drop;
 
@@ -28,13 +28,14 @@ pub trait Discover: Drop {
 
     type Error: Drop;
 
-    // What constructors make has it, and every poll keeps it.
+    // Constructors establish it, and every poll keeps it.
     ghost sound: { Self → Type 0 } = { λ _. ⊤ };
 
-    // A poll may give this answer and leave the second value.
+    // A poll may return this and leave the second value.
     ghost discovered: { Self → Poll (Option (Result (Change Self.Key Self.Service) Self.Error)) → Self → Type 0 };
 
-    /// The next change, an error, or the end. An error isn't the end. What has ended needn't be asked again.
+    /// Returns the next change, an error, or the end (`None`). An error isn't the end. After the end it
+    /// needn't be polled again.
     fn poll_discover(
         &mut self,
         cx: &mut Context<'_>,

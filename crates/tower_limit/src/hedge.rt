@@ -1,4 +1,5 @@
-//! What is known of latencies, for the second requests of `tower::hedge`. It stands beside the other shared cores.
+//! Recorded latencies, for the second requests of `tower::hedge`. The module is here, beside the other
+//! shared cores.
 
 mod record;
 pub mod rotating_histogram;

@@ -5,4 +5,3 @@ pub mod discover;
 pub mod hedge;
 pub mod limit;
 pub mod load;
-pub mod wait_queue;

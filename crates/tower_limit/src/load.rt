@@ -10,15 +10,15 @@ pub use constant::{Constant, projection as constant_projection};
 pub use error::Error;
 pub use pending_requests::{PendingRequests, PendingRequestsDiscover};
 
-/// Tells how busy a service is: the Rust's `tower::load::Load`.
+/// Reports how busy a service is: the Rust's `tower::load::Load`.
 pub trait Load {
-    /// Of two services the one with the lower metric is less busy.
+    /// Of two services, the one with the lower metric is less busy.
     type Metric: PartialOrd + Drop;
 
-    // The load may be told so.
+    // The load may be reported as this metric.
     ghost loaded: { Self → Self.Metric → Type 0 };
 
-    /// The load now.
+    /// Returns the current load.
     fn load(&self) -> Self::Metric
         ensures { loaded self.now result };
 }

@@ -12,7 +12,7 @@ use Rattle.tower_pool.specs.declared.buffer.message.Fate.{Fate}
 use Rattle.tower_pool.specs.declared.buffer.message.Fate.TheVariants.{Open, Answered, Failed, Cancelled, Lost}
 use Rattle.tower_pool.specs.declared.buffer.message.Message.{Message}
 use Rattle.tower_pool.proofs.Fates.{some_is}
-use Rattle.tower_limit.proofs.KeysLemmas.{has_first, has_without_other, has_without_same, not_both}
+use Rattle.tower_latch.proofs.KeysLemmas.{has_first, has_without_other, has_without_same, not_both}
 use Rattle.tower_pool.proofs.Messages.{Sorted, empty_queue, here_is, not_here, sorted_left}
 
 -- a list that has no key is empty

@@ -1,12 +1,12 @@
 -- What a mailbox serves is the machine's.
 use Rattle.std.proofs.Common.{◌≡◌, ℕ, zero, suc, true, false, if◌then◌else◌, Option, Some, None, is_some, List, [], ◌∷◌, ◌++◌, map, slice_get, slice_index_or, refl, ◌+◌, ap, subst, sym, ◌∙◌, arith}
 use Rattle.slab.specs.Slab.{get}
-use Rattle.tower_base.specs.Latch.{FollowsMachine, StepsAs}
+use Rattle.tower_latch.specs.Latch.{FollowsMachine, StepsAs}
 use Rattle.tower_base.specs.Links.{LinksView}
 use Rattle.tower_base.specs.Order.{has, Apart}
 use Rattle.tower_limit.specs.Line.{Ticket}
 use Rattle.tower_limit.specs.LineCore.{StandsAt}
-use Rattle.tower_limit.specs.Waiters.{outside}
+use Rattle.tower_latch.specs.Waiters.{outside}
 use Rattle.tower_pool.specs.Messages.{is_queued}
 use Rattle.tower_pool.specs.Mail.{At, Entry, SentMessage, Mail, MailSteps}
 use Rattle.tower_pool.specs.MessageSteps.{Follows as MessagesFollow, Holds, KeepsRest, kept, known, queue, queued}
@@ -18,12 +18,12 @@ use Rattle.tower_pool.specs.declared.buffer.mail.MailReply.{MailReply}
 use Rattle.tower_pool.specs.declared.buffer.mailbox.Mailbox.{Mailbox}
 use Rattle.tower_pool.specs.declared.buffer.messages.Messages.{Messages}
 use Rattle.tower_pool.proofs.Fates.{queued_some, some_is}
-use Rattle.tower_limit.proofs.KeysLemmas.{apart_cross, apart_is, at_has, has_at, has_first, not_both, or_right}
+use Rattle.tower_latch.proofs.KeysLemmas.{apart_cross, apart_is, at_has, has_at, has_first, not_both, or_right}
 use Rattle.tower_limit.proofs.LineMoves.{stands_as}
 use Rattle.tower_limit.proofs.Lines.{some_line}
-use Rattle.tower_limit.proofs.WaitQueues.{some_queue}
+use Rattle.tower_latch.proofs.WaitQueues.{some_queue}
 use Rattle.tower_pool.proofs.Messages.{Sorted, here_is, not_here, sorted_of}
-use Rattle.tower_limit.proofs.Waiters.{outside_waits}
+use Rattle.tower_latch.proofs.Waiters.{outside_waits}
 
 -- a key stands at one place
 same_place : (keys : List ℕ) (i j key : ℕ) → Apart keys → slice_get keys i ≡ Some key → slice_get keys j ≡ Some key → i ≡ j

@@ -1,6 +1,6 @@
 -- The laws of mail.
 use Rattle.std.proofs.Common.{◌≡◌, inl, inr, ℕ, zero, suc, ◌<◌, true, false, unwrap_or, Option, Some, None, List, [], ◌∷◌, ◌++◌, slice_set, refl, sym, ap, subst, ◌∙◌, arith}
-use Rattle.tower_base.specs.Latch.{Serves}
+use Rattle.tower_latch.specs.Latch.{Serves}
 use Rattle.tower_pool.specs.Mail.{At, Clears, Entry, SentMessage, Mail, MailSteps, Settles, abandoned, left_by}
 use Rattle.tower_pool.specs.MailLaws.{Grow, Lasts}
 use Rattle.tower_pool.specs.declared.buffer.message.Fate.{Fate}

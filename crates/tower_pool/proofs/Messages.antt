@@ -7,13 +7,13 @@ use Rattle.tower_base.specs.Order.{has, without}
 use Rattle.tower_pool.specs.Messages.{Fits, is_queued}
 use Rattle.tower_pool.specs.Mail.{At, Entry, SentMessage, NoneQueued, NoneWith, OldestAt}
 use Rattle.tower_pool.specs.MessageSteps.{Holds, known, kept, queue}
-use Rattle.tower_limit.specs.Waiters.{are_apart}
+use Rattle.tower_latch.specs.Waiters.{are_apart}
 use Rattle.tower_pool.specs.declared.buffer.message.Fate.{Fate}
 use Rattle.tower_pool.specs.declared.buffer.message.Fate.TheVariants.{Open}
 use Rattle.tower_pool.specs.declared.buffer.message.Message.{Message}
 use Rattle.tower_pool.specs.declared.buffer.messages.Messages.{Messages}
 use Rattle.tower_pool.proofs.Fates.{not_none, not_some, some_is}
-use Rattle.tower_limit.proofs.KeysLemmas.{apart_is, apart_push, apart_without, has_append, has_without_other, has_without_same, is_apart}
+use Rattle.tower_latch.proofs.KeysLemmas.{apart_is, apart_push, apart_without, has_append, has_without_other, has_without_same, is_apart}
 
 module _ {X : Type 0} where
   -- ---- places of a list

@@ -6,13 +6,13 @@ use Rattle.tower_base.specs.Order.{has, without, first_or, Apart}
 use Rattle.tower_pool.specs.Messages.{FailsTaken, Fits, is_queued, taken_at}
 use Rattle.tower_pool.specs.Mail.{At, Clears, Entry, IsTaken, SentMessage, Mail, NoneQueued, NoneWith, OldestAt, Settles, is_over}
 use Rattle.tower_pool.specs.MessageSteps.{Holds, kept, known, queue}
-use Rattle.tower_limit.specs.Waiters.{are_apart}
+use Rattle.tower_latch.specs.Waiters.{are_apart}
 use Rattle.tower_pool.specs.declared.buffer.message.Fate.{Fate}
 use Rattle.tower_pool.specs.declared.buffer.message.Fate.TheVariants.{Failed, Cancelled}
 use Rattle.tower_pool.specs.declared.buffer.message.Message.{Message}
 use Rattle.tower_pool.proofs.Fates.{by_none, some_is}
-use Rattle.tower_limit.proofs.KeysLemmas.{apart_is, has_first, length_without, without_first, without_lacks}
-use Rattle.tower_limit.proofs.WaitQueues.{first_is}
+use Rattle.tower_latch.proofs.KeysLemmas.{apart_is, has_first, length_without, without_first, without_lacks}
+use Rattle.tower_latch.proofs.WaitQueues.{first_is}
 use Rattle.tower_pool.proofs.Messages.{FitsIf, Sorted, first_queued, holds_changed, holds_gone, none_with, queue_first, queue_gone, queue_same, sorted_as, sorted_changed, sorted_left}
 
 module _ {Q F : Type 0} where

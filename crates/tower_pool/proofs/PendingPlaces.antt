@@ -11,7 +11,7 @@ use Rattle.std.specs.Result.{is_ok}
 use Rattle.slab.specs.Slab.{HasRoomFor, Updates, get, slab_len}
 use Rattle.tower_base.specs.Links.{LinksView}
 use Rattle.tower_base.specs.Order.{Apart as NoneTwice, first_or, has, without}
-use Rattle.tower_limit.proofs.KeysLemmas.{apart_push, has_append, has_first, or_right, without_first}
+use Rattle.tower_latch.proofs.KeysLemmas.{apart_push, has_append, has_first, or_right, without_first}
 use Rattle.tower_pool.specs.ReadyCache.{Apart, PendingView, awaited, cancel, waits, waiting}
 use Rattle.tower_pool.specs.Pending.{Placed, Stands, entry_of, item_at, items_of, last_of, marked, names, names_one, room_of, seen, stored}
 use Rattle.tower_pool.proofs.PendingLemmas.{alike, left_false, right_false}

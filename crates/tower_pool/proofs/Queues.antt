@@ -1,8 +1,8 @@
 -- Messages are taken in the order of sending.
 use Rattle.std.proofs.Common.{◌≡◌, inl, inr, ℕ, zero, suc, true, false, Option, Some, None, List, [], ◌∷◌, ◌++◌, take, unwrap_or, slice_set, refl, sym, ap, subst, ◌∙◌, arith}
 use Rattle.std.proofs.lemmas.List.{append_assoc, append-nil}
-use Rattle.tower_base.specs.Latch.{Serves}
-use Rattle.tower_base.specs.HistoryLemmas.{plain_run, serves_first}
+use Rattle.tower_latch.specs.Latch.{Serves}
+use Rattle.tower_latch.specs.HistoryLemmas.{plain_run, serves_first}
 use Rattle.tower_pool.specs.Mail.{At, Clears, Entry, SentMessage, Mail, MailSteps, OldestAt, Settles, abandoned, blank, left_by}
 use Rattle.tower_pool.specs.MailHistory.{TakenAsSent, Within, sent, sent_by, taken, taken_by}
 use Rattle.tower_pool.specs.Mailbox.{Opens, StandsFor}

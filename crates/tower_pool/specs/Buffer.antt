@@ -20,7 +20,7 @@ pub record BufferView (L : Type 0) : Type 0 where
   pub seat : Seat
   pub share : Option L
 
--- the step that asks for a place
+-- the step that requests a place
 abbrev pub step_of : {Q F E : Type 0} → Seat → MailStep Q F E
 step_of (Asking key) = Look key
 step_of _ = Reserve
@@ -30,7 +30,7 @@ abbrev pub failed : {E : Type 0} → E → Error E
 failed e = HasFailed (record { error = e })
 
 module _ {L Q F E : Type 0} (gave : L → MailStep Q F E → MailReply Q F E → Type 0) (shares : L → Result L AllocError → Type 0) where
-  -- what the asker answers after the reply, and where it sits then
+  -- what a poll of readiness returns after the reply, and the seat that it leaves
   abbrev pub Replies : Seat → MailReply Q F E → Poll (Result (Unit {0}) (Error E)) → Seat → Type 0
   Replies old Place answer new = (answer ≡ Ready (Ok tt)) × (new ≡ Reserved)
   Replies old (Waiting key) answer new = (answer ≡ Pending) × (new ≡ Asking key)
@@ -40,11 +40,11 @@ module _ {L Q F E : Type 0} (gave : L → MailStep Q F E → MailReply Q F E →
   Replies old Unknown answer new = (answer ≡ Pending) × (new ≡ old)
   Replies old _ answer new = ⊥
 
-  -- the response's share is refused, and that is all
+  -- The response's share is refused, and nothing changes.
   abbrev pub Refused : BufferView L → Poll (Result (Unit {0}) (Error E)) → BufferView L → Type 0
   Refused old answer new = (error : AllocError) × (old.share ≡ None) × shares old.latch (Err error) × (answer ≡ Ready (Err NoMemory)) × (new ≡ old)
 
-  -- the response's share is there or is made, and one step asks for a place
+  -- The response's share is there or is created, and one step requests a place.
   pub record Asked (old : BufferView L) (answer : Poll (Result (Unit {0}) (Error E))) (new : BufferView L) : Type 0 where
     pub share : L
     pub has : (old.share ≡ Some share) ⊎ ((old.share ≡ None) × shares old.latch (Ok share))
@@ -58,11 +58,11 @@ module _ {L Q F E : Type 0} (gave : L → MailStep Q F E → MailReply Q F E →
   PolledAt Reserved old answer new = (answer ≡ Ready (Ok tt)) × (new ≡ old)
   PolledAt _ old answer new = Refused old answer new ⊎ Asked old answer new
 
-  -- a poll of readiness: with a place it is `Ok` without a step
+  -- a poll of readiness: if a place is reserved, it returns `Ok` without a step
   abbrev pub Polled : BufferView L → Poll (Result (Unit {0}) (Error E)) → BufferView L → Type 0
   Polled old answer new = PolledAt old.seat old answer new
 
-  -- what a call gives after the reply: a message that was sent takes the share along
+  -- what a call returns after the reply: a message that was sent takes the share along
   abbrev pub Sends : BufferView L → L → MailReply Q F E → ResponseState L F (Error E) → BufferView L → Type 0
   Sends old share (Sent id) future new = (future ≡ IsSent share id) × (new ≡ record { latch = old.latch; seat = Away; share = None })
   Sends old share (Failed e) future new = (future ≡ Told (Some (failed e))) × (new ≡ record old { seat = Away })
@@ -80,7 +80,7 @@ module _ {L Q F E : Type 0} (gave : L → MailStep Q F E → MailReply Q F E →
     pub gave_reply : gave old.latch (Send request) reply
     pub sends : Sends old share reply future new
 
--- the inner future's answer, whose error is `Inner`
+-- the inner future's result, whose error becomes `Inner`
 abbrev pub outward : {A E : Type 0} → Poll (Result A E) → Poll (Result A (Error E))
 outward (Ready (Ok x)) = Ready (Ok x)
 outward (Ready (Err e)) = Ready (Err (Inner e))
@@ -91,7 +91,7 @@ abbrev pub Carries : {F E A : Type 0} → (F → Poll (Result A E) → F → Typ
 Carries {E = E} {A = A} stepped old answer new = (inner : Poll (Result A E)) × stepped old inner new × (answer ≡ outward inner)
 
 module _ {L Q F E A : Type 0} (gave : L → MailStep Q F E → MailReply Q F E → Type 0) (stepped : F → Poll (Result A E) → F → Type 0) where
-  -- what a response answers after the reply to its question, and its stage then; a future that came is polled at once
+  -- what a poll of the response returns after the reply to `Outcome`, and the state that it leaves; a future that came is polled at once
   abbrev pub Tells : L → ℕ → MailReply Q F E → Poll (Result A (Error E)) → ResponseState L F (Error E) → Type 0
   Tells latch id (Waiting again) answer new = (answer ≡ Pending) × (new ≡ IsSent latch id)
   Tells latch id Unknown answer new = (answer ≡ Pending) × (new ≡ IsSent latch id)
@@ -101,14 +101,14 @@ module _ {L Q F E A : Type 0} (gave : L → MailStep Q F E → MailReply Q F E �
   Tells latch id Memory answer new = (answer ≡ Ready (Err NoMemory)) × (new ≡ IsSent latch id)
   Tells latch id _ answer new = ⊥
 
-  -- a poll of the response: what was told at the call; one step that asks for the outcome; or one poll of the inner future
+  -- a poll of the response: it returns the error of the call, or requests the outcome by one step, or polls the inner future once
   abbrev pub Stepped : ResponseState L F (Error E) → Poll (Result A (Error E)) → ResponseState L F (Error E) → Type 0
   Stepped (Told (Some error)) answer new = (answer ≡ Ready (Err error)) × (new ≡ Told None)
   Stepped (Told None) answer new = ⊥
   Stepped (IsSent latch id) answer new = (reply : MailReply Q F E) × gave latch (Outcome id) reply × Tells latch id reply answer new
   Stepped (Polls future) answer new = (left : F) × Carries stepped future answer left × (new ≡ Polls left)
 
--- a response may be polled: it has something to tell, or asks, or its inner future may be polled
+-- whether a response may be polled: it has an error to return, or waits for its outcome, or its inner future may be polled
 abbrev pub CanPoll : {L F E : Type 0} → (F → Type 0) → ResponseState L F (Error E) → Type 0
 CanPoll can_poll (Told (Some error)) = Unit {0}
 CanPoll can_poll (Told None) = ⊥
@@ -120,24 +120,24 @@ abbrev pub Needs : {L F E : Type 0} → (F → ℕ → Type 0) → ResponseState
 Needs needs (Polls future) = needs future
 Needs needs _ = λ source. ⊥
 
--- one that goes away gives up its wait or its place, by one step
+-- A `Buffer` that is dropped cancels its wait or gives its place back, by one step.
 abbrev pub GivesUp : {L Q F E : Type 0} → (L → MailStep Q F E → MailReply Q F E → Type 0) → L → Seat → Type 0
 GivesUp gave latch Away = Unit {0}
 GivesUp {Q = Q} {F = F} {E = E} gave latch (Asking key) = (reply : MailReply Q F E) × gave latch (Cancel key) reply
 GivesUp {Q = Q} {F = F} {E = E} gave latch Reserved = (reply : MailReply Q F E) × gave latch Unreserve reply
 
--- a response that goes away before its outcome came makes the mail forget its message, by one step
+-- If a response is dropped before its outcome came, the mail forgets its message, by one step.
 abbrev pub Forgets : {L Q F E X : Type 0} → (L → MailStep Q F E → MailReply Q F E → Type 0) → ResponseState L X (Error E) → Type 0
 Forgets {Q = Q} {F = F} {E = E} gave (IsSent latch id) = (reply : MailReply Q F E) × gave latch (Forget id) reply
 Forgets gave _ = Unit {0}
 
--- a clone: over a share that its latch made, of one `Buffer` more, without a place, a wait or a kept share
+-- a clone: over a share that its latch created, with one `Buffer` more counted, and without a place, a wait or a kept share
 pub record IsClone {L Q F E : Type 0} (gave : L → MailStep Q F E → MailReply Q F E → Type 0) (shares : L → Result L AllocError → Type 0) (old copy : BufferView L) : Type 0 where
   pub shared : shares old.latch (Ok copy.latch)
   pub latch : (step : MailStep Q F E) (reply : MailReply Q F E) → gave copy.latch step reply → gave old.latch step reply
   pub joined : gave old.latch Join Done
   pub away : copy ≡ record { latch = copy.latch; seat = Away; share = None }
 
--- a clone that is refused: its latch refuses the share; or the mail, which stays as it was, can't count another `Buffer`
+-- a clone that fails: the latch refuses the share; or the mail, which is unchanged, can't count another `Buffer`
 abbrev pub CloneRefused : {L Q F E : Type 0} → (L → MailStep Q F E → MailReply Q F E → Type 0) → (L → Result L AllocError → Type 0) → BufferView L → AllocError → Type 0
 CloneRefused {L = L} gave shares old error = shares old.latch (Err error) ⊎ ((share : L) × shares old.latch (Ok share) × gave old.latch Join Memory)

@@ -1,4 +1,4 @@
--- After a poll that answers `Ok` a place is reserved.
+-- After a poll that returns `Ok` a place is reserved.
 use Rattle.std.specs.Prelude.{◌≡◌, Result, Ok}
 use Rattle.std.specs.declared.alloc.AllocError.{AllocError}
 use Rattle.std.proofs.Common.{ap, ◌∙◌, inl, inr}

@@ -1,7 +1,7 @@
 -- What holds of the history of mail that threads shared.
 use Rattle.std.specs.Prelude.{◌≡◌, ◌⊎◌, ℕ, List, [], ◌∷◌, ◌++◌, take, Option, Some}
-use Rattle.tower_base.specs.Latch.{StepsAs}
-use Rattle.tower_base.specs.History.{IsLegal}
+use Rattle.tower_latch.specs.Latch.{StepsAs}
+use Rattle.tower_latch.specs.History.{IsLegal}
 use Rattle.tower_pool.specs.Mail.{MailSteps, blank}
 use Rattle.tower_pool.specs.Mailbox.{Opens, StandsFor}
 use Rattle.tower_pool.specs.declared.buffer.mail.MailStep.{MailStep}
@@ -10,7 +10,7 @@ use Rattle.tower_pool.specs.declared.buffer.mail.MailReply.{MailReply}
 use Rattle.tower_pool.specs.declared.buffer.mail.MailReply.TheVariants.{Sent, Message}
 use Rattle.tower_pool.specs.declared.buffer.mailbox.Mailbox.{Mailbox}
 
--- the first list is the second with some left out
+-- The first list is the second one with some elements left out.
 abbrev pub Within : {X : Type 0} → List X → List X → Type 0
 Within [] all = Unit {0}
 Within (x ∷ part) [] = ⊥
@@ -34,8 +34,8 @@ module _ {Q F E : Type 0} where
   taken [] = []
   taken (step ∷ steps) = taken_by step.0 step.1 ++ taken steps
 
--- Where the log opened with blank mail, the messages that were taken are some of those that were sent, in the order of
--- sending and each at most once: in each beginning of the history.
+-- If the log opened with blank mail, the messages that were taken are some of those that were sent, in the order of sending and each at most once,
+-- in each prefix of the history.
 abbrev pub TakenAsSent : (Q F E : Type 0) → Type 0
 TakenAsSent Q F E =
     (bound : ℕ) (box : Mailbox Q F E) (opening : Option (Mailbox Q F E)) (history : List (MailStep Q F E × MailReply Q F E)) → StandsFor box (blank bound)

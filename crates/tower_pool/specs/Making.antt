@@ -1,4 +1,4 @@
--- What makes a `Buffer` and its worker.
+-- How a `Buffer` and its worker are created.
 use Rattle.std.specs.Prelude.{◌≡◌, ◌⊎◌, ℕ, None, false, Result, Ok, Err}
 use Rattle.std.specs.declared.alloc.AllocError.{AllocError}
 use Rattle.tower_pool.specs.Buffer.{BufferView}
@@ -7,11 +7,11 @@ use Rattle.tower_pool.specs.declared.buffer.error.Error.{Error}
 use Rattle.tower_pool.specs.declared.buffer.error.Error.TheVariants.{Memory as NoMemory, NotSpawned}
 use Rattle.tower_pool.specs.declared.buffer.seat.Seat.TheVariants.{Away}
 
--- a `Buffer` that has asked for nothing
+-- A `Buffer` that has no place and waits for none. It keeps no share of the latch for a response either.
 abbrev pub away : {L : Type 0} → L → BufferView L
 away latch = record { latch = latch; seat = Away; share = None }
 
--- a worker that has taken nothing
+-- a worker that has taken no message
 abbrev pub idle : {L S Q : Type 0} → L → S → WorkerView L S Q
 idle latch service = record { latch = latch; service = service; message = None; has_failed = false }
 
@@ -21,28 +21,28 @@ pub record Paired {L S Q : Type 0} (shares : L → Result L AllocError → Type 
   pub work : worker ≡ idle worker.latch service
   pub shared : shares buffer.latch (Ok worker.latch)
 
--- over this latch
+-- such a pair over this latch
 pub record PairedOver {L S Q : Type 0} (shares : L → Result L AllocError → Type 0) (latch : L) (service : S) (buffer : BufferView L) (worker : WorkerView L S Q) : Type 0 where
   pub first : buffer.latch ≡ latch
   pub pair : Paired shares service buffer worker
 
--- the executor takes the task, and the other value is the answer; or it gives the task back
+-- The executor takes the task, and the other value is returned. Or it gives the task back.
 abbrev pub HandsOver : {X T B E : Type 0} → (X → T → Result (Unit {0}) T → Type 0) → X → T → B → Result B (Error E) → Type 0
 HandsOver spawned executor task other (Ok kept) = (kept ≡ other) × spawned executor task (Ok tt)
 HandsOver {T = T} spawned executor task other (Err NotSpawned) = (back : T) × spawned executor task (Err back)
 HandsOver spawned executor task other (Err _) = ⊥
 
--- the executor takes the task or gives it back
+-- The executor takes the task or gives it back.
 abbrev pub Tries : {X T : Type 0} → (X → T → Result (Unit {0}) T → Type 0) → X → T → Type 0
 Tries {T = T} spawned executor task = (answer : Result (Unit {0}) T) × spawned executor task answer
 
 module _ {L S Q X : Type 0} (shares : L → Result L AllocError → Type 0) (spawned : X → WorkerView L S Q → Result (Unit {0}) (WorkerView L S Q) → Type 0) where
-  -- of a pair the executor takes the worker, and the answer is its `Buffer`; or it gives the worker back; or there is no memory
+  -- The executor takes the worker of a pair, and its `Buffer` is returned. Or the executor gives the worker back. Or allocation fails.
   abbrev pub Begins : {E : Type 0} → X → S → Result (BufferView L) (Error E) → Type 0
   Begins executor service answer = (answer ≡ Err NoMemory)
       ⊎ ((buffer : BufferView L) × (worker : WorkerView L S Q) × Paired shares service buffer worker × HandsOver spawned executor worker buffer answer)
 
-  -- a `Buffer` of a pair, whose worker the executor took, or gave back
+  -- What a `BufferLayer` returns: the `Buffer` of a pair, whose worker the executor took, or gave back.
   abbrev pub Wraps : X → S → BufferView L → Type 0
   Wraps executor service buffer = (worker : WorkerView L S Q) × Paired shares service buffer worker × Tries spawned executor worker
 
@@ -51,7 +51,7 @@ pub record BufferLayerView (X : Type 0) : Type 0 where
   pub bound : ℕ
   pub executor : X
 
--- a clone hands its workers to a clone of the executor
+-- A clone passes its workers to a clone of the executor.
 pub record ClonesLayer {X : Type 0} (is_clone : X → X → Type 0) (old copy : BufferLayerView X) : Type 0 where
   pub same : copy.bound ≡ old.bound
   pub cloned : is_clone old.executor copy.executor

@@ -16,19 +16,19 @@ module _ {F : Type 0} where
   is_cancelled Cancelled = true
   is_cancelled _ = false
 
-  -- it has no outcome, or nobody waits for one
+  -- whether it has no outcome, or nobody waits for one
   abbrev pub is_unsettled : Fate F → Bool
   is_unsettled Open = true
   is_unsettled Cancelled = true
   is_unsettled _ = false
 
-  -- it was answered, or the worker went away
+  -- It was answered, or the worker went away.
   abbrev pub Ended : Fate F → Type 0
   Ended (Answered future) = Unit {0}
   Ended Lost = Unit {0}
   Ended _ = ⊥
 
-  -- without its future
+  -- the fate without its future
   abbrev pub bare : Fate F → Fate (Unit {0})
   bare Open = Open
   bare (Answered future) = Answered tt
@@ -37,7 +37,7 @@ module _ {F : Type 0} where
   bare Lost = Lost
 
 module _ {Q F : Type 0} where
-  -- if the worker holds it unsettled: whether someone still waits
+  -- whether someone still waits, if the worker holds it unsettled
   abbrev pub taken_by : Option Q → Fate F → Option Bool
   taken_by None Open = Some true
   taken_by None Cancelled = Some false
@@ -55,7 +55,7 @@ module _ {Q F : Type 0} where
   is_queued None = false
   is_queued (Some message) = is_some message.request
 
-  -- if the worker is gone, a message without an outcome is lost, and one that nobody waits for is gone
+  -- what is left when the worker is gone: a message without an outcome is lost, and one that nobody waits for is gone
   abbrev pub lost_by : Message Q F → Fate F → Option (Message Q F)
   lost_by message Open = Some (record { request = None; fate = Lost })
   lost_by message Cancelled = None
@@ -65,11 +65,11 @@ module _ {Q F : Type 0} where
   lost None = None
   lost (Some message) = lost_by message message.fate
 
-  -- It has failed only if an error is stored, and is queued only without an outcome.
+  -- A message has failed only if an error is stored, and is queued only without an outcome.
   abbrev pub Fits : {E : Type 0} → Option E → Message Q F → Type 0
   Fits stored message = (is_failed message.fate ≡ true → is_some stored ≡ true) × (is_unsettled message.fate ≡ false → message.request ≡ None)
 
-  -- a taken message without an outcome has failed, and one that nobody waits for is gone
+  -- A taken message without an outcome has failed now, and one that nobody waits for is gone.
   pub record FailsTaken (old : LinksView (Message Q F)) (id : ℕ) (new : LinksView (Message Q F)) : Type 0 where
     pub message : Message Q F
     pub was : get old.entries id ≡ Some message

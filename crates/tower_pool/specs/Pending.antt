@@ -1,5 +1,5 @@
--- The pending endpoints of a `ReadyCache`: a slab whose entries stand in the order of waiting, a last one that may stand beside it, and a place
--- for each key.
+-- The pending endpoints of a `ReadyCache`: a slab whose entries are in the order of waiting, a last endpoint that may be stored beside it, and a
+-- place for each key.
 use Rattle.std.specs.Prelude.{min, ℕ, ◌≡◌, ◌+◌, ◌<◌, Bool, true, false, not, ◌||◌, eqb, List, [], ◌∷◌, Option, Some, None, is_some, length, IfSome, IsSomeAnd}
 use Rattle.std.specs.Map.{lookup}
 use Rattle.slab.specs.Slab.{get, slab_len}
@@ -7,15 +7,15 @@ use Rattle.tower_base.specs.Links.{LinksView}
 use Rattle.tower_base.specs.Order.{Apart, has}
 use Rattle.tower_pool.specs.ReadyCache.{CacheInvariant, PendingView, ReadyCacheView}
 
--- what contracts see: the pending endpoints, longest waiting first, the keys' places, how many endpoints there is room for, and how many entries
--- of the slab were reached so far
+-- What contracts see: the pending endpoints, longest waiting first, the keys' places, how many endpoints there is room for, and how many entries of
+-- the slab were reached so far.
 pub record PendingListView (K S : Type 0) : Type 0 where
   pub items : List (PendingView K S)
   pub places : List (K × Option ℕ)
   pub room : ℕ
   pub touches : ℕ
 
--- the key has a place
+-- whether the key has a place
 abbrev pub knows : {K S : Type 0} → (K → K → Bool) → PendingListView K S → K → Bool
 knows eq v k = is_some (lookup (eq k) v.places)
 
@@ -27,7 +27,7 @@ entry_of e = record { key = e.0; service = e.1; cancelled = e.2 }
 abbrev pub cache_of : {K S : Type 0} → List (K × S) → PendingListView K S → ReadyCacheView K S
 cache_of ready v = record { ready = ready; pending = v.items }
 
--- they keep what each cache keeps
+-- The invariant of a cache holds for them.
 abbrev pub Holds : {K S : Type 0} → (K → K → Bool) → (K → K → Type 0) → List (K × S) → PendingListView K S → Type 0
 Holds eq is_clone ready v = CacheInvariant eq is_clone ready v.items (knows eq v) v.room
 
@@ -35,13 +35,13 @@ Holds eq is_clone ready v = CacheInvariant eq is_clone ready v.items (knows eq v
 abbrev pub room_of : ℕ → ℕ
 room_of capacity = min (capacity + 1) 18446744073709551615
 
--- a key's place names this entry
+-- whether a key's place names this entry
 abbrev pub names : ℕ → Option (Option ℕ) → Bool
 names i None = false
 names i (Some None) = false
 names i (Some (Some at)) = eqb at i
 
--- a key's place names an entry
+-- whether a key's place names an entry
 abbrev pub names_one : Option (Option ℕ) → Bool
 names_one None = false
 names_one (Some at) = is_some at
@@ -60,7 +60,7 @@ module _ {K S : Type 0} (place : K → Option (Option ℕ)) where
   items_of entry [] = []
   items_of entry (i ∷ order) = item_at i (entry i) (items_of entry order)
 
--- All entries stand in the order, and a key's place names none or one of a key equal to it.
+-- All entries are in the order. A key's place names no entry, or one of an equal key.
 pub record Placed {K S : Type 0} (eq : K → K → Bool) (place : K → Option (Option ℕ)) (links : LinksView (K × S)) : Type 0 where
   pub apart : Apart links.order
   pub present : (i : ℕ) → has links.order i ≡ true → is_some (get links.entries i) ≡ true
@@ -72,18 +72,18 @@ module _ {K S : Type 0} (eq : K → K → Bool) (es : List (K × Option ℕ)) wh
   abbrev pub stored : LinksView (K × S) → List (PendingView K S)
   stored links = items_of (λ k. lookup (eq k) es) (get links.entries) links.order
 
-  -- The place of one beside the slab names no endpoint, unless that one is cancelled. All of them can be counted.
+  -- The place of the endpoint beside the slab names no entry, unless that endpoint is cancelled. All endpoints can be counted.
   pub record Stands (links : LinksView (K × S)) (last : Option (K × S × Bool)) : Type 0 where
     pub placed : Placed eq (λ k. lookup (eq k) es) links
     pub beside : IfSome last (λ e. e.2 ≡ false → lookup (eq e.0) es ≡ Some None)
     pub small : length links.order + 1 < 18446744073709551616
 
--- one beside the slab, as a list
+-- the endpoint beside the slab, as a list
 abbrev pub last_of : {K S : Type 0} → Option (K × S × Bool) → List (PendingView K S)
 last_of None = []
 last_of (Some e) = entry_of e ∷ []
 
--- it is cancelled where it is the key's
+-- the endpoint, which is cancelled if it is the key's
 abbrev pub marked : {K S : Type 0} → (K → K → Bool) → K → Option (K × S × Bool) → Option (K × S × Bool)
 marked eq k None = None
 marked eq k (Some e) = Some (e.0, e.1, e.2 || eq k e.0)

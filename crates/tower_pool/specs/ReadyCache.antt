@@ -9,7 +9,7 @@ use Rattle.indexmap.specs.IndexMap.{set_value_at}
 use Rattle.tower_base.specs.declared.service.Service.{Ghosts as ServiceOf}
 use Rattle.tower_pool.specs.declared.ready_cache.error.Failed.{Failed}
 
--- a pending endpoint; a cancelled one leaves at the next poll, and isn't asked
+-- A pending endpoint. A cancelled one leaves, without being polled, once a poll of the cache comes to it.
 pub record PendingView (K S : Type 0) : Type 0 where
   pub key : K
   pub service : S
@@ -20,7 +20,8 @@ pub record ReadyCacheView (K S : Type 0) : Type 0 where
   pub ready : List (K × S)
   pub pending : List (PendingView K S)
 
--- what the calls of a `ReadyCache` see: the two lists, and how many entries of the slab of pending ones were reached so far
+-- What contracts see of a `ReadyCache`: the two lists, and `touches`, which counts how often an entry of the pending list was reached so far. It
+-- bounds what a call costs.
 pub record CountedView (K S : Type 0) : Type 0 where
   pub lists : ReadyCacheView K S
   pub touches : ℕ
@@ -30,24 +31,24 @@ abbrev pub waiting : {K S : Type 0} → K → S → PendingView K S
 waiting k s = record { key = k; service = s; cancelled = false }
 
 module _ {K S : Type 0} (eq : K → K → Bool) where
-  -- the entry is the key's, and isn't cancelled
+  -- whether the entry has this key and isn't cancelled
   abbrev pub waits : K → PendingView K S → Bool
   waits k p = not p.cancelled && eq k p.key
 
-  -- some entry is
+  -- whether the list has such an entry
   abbrev pub awaited : K → List (PendingView K S) → Bool
   awaited k ps = list_any (waits k) ps
 
-  -- that entry is marked as cancelled
+  -- the list with that entry cancelled
   abbrev pub cancel : K → List (PendingView K S) → List (PendingView K S)
   cancel k [] = []
   cancel k (p ∷ ps) = if waits k p then (record p { cancelled = true }) ∷ ps else p ∷ cancel k ps
 
-  -- an endpoint that was ready goes last, unless a newer one of its key is pending, where it is dropped
+  -- An endpoint that was ready becomes the last pending one. If a newer one of its key is pending, it is dropped instead.
   abbrev pub put_back : K → S → List (PendingView K S) → List (PendingView K S)
   put_back k s ps = if awaited k ps then ps else ps ++ waiting k s ∷ []
 
-  -- the keys of entries that aren't cancelled are distinct
+  -- The keys of entries that aren't cancelled are distinct.
   abbrev pub Apart : List (PendingView K S) → Type 0
   Apart [] = Unit {0}
   Apart (p ∷ ps) = (p.cancelled ≡ false → awaited p.key ps ≡ false) × Apart ps
@@ -56,33 +57,35 @@ module _ {K S : Type 0} (eq : K → K → Bool) where
   abbrev pub place : K → List (K × S) → Option ℕ
   place k es = position (eq k) (keys_of es)
 
-  -- What each cache keeps: clones of keys equal what was cloned, pending keys are distinct, keys have a place as long as they are ready, or
-  -- pending and not cancelled, and ready endpoints have room to come back.
+  -- What each cache preserves. `clones`: a clone of a key equals it. `apart`: the keys of pending endpoints that aren't cancelled are distinct.
+  -- `known`: the index by key (`knows`) has exactly the keys of ready endpoints and of pending ones that aren't cancelled. `fits`: the pending
+  -- list has room (`room`) for the ready endpoints too, so that each can go back without an allocation.
   pub record CacheInvariant (is_clone : K → K → Type 0) (ready : List (K × S)) (pending : List (PendingView K S)) (knows : K → Bool) (room : ℕ) : Type 0 where
     pub clones : (x y : K) → is_clone x y → y ≡ x
     pub apart : Apart pending
     pub known : (k : K) → knows k ≡ (is_some (lookup (eq k) ready) || awaited k pending)
     pub fits : length ready + length pending ≤ room
 
--- a pending endpoint's service is sound, unless the endpoint is cancelled
+-- A pending endpoint's service is sound, unless the endpoint is cancelled.
 abbrev pub Askable : {K S : Type 0} → (S → Type 0) → PendingView K S → Type 0
 Askable sound p = p.cancelled ≡ false → sound p.service
 
--- Each service that may be asked is sound. Of a cancelled endpoint nothing is known, so it can't be asked once more.
+-- Each service that may be polled is sound. Nothing is known of a cancelled endpoint, so it can't be polled again.
 pub record Sound {K S : Type 0} (sound : S → Type 0) (v : ReadyCacheView K S) : Type 0 where
   pub ready : All (λ e. sound e.1) v.ready
   pub pending : All (Askable sound) v.pending
 
--- what stands at the index, which is there, meets P
+-- There is an element at the index, and P holds of it.
 abbrev pub At : {X : Type 0} → List X → ℕ → (X → Type 0) → Type 0
 At {X} xs i P = (x : X) × (slice_get xs i ≡ Some x) × P x
 
--- the key has a ready endpoint, whose index meets P
+-- The key has a ready endpoint, and P holds of its index.
 abbrev pub AtKey : {K S : Type 0} → (K → K → Bool) → K → List (K × S) → (ℕ → Type 0) → Type 0
 AtKey eq k es P = (i : ℕ) × (place eq k es ≡ Some i) × P i
 
 module _ {K S Q A E G : Type 0} (eq : K → K → Bool) (s : ServiceOf S Q A E G) where
-  -- a checked endpoint that is ready stays, a failed one leaves, and one that isn't ready any more goes back to the pending ones
+  -- What follows a poll of the ready endpoint `e`. If it is ready still, it stays (`Ok true`). If it failed, it leaves, with its key and error.
+  -- If it is pending, it goes back to the pending ones (`Ok false`). The last ready endpoint takes the index of one that leaves (`swap_remove`).
   abbrev pub Settles : ReadyCacheView K S → ℕ → K × S → S → Poll (Result (Unit {0}) E) → Result Bool (Failed K E) → ReadyCacheView K S → Type 0
   Settles old index e left (Ready (Ok u)) answer new = (answer ≡ Ok true) × (new ≡ record old { ready = set_value_at old.ready index left })
   Settles old index e left (Ready (Err x)) answer new =
@@ -90,18 +93,18 @@ module _ {K S Q A E G : Type 0} (eq : K → K → Bool) (s : ServiceOf S Q A E G
   Settles old index e left Pending answer new =
       (answer ≡ Ok false) × (new ≡ record { ready = swap_remove old.ready index e; pending = put_back eq e.0 left old.pending })
 
-  -- a check asks the ready endpoint at the index, once; past the end there is none
+  -- `check_ready_index` polls the ready endpoint at this index once. If there is none, it returns `Ok false` too, and nothing changes.
   abbrev pub Checked : ReadyCacheView K S → ℕ → Result Bool (Failed K E) → ReadyCacheView K S → Type 0
   Checked old index answer new =
       MatchOption (slice_get old.ready index) ((answer ≡ Ok false) × (new ≡ old))
       (λ e. (inner : Poll (Result (Unit {0}) E)) × (left : S) × s.polled e.1 inner left × Settles old index e left inner answer new)
 
-  -- a check of the key's ready endpoint, if there is one
+  -- `check_ready` does so with the key's ready endpoint. If there is none, it returns `Ok false`, and nothing changes.
   abbrev pub CheckedKey : ReadyCacheView K S → K → Result Bool (Failed K E) → ReadyCacheView K S → Type 0
   CheckedKey old k answer new =
       MatchOption (place eq k old.ready) ((answer ≡ Ok false) × (new ≡ old)) (λ index. Checked old index answer new)
 
-  -- a call of the endpoint at the index, which was ready, and then goes back to the pending ones
+  -- A call of the endpoint at the index, which was ready, and then goes back to the pending ones, unless a newer one of its key is pending.
   pub record Called (old : ReadyCacheView K S) (index : ℕ) (request : Q) (future : G) (new : ReadyCacheView K S) : Type 0 where
     pub key : K
     pub service : S

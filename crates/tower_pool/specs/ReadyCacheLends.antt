@@ -1,4 +1,4 @@
--- What a `ReadyCache` ends as, where a `&mut` to one of its ready services is returned.
+-- What a `ReadyCache` ends as, if a `&mut` to one of its ready services was returned.
 use Rattle.std.specs.Prelude.{ℕ, Option}
 use Rattle.std.specs.Borrow.{Fml, RattleType, MutBor, LendsIf}
 use Rattle.std.specs.Option.{option_map_or}
@@ -12,6 +12,6 @@ use Rattle.tower_pool.specs.contracts.ready_cache.cache.ReadyCache.{the_row}
 abbrev pub with_ready_at : {K S : Type 0} → CountedView K S → Option ℕ → S → CountedView K S
 with_ready_at c i w = record c { lists = record c.lists { ready = option_map_or (λ i. set_value_at c.lists.ready i w) i c.lists.ready } }
 
--- c ends with the last value behind r as the ready service at the index; at `None` it stays as it is
+-- c ends with the last value behind r as the ready service at the index. At `None` it is unchanged.
 abbrev pub LendsReady : (K S Q : RattleType) → HashMembers K.Denot → CloneOf K.Denot → MutBor (CountedView K.Denot S.Denot) → Option ℕ → Option (MutBor S.Denot) → Fml
 LendsReady K S Q key clone c i r = LendsIf (the_row K S Q (record { eq = key.eq }) (record { hash_input = key.hash_input }) clone) S c r (with_ready_at c.now i) c.now

@@ -1,4 +1,5 @@
--- What one poll of the pending endpoints does: it asks each one that isn't cancelled, longest waiting first.
+-- What `poll_pending` does: it polls each pending endpoint that isn't cancelled once, longest waiting first. It stops at the
+-- first that fails, or for which allocation fails.
 use Rattle.std.specs.Prelude.{ℕ, zero, suc, ◌≡◌, Bool, true, false, List, [], ◌∷◌, ◌++◌, Result, Ok, Err, ◌⊎◌}
 use Rattle.futures.specs.declared.task.Poll.{Poll}
 use Rattle.futures.specs.declared.task.Poll.TheVariants.{Ready, Pending}
@@ -13,21 +14,22 @@ abbrev pub ByTest : Bool → Type 0 → Type 0 → Type 0
 ByTest true P Q = P
 ByTest false P Q = Q
 
--- one of three, by what an endpoint answered
+-- one of three facts, by whether an endpoint is ready, failed or is pending
 abbrev pub ByAnswer : {E : Type 0} → Poll (Result (Unit {0}) E) → Type 0 → (E → Type 0) → Type 0 → Type 0
 ByAnswer (Ready (Ok u)) P Fails Waits = P
 ByAnswer (Ready (Err e)) P Fails Waits = Fails e
 ByAnswer Pending P Fails Waits = Waits
 
--- a poll that asked all is done where none is left
+-- what a poll returns once it has polled all: `Ok` if none of them is pending still
 abbrev pub Ends : {X E : Type 0} → List X → Poll (Result (Unit {0}) E) → Type 0
 Ends [] answer = answer ≡ Ready (Ok tt)
 Ends (x ∷ xs) answer = answer ≡ Pending
 
 module _ {K S Q A E G : Type 0} (eq : K → K → Bool) (s : ServiceOf S Q A E G) where
-  -- The entries to come, after those that were asked and wait. A cancelled one leaves unasked. Another finds room among the ready ones, or
-  -- the poll stops before it asks; then it is asked once: a ready one goes to the ready ones, a failed one leaves and the poll stops, and one
-  -- that waits stays.
+  -- What a poll does with the entries that it hasn't polled yet (the second list), if those of the first list were polled and are still pending. A
+  -- cancelled entry leaves. For another one, room among the ready ones is allocated; if that fails, the poll stops (`Memory`). Then it is polled
+  -- once. If it is ready, it goes to the end of the ready ones, or takes the index of an older one of its key, whose key stays. If it failed, it
+  -- leaves, and the poll stops. If it is pending, it stays.
   abbrev pub EachAsked : List (PendingView K S) → List (PendingView K S) → List (K × S) → Poll (Result (Unit {0}) (Error K E)) → ReadyCacheView K S → Type 0
   EachAsked asked [] ready answer new = Ends asked answer × (new ≡ record { ready = ready; pending = asked })
   EachAsked asked (p ∷ rest) ready answer new =
@@ -38,11 +40,12 @@ module _ {K S Q A E G : Type 0} (eq : K → K → Bool) (s : ServiceOf S Q A E G
       (λ e. (answer ≡ Ready (Err (Failed p.key e))) × (new ≡ record { ready = ready; pending = asked ++ rest }))
       (EachAsked (asked ++ (record p { service = left }) ∷ []) rest ready answer new)))
 
-  -- a poll of the pending endpoints
+  -- a whole poll: none was polled yet
   abbrev pub PendingPolled : ReadyCacheView K S → Poll (Result (Unit {0}) (Error K E)) → ReadyCacheView K S → Type 0
   PendingPolled old answer new = EachAsked [] old.pending old.ready answer new
 
-  -- the first entry's part of it: `Ok true` where it waits, and is the last now, and `Ok false` where it left
+  -- One entry's part of a poll, as the code's loop makes it: `Ok true` says that the entry is pending still, and is the last now; `Ok false` that
+  -- it left the list, since it was cancelled or is ready.
   abbrev pub Asked : List (K × S) → PendingView K S → List (PendingView K S) → Result Bool (Error K E) → ReadyCacheView K S → Type 0
   Asked ready p rest (Ok false) new =
       ByTest p.cancelled (new ≡ record { ready = ready; pending = rest })
@@ -53,11 +56,12 @@ module _ {K S Q A E G : Type 0} (eq : K → K → Bool) (s : ServiceOf S Q A E G
   Asked ready p rest (Err (Failed k e)) new =
       (p.cancelled ≡ false) × (k ≡ p.key) × ((left : S) × s.polled p.service (Ready (Err e)) left × (new ≡ record { ready = ready; pending = rest }))
 
-  -- that part, where there is an entry
+  -- the first entry's part, if there is an entry
   abbrev pub AskedFirst : ReadyCacheView K S → Result Bool (Error K E) → ReadyCacheView K S → Type 0
   AskedFirst old answer new = (p : PendingView K S) (rest : List (PendingView K S)) → old.pending ≡ p ∷ rest → Asked old.ready p rest answer new
 
--- the list once so many first ones went last, one after another
+-- The list after this many of its first entries went to its end, one after another. A poll that stops early so puts the entries that it hasn't
+-- polled behind those that are pending still.
 abbrev pub rotated : {X : Type 0} → ℕ → List X → List X
 rotated zero xs = xs
 rotated (suc n) [] = rotated n []

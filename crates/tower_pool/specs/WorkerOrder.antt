@@ -1,4 +1,4 @@
--- In which order a worker asks its mail, over all its polls.
+-- The order of a worker's steps at its mail, over all its polls: it settles each message before it takes the next one.
 use Rattle.std.specs.Prelude.{◌≡◌, ℕ, zero, suc, Bool, true, false, Option, None, Some}
 use Rattle.tower_pool.specs.Worker.{WorkerView}
 use Rattle.tower_pool.specs.declared.buffer.mail.MailStep.{MailStep}
@@ -6,7 +6,7 @@ use Rattle.tower_pool.specs.declared.buffer.mail.MailStep.TheVariants.{Take, Liv
 use Rattle.tower_pool.specs.declared.buffer.mail.MailReply.{MailReply}
 use Rattle.tower_pool.specs.declared.buffer.mail.MailReply.TheVariants.{Message, Truth}
 
--- what a worker owes a message that it took: nothing, its outcome, or the stored error
+-- What a worker owes: nothing; an outcome to the message of this id, which it took; or the stored error to that message.
 pub data Debt : Type 0 where
   nothing : Debt
   outcome : ℕ → Debt
@@ -17,12 +17,13 @@ pub record Book : Type 0 where
   pub failed : Bool
   pub debt : Debt
 
--- after a failure the stored error is owed
+-- After a failure the stored error is owed.
 abbrev pub owed : Bool → ℕ → Debt
 owed true id = stored id
 owed false id = outcome id
 
 module _ {Q F E : Type 0} where
+  -- one step, by what is owed
   abbrev pub MovesAt : Debt → Bool → MailStep Q F E → MailReply Q F E → Book → Type 0
   MovesAt nothing failed Take (Message id request) new = new ≡ record { failed = failed; debt = owed failed id }
   MovesAt nothing failed Take reply new = new ≡ record { failed = failed; debt = nothing }
@@ -33,17 +34,19 @@ module _ {Q F E : Type 0} where
   MovesAt (stored id) failed (FailStored other) reply new = (other ≡ id) × (new ≡ record { failed = failed; debt = nothing })
   MovesAt debt failed step reply new = ⊥
 
-  -- One step of the worker at its mail. It takes a message only where it owes nothing; what it took it owes the outcome, or after
-  -- a failure the stored error; and that is owed no more by that step alone, or where `Live` tells that nobody waits.
+  -- One step of a worker at its mail. It takes a message only if it owes nothing. Then it owes that message an outcome, which `Answer` or `Fail`
+  -- gives, or after a failure the stored error, which `FailStored` gives. Nothing else ends a debt but a `Live` that
+  -- doesn't report that somebody waits.
   abbrev pub Moves : Book → MailStep Q F E → MailReply Q F E → Book → Type 0
   Moves old step reply new = MovesAt old.debt old.failed step reply new
 
 module _ {L Q E F : Type 0} (gave : L → MailStep Q F E → MailReply Q F E → Type 0) where
-  -- so many steps, one after another
+  -- this many steps, one after another
   abbrev pub Works : L → ℕ → Book → Book → Type 0
   Works latch zero old new = new ≡ old
   Works latch (suc n) old new = (mid : Book) × Works latch n old mid × ((step : MailStep Q F E) × (reply : MailReply Q F E) × gave latch step reply × Moves mid step reply new)
 
+-- A message that a worker keeps is owed its outcome.
 abbrev pub debt_of : {Q : Type 0} → Option (ℕ × Q) → Debt
 debt_of None = nothing
 debt_of (Some message) = outcome message.0
@@ -51,6 +54,6 @@ debt_of (Some message) = outcome message.0
 abbrev pub book_of : {L S Q : Type 0} → WorkerView L S Q → Book
 book_of worker = record { failed = worker.has_failed; debt = debt_of worker.message }
 
--- some steps in that order lead from one worker to the other
+-- Some steps in that order lead from one worker to the other.
 abbrev pub Orderly : {L S Q E F : Type 0} → (L → MailStep Q F E → MailReply Q F E → Type 0) → WorkerView L S Q → WorkerView L S Q → Type 0
 Orderly gave old new = (new.latch ≡ old.latch) × ((n : ℕ) × Works gave old.latch n (book_of old) (book_of new))

@@ -7,7 +7,7 @@ use Rattle.std.proofs.lemmas.Nat.{div-add-mod', div_below, le-div}
 use Rattle.std.proofs.lemmas.Int.{ints}
 use Rattle.std.proofs.lemmas.Bool.{le-ltb, lt-ltb, ltb-false, ltb-true}
 use Rattle.std.proofs.lemmas.Bool.Decides.{nat_tests, leb_tells}
-use Rattle.tower_base.specs.LatchLemmas.{is_run}
+use Rattle.tower_latch.specs.LatchLemmas.{is_run}
 use Rattle.tower_retry.proofs.BudgetLemmas.{exact, older_sum, other_size, other_sum, size_parts, sum_size, total_parts}
 use Rattle.tower_retry.proofs.SlotLemmas.{back_size, none_keeps, saturates, triangle}
 use Rattle.tower_retry.specs.Budget.{Ledger, added, advanced, generation_at, IsExact, Steps, balance}

@@ -1,8 +1,8 @@
 -- The history of a budget is a run of its machine.
 use Rattle.std.proofs.Common.{◌≡◌, ℕ, List, [], ◌∷◌, take, if◌then◌else◌, Bool, true, false, refl, ap, subst, ◌∙◌}
 use Rattle.std.specs.Prelude.{ℤ, pos, neg_ℤ, int_le}
-use Rattle.tower_base.specs.Latch.{Serves}
-use Rattle.tower_base.specs.HistoryLemmas.{serves_at, plain_run}
+use Rattle.tower_latch.specs.Latch.{Serves}
+use Rattle.tower_latch.specs.HistoryLemmas.{serves_at, plain_run}
 use Rattle.tower_retry.specs.Budget.{Ledger, Steps, added, advanced, balance, blank}
 use Rattle.tower_retry.specs.BudgetCore.{StandsFor, Opens}
 use Rattle.tower_retry.specs.BudgetHistory.{AnsweredBySums}

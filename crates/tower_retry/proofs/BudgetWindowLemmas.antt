@@ -4,7 +4,7 @@ use Rattle.std.specs.Prelude.{pos, neg_ℤ, max, if◌then◌else◌}
 use Rattle.std.proofs.Math.Nat.{add-mul-div_right, div-mul-le_self, max-eq_right, zero-div}
 use Rattle.std.proofs.lemmas.Nat.{le-div}
 use Rattle.std.proofs.lemmas.Bool.Decides.{nat_tests}
-use Rattle.tower_base.specs.Latch.{Serves}
+use Rattle.tower_latch.specs.Latch.{Serves}
 use Rattle.tower_retry.specs.Budget.{Ledger, Steps, added, advanced, blank, counts, generation_at}
 use Rattle.tower_retry.specs.BudgetWindows.{CountsForTenWindows, NeverBack, deposit_at, moment_of}
 use Rattle.tower_retry.specs.declared.retry.budget.steps.Amount.{Amount}

@@ -16,34 +16,34 @@ pub record ExponentialBackoffMakerView (R C : Type 0) : Type 0 where
   pub rng : R
   pub clock : C
 
--- an `ExponentialBackoff`, and how many waits it gave
+-- an `ExponentialBackoff`, and how many waits it returned
 pub record ExponentialBackoffView (R C : Type 0) : Type 0 where
   pub maker : ExponentialBackoffMakerView R C
   pub count : ℕ
 
--- A maker of these parts: the least wait isn't above the greatest, which isn't 0, and the jitter isn't above 100.
+-- A maker of these parts, or an error: the least wait isn't above the greatest, which isn't 0, and the jitter isn't above 100.
 abbrev pub maker_of : {R C : Type 0} → ExponentialBackoffMakerView R C → Result (ExponentialBackoffMakerView R C) InvalidBackoff
 maker_of parts =
     if nat_lt parts.most parts.least then Err MaximumBelowMinimum
     else (if nat_eq parts.most 0 then Err MaximumIsZero
     else (if nat_lt (100 * parts.jitter.divisor) parts.jitter.numerator then Err JitterAbove100 else Ok parts))
 
--- a wait without its jitter: the least one doubled with each earlier wait, 32 times at most, up to the greatest
+-- a wait without its jitter: the least one, doubled for each earlier wait up to a factor of 2 ^ 32 - 1, but at most the greatest
 abbrev pub base_of : {R C : Type 0} → ExponentialBackoffView R C → ℕ
 base_of old = min (old.maker.least * min (2 ^ old.count) (2 ^ 32 - 1)) old.maker.most
 
--- The jitter of a word: its top 53 bits as a part of 2 ^ 53, times the fraction. The wait doesn't pass the greatest.
+-- The jitter from a word: the wait times the word's top 53 bits over 2 ^ 53, times the fraction. With it the wait doesn't exceed the greatest.
 abbrev pub jitter_of : {R C : Type 0} → ExponentialBackoffView R C → ℕ → ℕ
 jitter_of old word = min (base_of old * (word / 2 ^ 11) / 2 ^ 53 * old.maker.jitter.numerator / old.maker.jitter.divisor) (old.maker.most - base_of old)
 
 module _ {R C : Type 0} (r : RngOf R) where
-  -- The jitter of the next wait: of one word, or 0 without a word where the fraction is 0.
+  -- The jitter of the next wait: from one word, or 0 without a word if the fraction is 0.
   abbrev pub Jitters : Bool → ExponentialBackoffView R C → ℕ → ExponentialBackoffView R C → Type 0
   Jitters true old extra new = (extra ≡ 0) × (new.maker.rng ≡ old.maker.rng)
   Jitters false old extra new = (word : ℕ) × r.drew old.maker.rng word new.maker.rng × (extra ≡ jitter_of old word)
 
 module _ {R C : Type 0} (r : RngOf R) (c : ClockOf C) where
-  -- the next wait begins at one reading of a share of the clock
+  -- The next wait begins at one reading of a share of the clock.
   pub record Begins (old : ExponentialBackoffView R C) (sleep : SleepView C) (new : ExponentialBackoffView R C) : Type 0 where
     pub extra : ℕ
     pub share : C
@@ -61,7 +61,7 @@ module _ {R C : Type 0} (is_clone : R → R → Type 0) (c : ClockOf C) where
     pub clock : c.shared old.clock new.clock
     pub same : new ≡ record old { rng = new.rng; clock = new.clock }
 
-  -- a fresh backoff of the maker, which stays as it was
+  -- The result of a maker: a new backoff, or an error. The maker is unchanged.
   abbrev pub Made : ExponentialBackoffMakerView R C → Result (ExponentialBackoffView R C) AllocError → ExponentialBackoffMakerView R C → Type 0
   Made old (Ok backoff) new = IsClone old backoff.maker × (backoff.count ≡ 0) × (new ≡ old)
   Made old (Err refused) new = new ≡ old

@@ -1,7 +1,7 @@
--- What holds of the history of a budget that threads shared.
+-- What holds of the history of a budget that threads share.
 use Rattle.std.specs.Prelude.{◌≡◌, ℕ, Bool, List, take, Option, Some, slice_get, pos, int_le}
-use Rattle.tower_base.specs.Latch.{Serves, StepsAs}
-use Rattle.tower_base.specs.History.{IsLegal}
+use Rattle.tower_latch.specs.Latch.{Serves, StepsAs}
+use Rattle.tower_latch.specs.History.{IsLegal}
 use Rattle.tower_retry.specs.Budget.{Ledger, Steps, IsExact, advanced, balance, blank}
 use Rattle.tower_retry.specs.BudgetCore.{StandsFor, Opens}
 use Rattle.tower_retry.specs.declared.retry.budget.budget_core.BudgetCore.{BudgetCore}
@@ -11,8 +11,8 @@ use Rattle.tower_retry.specs.declared.retry.budget.steps.BudgetReply.{BudgetRepl
 use Rattle.tower_retry.specs.declared.retry.budget.steps.BudgetReply.TheVariants.{Allowed}
 use Rattle.tower_retry.specs.declared.retry.budget.steps.Terms.{Terms}
 
--- Where the log opened with a new budget, the entries before each withdrawal lead to some ledger, and the withdrawal is made exactly if
--- the balance there, which is the reserve and the sum of the amounts that count, reaches its amount.
+-- If the log opened with a new budget, the entries before each withdrawal lead to some ledger, and the withdrawal is made exactly if the balance
+-- there, which is the reserve and the sum of the amounts that count, reaches its amount. (If that sum is exact.)
 abbrev pub AnsweredBySums : Type 0
 AnsweredBySums =
     (terms : Terms) (made : ℕ) (budget : BudgetCore) (opening : Option BudgetCore) (history : List (BudgetStep × BudgetReply))

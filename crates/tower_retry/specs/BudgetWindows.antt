@@ -1,6 +1,6 @@
 -- How long a deposit counts.
 use Rattle.std.specs.Prelude.{◌≡◌, ◌<◌, ◌≤◌, ℕ, ◌+◌, ◌*◌, true, false, List, [], ◌∷◌, ◌++◌, pos}
-use Rattle.tower_base.specs.Latch.{Serves}
+use Rattle.tower_latch.specs.Latch.{Serves}
 use Rattle.tower_retry.specs.Budget.{Ledger, Steps, advanced, blank, counts}
 use Rattle.tower_retry.specs.declared.retry.budget.steps.Amount.{Amount}
 use Rattle.tower_retry.specs.declared.retry.budget.steps.BudgetStep.{BudgetStep}
@@ -13,7 +13,7 @@ abbrev pub moment_of : BudgetStep → ℕ
 moment_of (Deposit moment) = moment
 moment_of (Withdraw moment) = moment
 
--- from this moment over those of the steps to that moment, no reading is earlier than the one before it
+-- From the first moment, over those of the steps, to the last moment no reading is earlier than the one before it.
 abbrev pub NeverBack : ℕ → List (BudgetStep × BudgetReply) → ℕ → Type 0
 NeverBack from [] to = from ≤ to
 NeverBack from (entry ∷ rest) to = from ≤ moment_of entry.0 × NeverBack (moment_of entry.0) rest to
@@ -22,7 +22,7 @@ NeverBack from (entry ∷ rest) to = from ≤ moment_of entry.0 × NeverBack (mo
 abbrev pub deposit_at : Ledger → ℕ → Amount
 deposit_at ledger moment = record { generation = (advanced ledger moment).generation; amount = pos ledger.terms.deposit }
 
--- While readings never go back, a deposit counts at every moment up to ten windows after it, and at none from eleven on.
+-- While readings never go back, a deposit counts at every moment up to ten windows after it, and at none from eleven windows on.
 abbrev pub CountsForTenWindows : Type 0
 CountsForTenWindows =
     (terms : Terms) (made deposited moment : ℕ) (before after : List (BudgetStep × BudgetReply)) (past next now : Ledger) → 0 < terms.window

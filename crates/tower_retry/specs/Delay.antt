@@ -24,14 +24,15 @@ pub record DelayView (P S C : Type 0) : Type 0 where
   pub clock : C
 
 module _ {P S C Q O : Type 0} (p : PolicyOf P Q) (clones : CloneOf S) (c : ClockOf C) where
-  -- A future's first value: the delay is from one reading on, and then a clone gets the request. There is none where the clone was refused, which may be where cloning may fail.
+  -- A future's first value. The delay begins at one reading of the clock, and after it a clone of the service is called with the request. If the
+  -- service couldn't be cloned, which happens only if its clone may fail, nothing is called.
   abbrev pub Begins : DelayView P S C → Q → ℕ → State (SleepView C) S Q O → Type 0
   Begins old request delay (Delaying sleep service kept) = ((clock : C) × c.shared old.clock clock × c.read clock sleep.clock)
       × (sleep.deadline ≡ c.reading sleep.clock + delay) × clones.is_clone old.service service × (kept ≡ request)
   Begins old request delay (InFlight oneshot) = ⊥
   Begins old request delay NoClone = ¬ (clones.is_infallible old.service)
 
-  -- a call: the policy is asked for the delay
+  -- a call: the policy is called for the delay
   pub record Called (old : DelayView P S C) (request : Q) (future : State (SleepView C) S Q O) (new : DelayView P S C) : Type 0 where
     pub delay : ℕ
     pub delayed : p.delayed old.policy request delay new.policy
@@ -47,12 +48,12 @@ module _ {S C Q A E F : Type 0} (s : ServiceOf S Q A E F) (f : F → Poll (Resul
     pub answers : answer ≡ answered Inner inner
     pub after : new ≡ InFlight left
 
-  -- the call begins
+  -- The call begins.
   abbrev pub Begun : State (SleepView C) S Q (Oneshot S Q A E F) → Poll (Result A (Error E)) → State (SleepView C) S Q (Oneshot S Q A E F) → Type 0
   Begun (Delaying sleep service request) answer new = InFlightStepped (NotReady service request) answer new
   Begun old answer new = ⊥
 
-  -- what follows a poll of the delay: after its end the clone is called with the request, in the same poll
+  -- What follows a poll of the delay. Once it is over, the clone is called with the request, in the same poll.
   abbrev pub AfterDelay : Poll (Unit {0}) → SleepView C → S → Q → Poll (Result A (Error E)) → State (SleepView C) S Q (Oneshot S Q A E F) → Type 0
   AfterDelay Pending sleep service request answer new = (answer ≡ Pending) × (new ≡ Delaying sleep service request)
   AfterDelay (Ready x) sleep service request answer new = InFlightStepped (NotReady service request) answer new
@@ -64,18 +65,18 @@ module _ {S C Q A E F : Type 0} (s : ServiceOf S Q A E F) (f : F → Poll (Resul
   Stepped (InFlight oneshot) answer new = InFlightStepped oneshot.state answer new
   Stepped NoClone answer new = (answer ≡ Ready (Err Memory)) × (new ≡ NoClone)
 
--- the delay goes on, and the clone is sound
+-- The delay isn't over, and the clone is sound.
 abbrev pub Waits : {S C Q O : Type 0} → (S → Type 0) → State (SleepView C) S Q O → Type 0
 Waits sound (Delaying sleep service request) = sound service
 Waits sound old = ⊥
 
--- what a future may be polled with: a sound clone, or a call that may be polled
+-- A future may be polled if its clone is sound, or if its call may be polled.
 abbrev pub CanPoll : {S C Q O : Type 0} → (S → Type 0) → (O → Type 0) → State (SleepView C) S Q O → Type 0
 CanPoll sound can_poll (Delaying sleep service request) = sound service
 CanPoll sound can_poll (InFlight oneshot) = can_poll oneshot
 CanPoll sound can_poll NoClone = ⊤
 
--- The sources that a future waits for: those of the call. In the delay a pending poll wakes its own waker, whatever source is meant.
+-- The sources that a future waits for: those of the call. During the delay a pending poll wakes its own waker, whatever the source.
 abbrev pub Needs : {S C Q O : Type 0} → (O → ℕ → Type 0) → State (SleepView C) S Q O → ℕ → Type 0
 Needs needs (Delaying sleep service request) = λ source. ⊤
 Needs needs (InFlight oneshot) = needs oneshot

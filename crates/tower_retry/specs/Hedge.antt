@@ -22,14 +22,14 @@ use Rattle.tower_retry.specs.declared.hedge.select.error.Error.TheVariants.{Firs
 use Rattle.tower_ware.specs.declared.filter.error.Error.{Error as FilterError}
 use Rattle.tower_ware.specs.declared.filter.error.Error.TheVariants.{Inner as Filtered, Rejected, Memory as NoFiltered}
 
--- a `Hedge`: the select of a recorded service, and of a delayed, filtered and recorded one
+-- A `Hedge`: a `Select` of a recorded service and of a delayed, filtered and recorded one.
 abbrev pub RecordedView : Type 0 → Type 0 → Type 0 → Type 0
 RecordedView S L C = LatencyView (RotatingHistogramView L C) S C
 
 abbrev pub HedgeView : Type 0 → Type 0 → Type 0 → Type 0 → Type 0
 HedgeView S P L C = SelectView (SelectPolicyView P L C) (RecordedView S L C) (DelayView (DelayPolicyView L C) (FilterView (RecordedView S L C) P) C)
 
--- the error of the nest of services, as the one of a `Hedge`
+-- the error of the nest of services, as the error of a `Hedge`
 abbrev pub flat : {E : Type 0} → SelectError E (DelayError (FilterError E Infallible)) → Error E
 flat (First e) = Inner e
 flat (Second (Delayed (Filtered e))) = Inner e
@@ -51,7 +51,7 @@ pub record Stepped {A E F : Type 0} (f : StepsOf F (Result A (SelectError E (Del
   pub stepped : f.stepped old inner new
   pub answers : answer ≡ answered flat inner
 
--- a check: the policy is asked whether the request may be made again, which passes then, and else waits
+-- A check: the policy decides whether the request may be made again. If so, it passes; otherwise it waits.
 abbrev pub ChecksTo : {Q N : Type 0} → Q → Bool → CheckState Q N → Type 0
 ChecksTo request allowed (Passed kept) = (allowed ≡ true) × (kept ≡ request)
 ChecksTo request allowed (Waiting never) = allowed ≡ false

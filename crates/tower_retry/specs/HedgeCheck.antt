@@ -6,7 +6,7 @@ use Rattle.futures.specs.declared.task.Poll.TheVariants.{Ready, Pending}
 use Rattle.tower_retry.specs.declared.hedge.check.CheckState.{CheckState}
 use Rattle.tower_retry.specs.declared.hedge.check.CheckState.TheVariants.{Passed, Given, Waiting}
 
--- a poll: the request that passed is given away, and one that may not be made again waits at every poll
+-- A poll. A request that passed is returned. One that may not be made again is pending at every poll.
 abbrev pub CheckStepped : {Q N : Type 0} → CheckState Q N → Poll (Result Q Infallible) → CheckState Q N → Type 0
 CheckStepped (Passed request) answer new = (answer ≡ Ready (Ok request)) × (new ≡ Given)
 CheckStepped (Waiting never) answer (Waiting left) = answer ≡ Pending

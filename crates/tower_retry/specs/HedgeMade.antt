@@ -1,4 +1,4 @@
--- How a `Hedge` is made.
+-- How a `Hedge` is constructed.
 use Rattle.std.specs.Prelude.{◌≡◌, ℕ, List, Result}
 use Rattle.std.specs.declared.alloc.AllocError.{AllocError}
 use Rattle.tower_base.specs.declared.service.Clock.{Ghosts as ClockOf}
@@ -8,8 +8,8 @@ use Rattle.tower_limit.specs.RotatingHistogram.{RotatingHistogramView, IsClone, 
 use Rattle.tower_limit.specs.declared.hedge.rotating_histogram.steps.HistoStep.{HistoStep}
 use Rattle.tower_limit.specs.declared.hedge.rotating_histogram.steps.HistoReply.{HistoReply}
 
--- The first side is a clone of the service, and the second the service itself. Both are recorded, by clones of the one histogram. The
--- second is filtered by a clone of the policy, and delayed by a clone of the histogram. The clocks are shares of the one.
+-- The first side is a clone of the service, and the second the service itself. Both are recorded, by clones of one histogram. The second is
+-- filtered by a clone of the policy, and delayed by a clone of the histogram. All clocks are shares of one clock.
 pub record Made {S P L C : Type 0} (service_clone : S → S → Type 0) (policy_clone : P → P → Type 0) (gave : L → HistoStep → HistoReply → Type 0) (may_share : L → Result L AllocError → Type 0) (c : ClockOf C)
     (histogram : RotatingHistogramView L C) (service : S) (policy : P) (min_data_points : ℕ) (percentile : Fraction) (clock : C) (made : HedgeView S P L C) : Type 0 where
   pub first_rec : IsClone gave may_share c histogram made.a.rec
@@ -27,7 +27,7 @@ pub record Made {S P L C : Type 0} (service_clone : S → S → Type 0) (policy_
   pub select_min : made.policy.min_data_points ≡ min_data_points
 
 module _ {S P L C : Type 0} (service_clone : S → S → Type 0) (policy_clone : P → P → Type 0) (gave : L → HistoStep → HistoReply → Type 0) (may_share : L → Result L AllocError → Type 0) (c : ClockOf C) where
-  -- over a latch: the histogram has the latch and a share of the clock, and got these latencies at first
+  -- A `Hedge` over a given latch. The histogram has the latch and a share of the clock, and begins with these latencies.
   pub record MadeFrom (latencies : List ℕ) (latch : L) (service : S) (policy : P) (min_data_points : ℕ) (percentile : Fraction) (clock : C) (made : HedgeView S P L C) : Type 0 where
     pub empty : RotatingHistogramView L C
     pub has_latch : empty.latch ≡ latch
@@ -36,7 +36,7 @@ module _ {S P L C : Type 0} (service_clone : S → S → Type 0) (policy_clone :
     pub seeded : SeededAll gave c empty latencies histogram
     pub parts : Made service_clone policy_clone gave may_share c histogram service policy min_data_points percentile clock made
 
-  -- with a latch of its own: the clock is read once before
+  -- A `Hedge` with a latch of its own. Before, the clock is read once.
   pub record MadeAt (latencies : List ℕ) (service : S) (policy : P) (min_data_points : ℕ) (percentile : Fraction) (clock : C) (made : HedgeView S P L C) : Type 0 where
     pub latch : L
     pub left : C

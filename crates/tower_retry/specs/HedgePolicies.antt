@@ -27,12 +27,12 @@ module _ {L C Q : Type 0} (gave : L → HistoStep → HistoReply → Type 0) (c 
     pub same : new.percentile ≡ old.percentile
 
 module _ {P L C Q : Type 0} (p : PolicyOf P Q) (gave : L → HistoStep → HistoReply → Type 0) (c : ClockOf C) where
-  -- What follows the policy's word: a copy is the answer where there are enough latencies. Where there is no copy they aren't counted.
+  -- What follows the policy's decision. A copy is returned if there are enough latencies. If there is no copy, they aren't counted.
   abbrev pub AfterCopy : Option Q → ℕ → RotatingHistogramView L C → Option Q → RotatingHistogramView L C → Type 0
   AfterCopy (Some copy) least old answer new = (points : ℕ) × Counted gave c old points new × (answer ≡ (if nat_lt points least then None else Some copy))
   AfterCopy None least old answer new = (answer ≡ None) × (new ≡ old)
 
-  -- the policy is asked for a copy, and then the histogram how many latencies there are
+  -- The policy is called for a copy, and then the histogram for the number of latencies.
   pub record Copied (old : SelectPolicyView P L C) (request : Q) (answer : Option Q) (new : SelectPolicyView P L C) : Type 0 where
     pub copy : Option Q
     pub cloned : p.cloned old.policy request copy

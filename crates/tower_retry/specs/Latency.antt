@@ -13,7 +13,7 @@ pub record LatencyView (R S C : Type 0) : Type 0 where
   pub service : S
   pub clock : C
 
--- its response future: the moment of the call, and the recorder, if there was memory for it
+-- its response future: the moment of the call, and a clone of the recorder, if cloning succeeded
 pub record ResponseFutureView (R F C : Type 0) : Type 0 where
   pub start : ℕ
   pub rec : Option R
@@ -21,12 +21,12 @@ pub record ResponseFutureView (R F C : Type 0) : Type 0 where
   pub clock : C
 
 module _ {R S C Q A E : Type 0} {F : Type 0} (s : ServiceOf S Q A E F) where
-  -- a poll of readiness: one poll of the inner service, whose answer it is
+  -- a poll of readiness: one poll of the inner service, whose answer is returned
   pub record Polled (old : LatencyView R S C) (answer : Poll (Result (Unit {0}) E)) (new : LatencyView R S C) : Type 0 where
     pub polled : s.polled old.service answer new.service
     pub same : new ≡ record old { service = new.service }
 
-  -- a call: one reading of the clock, a clone of the recorder if it is had, and one call of the inner service, which is ready
+  -- a call: one reading of the clock, a clone of the recorder, if cloning succeeds, and one call of the inner service, which is ready
   pub record Called (is_clone : R → R → Type 0) (c : ClockOf C) (old : LatencyView R S C) (request : Q) (future : ResponseFutureView R F C)
       (new : LatencyView R S C) : Type 0 where
     pub read : c.read old.clock new.clock
@@ -38,18 +38,18 @@ module _ {R S C Q A E : Type 0} {F : Type 0} (s : ServiceOf S Q A E F) where
     pub same : new.rec ≡ old.rec
 
 module _ {R F C A E : Type 0} (f : StepsOf F (Result A E)) (r : RecordOf R) (c : ClockOf C) where
-  -- What an `Ok` leaves of a recorder and a clock: one reading, and the time since the start is recorded. Without a recorder nothing is read.
+  -- What follows an `Ok`: the clock is read once, and the time since the start is recorded. Without a recorder the clock isn't read.
   abbrev pub Recorded : ℕ → Option R → C → Option R → C → Type 0
   Recorded start (Some rec) clock (Some left) after = c.read clock after × r.recorded rec (c.reading after - start) left
   Recorded start None clock None after = after ≡ clock
   Recorded start rec clock left after = ⊥
 
-  -- a recorder and a clock after an answer of the inner future
+  -- the recorder and the clock after an answer of the inner future
   abbrev pub RecordsAt : Poll (Result A E) → ℕ → Option R → C → Option R → C → Type 0
   RecordsAt (Ready (Ok x)) start rec clock left after = Recorded start rec clock left after
   RecordsAt answer start rec clock left after = (left ≡ rec) × (after ≡ clock)
 
-  -- a poll of the future: one poll of the inner one, whose answer it is, and a record after `Ok` alone
+  -- a poll of the future: one poll of the inner future, whose answer is returned, and a record only after `Ok`
   pub record Stepped (old : ResponseFutureView R F C) (answer : Poll (Result A E)) (new : ResponseFutureView R F C) : Type 0 where
     pub stepped : f.stepped old.inner answer new.inner
     pub records : RecordsAt answer old.start old.rec old.clock new.rec new.clock

@@ -1,4 +1,4 @@
--- What goes inside of what a `Latency` is asked.
+-- Which polls and calls a `Latency` makes of its inner service.
 use Rattle.std.proofs.Common.{◌≡◌}
 use Rattle.tower_base.specs.ServiceRun.{Relations, relations}
 use Rattle.tower_base.specs.Projection.{Once, Projects}

@@ -18,11 +18,11 @@ pub record RetryView (P S : Type 0) : Type 0 where
   pub policy : P
   pub service : S
 
--- a `ResponseFuture`, or none of its parts where a clone was refused
+-- The parts of a `ResponseFuture`. There are none if a clone was refused at the call.
 abbrev pub ResponseFutureView : (P S Q F W : Type 0) → Type 0
 ResponseFutureView P S Q F W = Option (Attempts P S Q F W)
 
--- P holds, unless there is an answer
+-- P holds, unless there is an output.
 abbrev pub Unanswered : {X : Type 0} → Option (Poll X) → Type 0 → Type 0
 Unanswered None P = P
 Unanswered (Some Pending) P = P
@@ -30,12 +30,13 @@ Unanswered (Some (Ready x)) P = ⊤
 
 -- The cases of a call and of a pass come before the whole, which cites them.
 module _ {P S Q A E F W : Type 0} (p : PolicyOf P Q A E W) where
-  -- What follows the policy's word about a result: it is the answer as the policy left it, or a wait begins in place of the inner future.
+  -- What follows the policy's decision. If it returns no wait, the result, as the policy left it, is the answer. Otherwise the wait takes the
+  -- place of the inner future.
   abbrev pub AfterWord : Attempts P S Q F W → Result A E → Option W → Option (Poll (Result A (Error E))) → Attempts P S Q F W → Type 0
   AfterWord old outcome None answer new = (answer ≡ Some (answered Inner (Ready outcome))) × (new ≡ old)
   AfterWord old outcome (Some wait) answer new = (answer ≡ None) × (new ≡ record old { state = Waiting wait })
 
-  -- What follows a result: it is the answer where no request was kept, and else the policy is asked.
+  -- What follows a result. If no request was kept, it is the answer. Otherwise the policy is called, which may change both.
   abbrev pub AfterResult : Option Q → Attempts P S Q F W → Result A E → Option (Poll (Result A (Error E))) → Attempts P S Q F W → Type 0
   AfterResult None old result answer new = (answer ≡ Some (answered Inner (Ready result))) × (new ≡ old)
   AfterResult (Some request) old result answer new = (word : Option W) × (policy : P) × (changed : Q) × (outcome : Result A E)
@@ -53,7 +54,7 @@ module _ {P S Q A E F W : Type 0} (s : ServiceOf S Q A E F) (p : PolicyOf P Q A 
   AfterWait old Pending answer new = (answer ≡ Some Pending) × (new ≡ old)
   AfterWait old (Ready end) answer new = (answer ≡ None) × (new ≡ record old { state = Retrying })
 
-  -- the request is made again, of a ready service, and the policy is asked for a copy of it before
+  -- The kept request is made again: the policy is called for a copy to be kept, and then the service, which is ready.
   pub record Again (old new : Attempts P S Q F W) : Type 0 where
     pub request : Q
     pub had : old.request ≡ Some request
@@ -63,7 +64,7 @@ module _ {P S Q A E F W : Type 0} (s : ServiceOf S Q A E F) (p : PolicyOf P Q A 
     pub called : s.called old.service request response new.service
     pub state : new.state ≡ InFlight response
 
-  -- What follows a poll of readiness: an error is the answer, for which the policy isn't asked.
+  -- What follows a poll of readiness. An error is the answer, and the policy isn't called for it.
   abbrev pub AfterReadiness : Attempts P S Q F W → Poll (Result (Unit {0}) E) → Option (Poll (Result A (Error E))) → Attempts P S Q F W → Type 0
   AfterReadiness old Pending answer new = (answer ≡ Some Pending) × (new ≡ old)
   AfterReadiness old (Ready (Err error)) answer new = (answer ≡ Some (Ready (Err (Inner error)))) × (new ≡ old)
@@ -71,6 +72,7 @@ module _ {P S Q A E F W : Type 0} (s : ServiceOf S Q A E F) (p : PolicyOf P Q A 
 
 module _ {P S Q A E F W : Type 0} (s : ServiceOf S Q A E F) (stepped : F → Poll (Result A E) → F → Type 0)
     (p : PolicyOf P Q A E W) (waited : W → Poll (Unit {0}) → W → Type 0) where
+  -- one pass, by what is under way: the inner future, the policy's wait, or the service's readiness for another call
   abbrev pub PassAt : State F W → Attempts P S Q F W → Option (Poll (Result A (Error E))) → Attempts P S Q F W → Type 0
   PassAt (InFlight response) old answer new = (inner : Poll (Result A E)) × (left : F) × stepped response inner left
       × AfterResponse p (record old { state = InFlight left }) inner answer new
@@ -83,7 +85,8 @@ module _ {P S Q A E F W : Type 0} (s : ServiceOf S Q A E F) (stepped : F → Pol
   abbrev pub Pass : Attempts P S Q F W → Option (Poll (Result A (Error E))) → Attempts P S Q F W → Type 0
   Pass old answer new = PassAt old.state old answer new
 
-  -- A poll of the future: passes up to an answer, or as many as the limit without one. It is `Memory` where a clone was refused.
+  -- A poll of the future: passes up to an answer, or 64 without one, and then it is pending. If a clone was refused at the call, it returns
+  -- `Memory`.
   abbrev pub Stepped : ResponseFutureView P S Q F W → Poll (Result A (Error E)) → ResponseFutureView P S Q F W → Type 0
   Stepped (Some old) answer new = (left : Attempts P S Q F W) × (new ≡ Some left) × Passes Pass Pending old answer left
   Stepped None answer new = (answer ≡ Ready (Err Memory)) × (new ≡ None)
@@ -96,13 +99,14 @@ module _ {P S Q A E F W : Type 0} (s : ServiceOf S Q A E F) (p : PolicyOf P Q A 
     pub answers : answer ≡ answered Inner inner
     pub same : new ≡ record old { service = new.service }
 
-  -- A future's first value, of the inner future and of clones. There is none where a clone was refused, which may be where cloning may fail.
+  -- The first parts of a future: the inner future, and clones of the policy and of the service. There are none if a clone was refused, which
+  -- happens only if one of the two may fail to clone.
   abbrev pub Begins : CloneOf P → CloneOf S → RetryView P S → Option Q → F → ResponseFutureView P S Q F W → Type 0
   Begins policy_clone service_clone retry kept response (Some first) = policy_clone.is_clone retry.policy first.policy × service_clone.is_clone retry.service first.service
       × (first.request ≡ kept) × (first.state ≡ InFlight response)
   Begins policy_clone service_clone retry kept response None = ¬ (policy_clone.is_infallible retry.policy × service_clone.is_infallible retry.service)
 
-  -- a call: the policy is asked for a copy of the request, and then the inner service, which is ready, is called
+  -- a call: the policy is called for a copy of the request to be kept, and then the inner service, which is ready
   pub record Called (policy_clone : CloneOf P) (service_clone : CloneOf S) (old : RetryView P S) (request : Q)
       (future : ResponseFutureView P S Q F W) (new : RetryView P S) : Type 0 where
     pub kept : Option Q
@@ -112,13 +116,13 @@ module _ {P S Q A E F W : Type 0} (s : ServiceOf S Q A E F) (p : PolicyOf P Q A 
     pub called : s.called old.service request response new.service
     pub begins : Begins policy_clone service_clone new kept response future
 
--- what is under way may be polled, and a request is there to be made again
+-- What is under way may be polled, and during a wait or a retry there is a request to be made again.
 abbrev pub IsUnderWay : {F W Q : Type 0} → (F → Type 0) → (W → Type 0) → Option Q → State F W → Type 0
 IsUnderWay can_step can_wait request (InFlight response) = can_step response
 IsUnderWay can_step can_wait request (Waiting wait) = can_wait wait × IsSome request
 IsUnderWay can_step can_wait request Retrying = IsSome request
 
--- the parts of a future may be used
+-- The policy and the service of a future are sound, and what is under way may be polled.
 pub record Sound {P S Q F W : Type 0} (policy : P → Type 0) (service : S → Type 0) (can_step : F → Type 0) (can_wait : W → Type 0)
     (attempts : Attempts P S Q F W) : Type 0 where
   pub policy_sound : policy attempts.policy

@@ -20,7 +20,7 @@ pub record ResponseFutureView (AF BF : Type 0) : Type 0 where
   pub a_fut : AF
   pub b_fut : Option BF
 
--- The answer to a poll of readiness, from those of both. An error of the first goes before one of the second.
+-- The answer of a poll of readiness, from those of both services. An error of the first takes precedence over one of the second.
 abbrev pub both : {E G : Type 0} → Poll (Result (Unit {0}) E) → Poll (Result (Unit {0}) G) → Poll (Result (Unit {0}) (Error E G))
 both (Ready (Err e)) second = Ready (Err (First e))
 both first (Ready (Err e)) = Ready (Err (Second e))
@@ -38,13 +38,13 @@ module _ {P A B Q T E G F H : Type 0} (a : ServiceOf A Q T E F) (b : ServiceOf B
     pub same : new.policy ≡ old.policy
 
 module _ {P A B Q T E G F H : Type 0} (p : PolicyOf P Q) (a : ServiceOf A Q T E F) (b : ServiceOf B Q T G H) where
-  -- the second call, where the policy copied the request
+  -- the second call, if the policy copied the request
   abbrev pub SecondCalled : B → Option Q → Option H → B → Type 0
   SecondCalled old (Some copy) (Some future) new = b.ready old × b.called old copy future new
   SecondCalled old None None new = new ≡ old
   SecondCalled old copy future new = ⊥
 
-  -- a call: the policy is asked for a copy, then the second service is called with it, and then the first, both of them ready
+  -- a call: the policy is called for a copy, then the second service is called with the copy, if there is one, and then the first; both are ready
   pub record Called (old : SelectView P A B) (request : Q) (future : ResponseFutureView F H) (new : SelectView P A B) : Type 0 where
     pub copy : Option Q
     pub cloned : p.cloned old.policy request copy new.policy
@@ -53,7 +53,7 @@ module _ {P A B Q T E G F H : Type 0} (p : PolicyOf P Q) (a : ServiceOf A Q T E 
     pub called : a.called old.a request future.a_fut new.a
 
 module _ {T E G F H : Type 0} (a : StepsOf F (Result T E)) (b : StepsOf H (Result T G)) where
-  -- the second call where the first is pending: one poll of it, if it was made
+  -- the second call if the first is pending: one poll of it, if it was made
   abbrev pub SecondStepped : Option H → Poll (Result T (Error E G)) → Option H → Type 0
   SecondStepped (Some old) answer (Some new) = (inner : Poll (Result T G)) × b.stepped old inner new × (answer ≡ answered Second inner)
   SecondStepped None answer None = answer ≡ Pending
@@ -64,7 +64,7 @@ module _ {T E G F H : Type 0} (a : StepsOf F (Result T E)) (b : StepsOf H (Resul
   AfterFirst Pending old answer new = SecondStepped old answer new
   AfterFirst first old answer new = (answer ≡ answered First first) × (new ≡ old)
 
-  -- a poll of the future: one poll of the first call, and where that is pending one of the second
+  -- a poll of the future: one poll of the first call and, if that is pending, one of the second
   pub record Stepped (old : ResponseFutureView F H) (answer : Poll (Result T (Error E G))) (new : ResponseFutureView F H) : Type 0 where
     pub first : Poll (Result T E)
     pub stepped : a.stepped old.a_fut first new.a_fut

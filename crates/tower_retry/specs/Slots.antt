@@ -3,12 +3,12 @@ use Rattle.std.specs.Prelude.{◌≡◌, ◌<◌, ◌≤◌, ℕ, zero, suc, ◌
 use Rattle.std.specs.Int.{w128, saturate_signed}
 use Rattle.tower_retry.specs.declared.retry.budget.steps.Amount.{Amount}
 
--- P holds of each amount
+-- P holds of each amount.
 abbrev pub Each : (Amount → Type 0) → List Amount → Type 0
 Each P [] = ⊤
 Each P (amount ∷ rest) = P amount × Each P rest
 
--- the sum of the amounts of so many generations back, and that of their sizes
+-- the sum of the amounts of the generation that is `back` generations before this one, and the sum of their sizes
 abbrev pub sum_back : ℕ → ℕ → List Amount → ℤ
 sum_back generation back [] = pos 0
 sum_back generation back (amount ∷ rest) = (if nat_eq (amount.generation + back) generation then amount.amount else pos 0) +ℤ sum_back generation back rest
@@ -17,11 +17,12 @@ abbrev pub size_back : ℕ → ℕ → List Amount → ℕ
 size_back generation back [] = 0
 size_back generation back (amount ∷ rest) = (if nat_eq (amount.generation + back) generation then nat_abs amount.amount else 0) + size_back generation back rest
 
--- What is kept of the generation that is so many back is the sum of its amounts, where that is exact.
+-- What is kept of the generation that is `back` generations before this one is the sum of its amounts, if that is exact.
 abbrev pub Keeps : ℕ → ℕ → List Amount → ℤ → Type 0
 Keeps generation back amounts kept = size_back generation back amounts < 2 ^ 127 → kept ≡ sum_back generation back amounts
 
--- Where the slot of so many generations back is: that of one back stands before the index, and so on round to that of ten back, at the index.
+-- The place of the slot of `back` generations before: the slot of one generation before is just before the index, and so on, round the ring, to
+-- that of ten generations before, at the index.
 abbrev pub place : ℕ → ℕ → ℕ
 place index back = (index + 10 - back) % 10
 
@@ -33,13 +34,13 @@ pub record Slotted (generation : ℕ) (amounts : List Amount) (index : ℕ) (slo
   pub none_later : Each (λ amount. amount.generation ≤ generation) amounts
   pub each : (back : ℕ) → 1 ≤ back → back ≤ 10 → Keeps generation back amounts (slot index slots back)
 
--- Whatever the old slots and the amount of the present generation keep, the new slots keep so many generations later.
+-- Whatever the old slots and the amount of the present generation keep, the new slots keep `generations` generations later.
 abbrev pub Moves : ℕ → ℤ → ℕ → List ℤ → ℕ → List ℤ → Type 0
 Moves generations present index slots new_index new_slots =
     (generation : ℕ) (amounts : List Amount) → Keeps generation 0 amounts present → Slotted generation amounts index slots
     → Slotted (generation + generations) amounts new_index new_slots
 
--- this sum and the slots of so many generations back, the newest first, in sums that saturate
+-- the saturating sum of `sum` and of the slots of the last generations, the newest first, up to `back` generations before
 unfoldable pub kept_sum : ℤ → ℕ → List ℤ → ℕ → ℤ
 kept_sum sum index slots zero = sum
 kept_sum sum index slots (suc back) = saturate_signed w128 (kept_sum sum index slots back +ℤ slot index slots (suc back))

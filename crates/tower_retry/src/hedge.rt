@@ -1,5 +1,5 @@
-//! Second requests after a delay: the Rust's `tower::hedge`. (`Hedge` is a name for its nest of services,
-//! and no struct of its own: an impl at the whole nest is past a limit of the checker.)
+//! Second requests after a delay: the Rust's `tower::hedge`. (`Hedge` is an alias of its nested
+//! services, not a struct: an impl of the whole nest exceeds a limit of the checker.)
 
 mod check;
 pub mod delay;
@@ -29,7 +29,7 @@ use tower_ware::filter::AsyncFilter;
 /// A service whose responses are recorded.
 pub type Recorded<S, L, C> = Latency<RotatingHistogram<L, C>, S, C>;
 
-/// What makes the second request: recorded, filtered by the policy, and delayed.
+/// The service that makes the second request: recorded, filtered by the policy, and delayed.
 pub type Delayed<S, P, L, C> = Delay<
     DelayPolicy<L, C>,
     AsyncFilter<Recorded<S, L, C>, PolicyPredicate<P>>,
@@ -39,9 +39,9 @@ pub type Delayed<S, P, L, C> = Delay<
 /// The two sides of a hedge.
 type Nest<S, P, L, C> = Select<SelectPolicy<P, L, C>, Recorded<S, L, C>, Delayed<S, P, L, C>>;
 
-/// Makes a request a second time where its response takes longer than most, and answers what comes
-/// first: the Rust's `tower::hedge::Hedge`.
+/// A service that makes a request a second time if its response takes longer than most, and returns the
+/// answer that comes first: the Rust's `tower::hedge::Hedge`.
 ///
-/// It is the `Select` of a recorded clone of the service, and of the service itself, recorded, filtered
-/// and delayed, with the one error of a hedge.
+/// It is a `Select` of a recorded clone of the service and of the service itself, recorded, filtered and
+/// delayed, with the one error of a hedge.
 pub type Hedge<S, P, L, C> = Flat<Nest<S, P, L, C>>;

@@ -1,4 +1,4 @@
-//! Services that try again.
+//! Services that make requests again: retries and hedges.
 #![tactic(auto)]
 
 pub mod hedge;

@@ -24,9 +24,9 @@ use std::alloc::AllocError;
 use std::marker::Model;
 use tower_base::service::Service;
 
-/// Makes a request again as its policy says: the Rust's `tower::retry::Retry`.
+/// A service that makes requests again as its policy decides: the Rust's `tower::retry::Retry`.
 ///
-/// An error of the inner service's readiness is `Inner`, and the policy isn't asked about it.
+/// An error of the inner service's readiness is returned as `Inner`, and the policy isn't called for it.
 #[derive(Drop)]
 pub struct Retry<P, S> {
     policy: P,
@@ -40,7 +40,7 @@ impl<P, S> Model for Retry<P, S> {
 }
 
 impl<P, S> Retry<P, S> {
-    /// A service whose policy is asked about each result. Nothing is read or cloned here.
+    /// Creates a `Retry`, whose policy is called for each result of a kept request. Reads and clones nothing.
     pub fn new(policy: P, service: S) -> Retry<P, S>
         ensures { result ≡ record { policy = policy; service = service } }
     {
@@ -81,7 +81,8 @@ where
         }
     }
 
-    /// Where a clone is refused, the inner future is dropped, and the future's answer is `Memory`.
+    /// Calls the inner service. If cloning the policy or the service fails, the inner future is dropped,
+    /// and the returned future resolves to `Memory`.
     fn call(&mut self, request: Request) -> Self::Future {
         let kept = self.policy.clone_request(&request);
         let response = self.service.call(request);
@@ -114,14 +115,14 @@ impl<P, S> Retry<P, S> {
     ghost use Rattle.tower_retry.specs.RetryLends.{LendsInner};
     ghost use Rattle.std.specs.Borrow.{sem};
 
-    /// The inner service.
+    /// Returns a reference to the inner service.
     pub fn get_ref(&self) -> &S
         ensures { result.now ≡ self.now.service }
     {
         &self.service
     }
 
-    /// The inner service, to be changed.
+    /// Returns a mutable reference to the inner service.
     pub fn get_mut(&mut self) -> &mut S
         ensures* writes_back { sem 𝓛 (LendsInner P.row S.row self.entry result) }
         ensures value { result.now ≡ self.old.service }
@@ -129,7 +130,7 @@ impl<P, S> Retry<P, S> {
         &mut self.service
     }
 
-    /// The inner service. The policy is dropped.
+    /// Returns the inner service and drops the policy.
     pub fn into_inner(self) -> S
     where
         P: Drop,

@@ -1,9 +1,9 @@
-//! What can go wrong, with its text and its status.
+//! The faults of a run, each with its text and its status.
 
-/// Why there is no transcript.
+/// A reason why there is no transcript.
 #[derive(Debug, Drop, thiserror::Error)]
 pub enum Fault {
-    /// The first line, counted from 1, that isn't one of a script.
+    /// The number, counted from 1, of the first line that isn't a line of a script.
     #[error("line {0}: bad line")]
     BadLine(usize),
     #[error("script too long")]
@@ -21,7 +21,7 @@ pub enum Fault {
 }
 
 impl Fault {
-    /// The status that the program ends with.
+    /// Returns the status that the program ends with.
     pub fn status(&self) -> u8 {
         match self {
             Fault::BadLine(_) | Fault::TooLong | Fault::Usage => 2,

@@ -1,4 +1,4 @@
-//! From the words and the script to what is written.
+//! The program, from its arguments and its script to its output.
 
 use crate::fault::Fault;
 use crate::script;
@@ -13,8 +13,9 @@ use std::rt::Env;
 use std::sync::Wait;
 use std::thread::Threads;
 
-/// The program: `words` are the arguments after its name. It answers the status: 0; 1 for want of memory; 2 for
-/// wrong arguments, a bad line or a script that is too long; 3 where reading or writing failed, or a thread can't be started.
+/// Runs the program. `words` are the arguments after its name. Returns the status: 0 on success; 1 if
+/// allocation failed; 2 for wrong arguments, a bad line or a script that is too long; 3 if reading or
+/// writing failed, or a thread couldn't be started.
 ///
 /// The whole script is read before anything runs, and the whole output is built before the first write.
 pub fn run<H, R, O, E>(rt: &H, words: &[String], reader: R, out: O, err: E) -> u8
@@ -30,7 +31,7 @@ where
     }
 }
 
-/// Writes the fault's line, and answers its status, whether that can be written or not.
+/// Writes the fault's line, and returns its status even if the line can't be written.
 pub fn report<E: Write + Drop>(fault: Fault, mut err: E) -> u8 {
     let _ = writeln!(err, "{fault}");
     fault.status()
@@ -55,7 +56,7 @@ where
     stack.play(rt, commands).map_err(|_| Fault::Memory)
 }
 
-// The whole script. It reads no byte after the first one that is too many.
+// Reads the whole script, and no byte after the first one that is too many.
 fn read<R: Read + Drop>(alloc: Global, mut reader: R) -> Result<Vec<u8>, Fault> {
     let mut script = Vec::new(alloc);
     let mut chunk = [0; 4096];
@@ -83,7 +84,7 @@ fn write<O: Write + Drop>(mut out: O, text: &str) -> Result<(), Fault> {
         .map_err(|_| Fault::CannotWrite)
 }
 
-/// The arguments after the program's name. One that isn't text is a wrong one.
+/// Returns the arguments after the program's name. If one isn't text, the fault is `Usage`.
 pub fn words_of<H: Env + AllocGlobal>(rt: &H) -> Result<Vec<String>, Fault> {
     match env::args(rt) {
         Ok(args) => args.skip(1).collect(rt.alloc()).map_err(|_| Fault::Memory),

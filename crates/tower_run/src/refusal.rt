@@ -5,9 +5,9 @@ use std::fmt::Display;
 use tower_limit::limit::concurrency;
 use tower_ware::{load_shed, timeout};
 
-/// An error with a text, which may say that memory ran out.
+/// An error with a text, which may report that allocation failed.
 pub trait Refusal: Display {
-    /// There was no memory, so that the run has no transcript.
+    /// Returns whether allocation failed, so that the run has no transcript.
     fn is_memory(&self) -> bool;
 }
 

@@ -8,10 +8,10 @@ use std::fmt::Display;
 use std::{fmt, str};
 use tower_base::drive::Event;
 
-/// The most bytes that a script has.
+/// The most bytes that a script may have.
 pub const MAX_BYTES: usize = 1_048_576;
 
-/// The most lines that a script has.
+/// The most lines that a script may have.
 pub const MAX_LINES: usize = 10_000;
 
 const MAX_WORD: usize = 64;
@@ -29,21 +29,22 @@ impl Display for Word<'_> {
     }
 }
 
-/// What a script changes around the service.
+/// A change that a script makes around the service.
 #[derive(Drop)]
 pub enum Turn<'a> {
-    /// The clock gives this moment from now on.
+    /// The clock shows this moment from now on.
     At(u64),
-    /// So many grants are left.
+    /// The given number of grants is left.
     Allow(u64),
-    /// The inner call of this number has this answer.
+    /// The inner call of this number gets this answer.
     Answer(u64, Result<Word<'a>, Word<'a>>),
 }
 
 /// A line of a script.
 pub type Command<'a> = Event<Word<'a>, Turn<'a>>;
 
-/// The commands of a whole script, in order.
+/// Reads the commands of a whole script, in order. Returns `BadLine` for the first line that isn't a
+/// command or is one too many, and `Memory` if allocation fails.
 pub fn parse(alloc: Global, script: &[u8]) -> Result<Vec<Command<'_>>, Fault> {
     let mut commands = Vec::new(alloc);
     if script.is_empty() {
@@ -63,7 +64,7 @@ pub fn parse(alloc: Global, script: &[u8]) -> Result<Vec<Command<'_>>, Fault> {
     Ok(commands)
 }
 
-// The command that this line is.
+// Reads the command of a line.
 fn read_command(line: &[u8]) -> Option<Command<'_>> {
     if line == b"poll".as_slice() {
         return Some(Event::Poll);
@@ -87,7 +88,7 @@ fn read_command(line: &[u8]) -> Option<Command<'_>> {
     Some(Event::Drop(read_number(rest)? as usize))
 }
 
-// The number of an inner call, and its answer.
+// Reads the number of an inner call, and its answer.
 fn read_answer(text: &[u8]) -> Option<Turn<'_>> {
     let end = text.iter().position(|byte| *byte == b' ')?;
     let (index, rest) = text.split_at(end);
@@ -99,14 +100,14 @@ fn read_answer(text: &[u8]) -> Option<Turn<'_>> {
     Some(Turn::Answer(index, Err(read_word(rest)?)))
 }
 
-// What follows the prefix.
+// Returns what follows the prefix, if the text begins with it.
 fn after<'a>(text: &'a [u8], prefix: &[u8]) -> Option<&'a [u8]>
     ensures { MatchOption result ((rest : List ℕ) → text.now ≢ prefix.now ++ rest) (λ rest. text.now ≡ prefix.now ++ rest.now) }
 {
     text.strip_prefix(prefix)
 }
 
-// A decimal number without leading zeros.
+// Reads a decimal number without leading zeros.
 pub(crate) fn read_number(text: &[u8]) -> Option<u64>
     ensures { MatchOption result ((n : ℕ) → n < 2 ^ 64 → text.now ≢ decimal n) (λ n. text.now ≡ decimal n) }
 {
@@ -125,7 +126,7 @@ pub(crate) fn read_number(text: &[u8]) -> Option<u64>
     }
 }
 
-// A word of the script.
+// Reads a word of the script.
 fn read_word(text: &[u8]) -> Option<Word<'_>>
     ensures { MatchOption result (¬ IsWord text.now) (λ word. IsWord text.now × (word.text.now ≡ text.now)) }
 {

@@ -1,4 +1,4 @@
-//! The clock and the inner service that a script moves.
+//! The clock and the inner service that a script controls.
 ghost use Rattle.std.specs.Prelude.{◌≡◌, ⊤, true, Ok, refl};
 ghost use Rattle.futures.specs.declared.task.Poll.TheVariants.{Ready};
 
@@ -12,7 +12,7 @@ use tower_base::service::{Clock, Service, Steps};
 /// The answer to an inner call.
 type Reply<'a> = Result<Word<'a>, Word<'a>>;
 
-/// What the script and the scripted service share.
+/// The state that the script and the scripted service share.
 #[derive(Drop)]
 pub struct State<'a> {
     moment: Cell<u64>,
@@ -22,14 +22,14 @@ pub struct State<'a> {
     answers: Vec<Cell<Option<Reply<'a>>>>,
 }
 
-/// How many grants are left.
+/// The number of grants that are left.
 #[derive(Clone, Copy)]
 enum Grants {
     Unlimited,
     Left(u64),
 }
 
-/// What came of a `Turn`.
+/// The outcome of a `Turn`.
 #[derive(Drop)]
 pub enum Turned {
     At(u64),
@@ -39,7 +39,8 @@ pub enum Turned {
 }
 
 impl<'a> State<'a> {
-    /// The clock stands at 0, and the grants have no limit. There is room for so many inner calls.
+    /// Creates a state whose clock stands at 0, with no limit of grants and room for `calls` inner calls.
+    /// Returns an error if allocation fails.
     pub fn new(alloc: Global, calls: usize) -> Result<State<'a>, AllocError> {
         let mut answers = Vec::with_capacity(alloc, calls)?;
         for _ in 0..calls {
@@ -55,7 +56,7 @@ impl<'a> State<'a> {
         })
     }
 
-    /// A handle to the clock.
+    /// Returns a handle to the clock.
     pub fn clock(&self) -> ScriptedClock<'_> {
         ScriptedClock {
             moment: &self.moment,
@@ -63,7 +64,7 @@ impl<'a> State<'a> {
         }
     }
 
-    /// Does what the script says around the service.
+    /// Makes a change around the service, and returns its outcome.
     pub fn turn(&self, turn: Turn<'a>) -> Turned {
         match turn {
             Turn::At(moment) => {
@@ -84,7 +85,7 @@ impl<'a> State<'a> {
         }
     }
 
-    // Answers the inner call, if it is there and has no answer yet.
+    // Gives the inner call its answer, if the call was made and has none yet. Returns whether it did.
     fn answer(&self, index: usize, answer: Reply<'a>) -> bool {
         let Some(slot) = self.answers.get(index) else {
             return false;
@@ -96,12 +97,12 @@ impl<'a> State<'a> {
         is_open
     }
 
-    // The answer to the inner call, if it has one.
+    // Returns the answer to the inner call, if it has one.
     fn answer_to(&self, index: usize) -> Option<Reply<'a>> {
         self.answers.get(index)?.get()
     }
 
-    // Takes a grant, if there is one.
+    // Takes a grant, if there is one. Returns whether it did.
     fn take_grant(&self) -> bool {
         match self.grants.get() {
             Grants::Unlimited => true,
@@ -113,18 +114,18 @@ impl<'a> State<'a> {
         }
     }
 
-    /// The polls of readiness that reached the scripted service.
+    /// Returns the number of polls of readiness that reached the scripted service.
     pub fn polls(&self) -> u64 {
         self.polls.get()
     }
 
-    /// The calls that reached the scripted service.
+    /// Returns the number of calls that reached the scripted service.
     pub fn calls(&self) -> usize {
         self.calls.get()
     }
 }
 
-/// A clock that stands where the script put it.
+/// A clock that shows the moment that the script set.
 #[derive(Drop)]
 pub struct ScriptedClock<'s> {
     moment: &'s Cell<u64>,
@@ -206,7 +207,7 @@ impl<'s, 'a> Service<Word<'a>> for Scripted<'s, 'a> {
     }
 }
 
-/// The answer that the script gives to one inner call.
+/// The future of the answer that the script gives to one inner call.
 #[derive(Drop)]
 pub struct Answer<'s, 'a> {
     state: &'s State<'a>,

@@ -20,20 +20,21 @@ use tower_ware::timeout::Timeout;
 /// A stack of services over the scripted one.
 #[derive(Clone, Copy)]
 pub enum Stack {
-    /// A response may take 10 nanoseconds.
+    /// A response may take at most 10 nanoseconds.
     Timeout,
-    /// Two calls in any 10 nanoseconds.
+    /// At most two calls are made in any 10 nanoseconds.
     Rate,
-    /// One call in flight.
+    /// At most one call is in flight.
     Limit,
-    /// A call that isn't ready is refused.
+    /// A call is refused if the service isn't ready.
     Shed,
-    /// All of them: the time outermost, then the refusal, the calls in flight, and the rate.
+    /// All four: the timeout outermost, then the load shedding, the limit of calls in flight, and the rate
+    /// limit.
     All,
 }
 
 impl Stack {
-    /// The stack of this name.
+    /// Returns the stack of this name, if there is one.
     pub fn named(name: &str) -> Option<Stack> {
         match name.as_bytes() {
             b"timeout" => Some(Stack::Timeout),
@@ -45,7 +46,7 @@ impl Stack {
         }
     }
 
-    /// Runs the commands, and gives the whole transcript.
+    /// Runs the commands, and returns the whole transcript. Returns an error if allocation fails.
     pub fn play<R: Wait + AllocGlobal + Copy>(
         self,
         rt: R,
@@ -78,7 +79,7 @@ impl Stack {
     }
 }
 
-// Under `Timeout` 10.
+// Runs the commands under a `Timeout` of 10 nanoseconds.
 fn timed<'a>(
     alloc: Global,
     state: &State<'a>,
@@ -88,7 +89,7 @@ fn timed<'a>(
     perform(alloc, state, service, commands)
 }
 
-// Under `RateLimit` 2 per 10.
+// Runs the commands under a `RateLimit` of 2 calls per 10 nanoseconds.
 fn rated<'a>(
     alloc: Global,
     state: &State<'a>,
@@ -99,7 +100,7 @@ fn rated<'a>(
     perform(alloc, state, service, commands)
 }
 
-// Under `ConcurrencyLimit` 1.
+// Runs the commands under a `ConcurrencyLimit` of 1 call.
 fn limited<'a, R: Wait + Copy>(
     rt: R,
     alloc: Global,
@@ -110,7 +111,8 @@ fn limited<'a, R: Wait + Copy>(
     perform(alloc, state, service, commands)
 }
 
-// Under all four, the time outermost and the rate innermost, as the type says.
+// Runs the commands under all four, the timeout outermost and the rate limit innermost, as the types say.
+// Stacked in one function, they exceed the check's steps.
 fn layered<'a, R, S, C>(
     rt: R,
     alloc: Global,
@@ -126,18 +128,33 @@ where
     C: Clock,
     requires { S.sound inner }
 {
-    let layers = ServiceBuilder::new()
-        .timeout(10, clock.share())
-        .load_shed()
+    let limits = ServiceBuilder::new()
         .concurrency_limit(rt, alloc, 1)
-        .rate_limit(alloc, 2, 10, clock);
-    let service: Timeout<LoadShed<ConcurrencyLimit<RateLimit<S, C>, _>>, C> = layers.service(
-        inner,
-    )?;
+        .rate_limit(alloc, 2, 10, clock.share());
+    let service: ConcurrencyLimit<RateLimit<S, C>, _> = limits.service(inner)?;
+    shed(alloc, state, service, clock, commands)
+}
+
+// Runs the commands under a `Timeout` of 10 nanoseconds and a `LoadShed`, in this order.
+fn shed<'a, S, C>(
+    alloc: Global,
+    state: &State<'a>,
+    inner: S,
+    clock: C,
+    commands: Vec<Command<'a>>,
+) -> Result<String, AllocError>
+where
+    S: Service<Word<'a>, Response = Word<'a>>,
+    S::Error: Refusal,
+    C: Clock,
+    requires { S.sound inner }
+{
+    let layers = ServiceBuilder::new().timeout(10, clock).load_shed();
+    let service: Timeout<LoadShed<S>, C> = layers.service(inner)?;
     perform(alloc, state, service, commands)
 }
 
-// Drives the service by the commands, and prints what came of it.
+// Drives the service by the commands, and returns the text of the transcript.
 fn perform<'a, S>(
     alloc: Global,
     state: &State<'a>,
@@ -159,7 +176,7 @@ where
     Ok(text)
 }
 
-// The name of a task that is the only one.
+// The source of the name of a task that is the only one: zeros instead of random bytes.
 #[derive(Drop)]
 struct Unnamed;
 

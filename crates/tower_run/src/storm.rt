@@ -10,7 +10,7 @@ use std::sync::Wait;
 use std::thread;
 use std::thread::{JoinHandle, Threads};
 use tower::util::block_on;
-use tower_base::latch::Latch;
+use tower_latch::Latch;
 use tower_limit::limit::concurrency::{LineCore, Permit, PollSemaphore, Semaphore};
 
 const MAX_THREADS: u64 = 64;
@@ -49,8 +49,8 @@ impl Storm {
 
     /// Runs the storm, joins every thread, and returns the line that reports it.
     ///
-    /// If a thread can't be started, the started ones end first, and the fault is `CannotStart`. If any
-    /// of them, or this one, finds no memory, the fault is `Memory`.
+    /// If a thread can't be started, the started ones end first, and the fault is `CannotStart`. If
+    /// allocation fails in any of them, or in this one, the fault is `Memory`.
     pub fn run<H>(self, rt: &H) -> Result<String, Fault>
     where
         H: Threads + Wait + RandomSource + AllocGlobal + Copy + Send + Drop + 'static,
@@ -128,7 +128,7 @@ where
     Ok(made)
 }
 
-// A permit that isn't there yet.
+// A future of a permit.
 #[derive(Drop)]
 struct Acquire<L: Latch<LineCore>> {
     asking: PollSemaphore<L>,

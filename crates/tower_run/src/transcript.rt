@@ -1,4 +1,4 @@
-//! What a run prints.
+//! The text that a run prints.
 
 use crate::refusal::Refusal;
 use crate::script::Word;
@@ -7,7 +7,8 @@ use futures::task::Poll;
 use std::alloc::{AllocError, Global};
 use tower_base::drive::{Entry, Transcript};
 
-/// A line for each entry, in order. It answers an error for want of memory, also where an entry tells of that.
+/// Returns a line for each entry, in order. Returns an error if allocation fails, or if an entry reports
+/// that it failed.
 pub fn print<E: Refusal>(
     alloc: Global,
     transcript: &Transcript<Word<'_>, E, Turned>,

@@ -1,4 +1,4 @@
--- The machine of an `Either`'s response: a poll of the side that is there.
+-- The machine of an `Either`'s response: a poll polls the side that is present.
 use Rattle.std.specs.Prelude.{◌≡◌}
 use Rattle.futures.specs.declared.task.Poll.{Poll}
 use Rattle.tower_util.specs.declared.util.either.EitherResponseFuture.{EitherResponseFuture}

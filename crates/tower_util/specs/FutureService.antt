@@ -1,4 +1,4 @@
--- The machine of `FutureService`: the future is polled until it gives the service, and then the service serves.
+-- The machine of `FutureService`: the future is polled until it returns the service, and from then on the service is used.
 use Rattle.std.specs.Prelude.{◌≡◌, Result, Ok, Err}
 use Rattle.futures.specs.declared.task.Poll.{Poll}
 use Rattle.futures.specs.declared.task.Poll.TheVariants.{Ready, Pending}
@@ -8,37 +8,37 @@ use Rattle.tower_util.specs.declared.util.error.future_service.Error.TheVariants
 use Rattle.tower_util.specs.declared.util.awaited.State.{State}
 use Rattle.tower_util.specs.declared.util.awaited.State.TheVariants.{Coming, There, Lost}
 
--- the service is there, and has this
+-- The service is there, and P holds for it.
 abbrev pub IsThere : {F S : Type 0} → (S → Type 0) → State F S → Type 0
 IsThere P (Coming future) = ⊥
 IsThere P (There service) = P service
 IsThere P Lost = ⊥
 
 module _ {F S E : Type 0} (stepped : F → Poll (Result S E) → F → Type 0) (polled : S → Poll (Result (Unit {0}) E) → S → Type 0) where
-  -- the service is polled, and its error marked as its own
+  -- The service is polled, and its error is wrapped in `Inner`.
   abbrev pub ServicePolled : S → Poll (Result (Unit {0}) (Error E)) → State F S → Type 0
   ServicePolled service answer new = (inner : Poll (Result (Unit {0}) E)) × (left : S) × polled service inner left × (answer ≡ answered Inner inner) × (new ≡ There left)
 
-  -- the future's poll answered this, and left it so: a service is polled at once, an error is answered, and then there is nothing left
+  -- The future's poll returned this, and left the future so. A service is polled at once. An error is returned, and then nothing is left.
   abbrev pub FutureStepped : F → Poll (Result S E) → Poll (Result (Unit {0}) (Error E)) → State F S → Type 0
   FutureStepped left Pending answer new = (answer ≡ Pending) × (new ≡ Coming left)
   FutureStepped left (Ready (Err e)) answer new = (answer ≡ Ready (Err (Inner e))) × (new ≡ Lost)
   FutureStepped left (Ready (Ok service)) answer new = ServicePolled service answer new
 
-  -- a poll of readiness
+  -- A poll of readiness.
   abbrev pub Polled : State F S → Poll (Result (Unit {0}) (Error E)) → State F S → Type 0
   Polled (Coming future) answer new = (inner : Poll (Result S E)) × (left : F) × stepped future inner left × FutureStepped left inner answer new
   Polled (There service) answer new = ServicePolled service answer new
   Polled Lost answer new = (answer ≡ Ready (Err Gone)) × (new ≡ Lost)
 
 module _ {F S Q G : Type 0} (ready : S → Type 0) (called : S → Q → G → S → Type 0) where
-  -- a call, of the service that is there
+  -- A call calls the service, which is there.
   abbrev pub Called : State F S → Q → G → State F S → Type 0
   Called (Coming f) request future new = ⊥
   Called (There service) request future new = (left : S) × ready service × called service request future left × (new ≡ There left)
   Called Lost request future new = ⊥
 
 module _ {G A E : Type 0} (stepped : G → Poll (Result A E) → G → Type 0) where
-  -- a poll of the response, whose error is marked as the service's own
+  -- A poll of the response, whose error is wrapped in `Inner`.
   abbrev pub Stepped : G → Poll (Result A (Error E)) → G → Type 0
   Stepped old answer new = (inner : Poll (Result A E)) × stepped old inner new × (answer ≡ answered Inner inner)

@@ -1,4 +1,4 @@
--- A `FutureService` that answered `Ok` has its service, which is ready.
+-- A `FutureService` whose poll of readiness returned `Ok` has its service, which is ready.
 use Rattle.std.specs.Prelude.{Result, Ok, Err}
 use Rattle.futures.specs.declared.task.Poll.{Poll}
 use Rattle.futures.specs.declared.task.Poll.TheVariants.{Ready, Pending}

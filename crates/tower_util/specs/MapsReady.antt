@@ -1,4 +1,4 @@
--- A map that answered `Ok` is ready.
+-- A map whose poll of readiness returned `Ok` is ready.
 use Rattle.std.specs.Prelude.{Result, Ok}
 use Rattle.futures.specs.declared.task.Poll.{Poll}
 use Rattle.futures.specs.declared.task.Poll.TheVariants.{Ready}

@@ -1,4 +1,4 @@
--- An `Optional` that answered `Ok` is ready.
+-- An `Optional` whose poll of readiness returned `Ok` is ready.
 use Rattle.std.specs.Prelude.{Option, Some, None, IfSome, Result, Ok}
 use Rattle.futures.specs.declared.task.Poll.{Poll}
 use Rattle.futures.specs.declared.task.Poll.TheVariants.{Ready}

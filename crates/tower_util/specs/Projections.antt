@@ -1,4 +1,4 @@
--- What goes inside of what each service here is asked.
+-- Which requests each service here passes to the services inside it.
 use Rattle.std.proofs.Common.{◌≡◌, ◌⊎◌, inl, inr, subst, sym, refl, List, [], Option, Some, None, IfSome, Result, Ok, Err, ◌∷◌}
 use Rattle.futures.specs.declared.task.Poll.{Poll}
 use Rattle.futures.specs.declared.task.Poll.TheVariants.{Ready, Pending}
@@ -25,7 +25,7 @@ use Rattle.tower_util.specs.declared.util.oneshot.State.{State as OneshotState}
 use Rattle.tower_util.specs.declared.util.oneshot.State.TheVariants.{NotReady, InFlight, Done}
 use Rattle.tower_util.specs.declared.util.optional.error.Error.{Error as OptionalError}
 
--- the closure may make this of the request, at some value of it
+-- The closure, at some value of it, may make this of the request.
 abbrev pub ClosureMakes : {N R Q : Type 0} → (N → R → Q → N → Type 0) → R → Q → Type 0
 ClosureMakes {N} step request inside = (before after : N) × step before request inside after
 
@@ -56,7 +56,7 @@ module _ {S Q A E F : Type 0} (s : ServiceOf S Q A E F) where
     pub map_response : Projects map_response_of (relations s) (λ m. m.inner) Once
     map_response = forwards map_response_of (relations s) (λ m. m.inner) (λ old new answer p. (answer, p.0)) (λ old new request future c. (c.0, c.1, c.2))
 
-    -- what turns the errors of readiness
+    -- `turned` converts the errors of readiness.
     module _ {U : Type 0} (turned : N → E → U → Type 0) where
       -- `MapErr`, `MapResult`
       abbrev map_of : Relations (M.MapView S N) Q U (M.MapView (Option F) N)
@@ -89,7 +89,7 @@ module _ {S Q A E F : Type 0} (s : ServiceOf S Q A E F) where
   abbrev optional_of : Relations (Option S) Q (OptionalError E) (Option F)
   optional_of = record { ready = λ o. IfSome o s.ready; polled = Op.Polled s.polled; called = Op.Called s.ready s.called }
 
-  -- If there is a service, it stays there, and gets just this action; and if there is none, none is made.
+  -- If there is a service, it stays, and gets just this action. If there is none, none appears.
   abbrev pub RunsOfOptional : Option S → Action Q (OptionalError E) (Option F) → Option S → Type 0
   RunsOfOptional (Some old) action (Some new) = RunInside (relations s) (ByAction Once action) old new
   RunsOfOptional None action None = Unit {0}
@@ -109,7 +109,7 @@ module _ {S Q A E F : Type 0} (s : ServiceOf S Q A E F) where
     abbrev awaited_of : Relations (AwaitedState P S) Q (AwaitedError E) F
     awaited_of = record { ready = W.IsThere s.ready; polled = W.Polled stepped s.polled; called = W.Called s.ready s.called }
 
-    -- The service stays, and gets just this action. One that the future gave just now gets no call.
+    -- The service stays, and gets just this action. A service that the future returned in this action gets no call.
     abbrev pub RunsOnceThere : AwaitedState P S → Action Q (AwaitedError E) F → AwaitedState P S → Type 0
     RunsOnceThere (There old) action (There new) = RunInside (relations s) (ByAction Once action) old new
     RunsOnceThere (Coming future) action (There new) =
@@ -139,7 +139,7 @@ module _ {S Q A E F : Type 0} (s : ServiceOf S Q A E F) where
     awaited Lost (Action.poll answer) new takes = subst (λ v. RunsOnceThere Lost (Action.poll answer) v) (sym takes.1) tt
     awaited Lost (Action.call request future) new takes = absurd takes.1
 
-  -- `Oneshot`: while it waits, its service is only polled. Then the service is called with the request, once, or has failed, and is dropped.
+  -- `Oneshot`: while it waits, its service is only polled. Then the service is called once with the request, or fails, and is dropped.
   abbrev pub RunsInOneshot : OneshotState S Q F → OneshotState S Q F → Type 0
   RunsInOneshot (NotReady old request) (NotReady new same) = RunInside (relations s) (λ x. x ≡ []) old new × (same ≡ request)
   RunsInOneshot (NotReady old request) new = (left : S) × RunInside (relations s) (AtMostOnce request) old left
@@ -147,7 +147,7 @@ module _ {S Q A E F : Type 0} (s : ServiceOf S Q A E F) where
   RunsInOneshot old new = Unit {0}
 
   module _ (stepped : F → Poll (Result A E) → F → Type 0) where
-    -- after the call
+    -- The state after the call.
     flown : (service left : S) (request : Q) (future : F) (answer : Poll (Result A E)) (new : OneshotState S Q F)
         → RunInside (relations s) (AtMostOnce request) service left → On.ResponseStepped s stepped future answer new → RunsInOneshot (NotReady service request) new
     flown service left request future (Ready x) new run h = subst (λ v. RunsInOneshot (NotReady service request) v) (sym h.2) (left, run)
@@ -184,7 +184,7 @@ module _ {S T Q A E F : Type 0} (is_clone : S → S → Type 0) (s : ServiceOf S
   shared old (Action.poll answer) new takes = no_action (relations s) old new takes.1 refl
   shared old (Action.call request future) new takes = no_action (relations s) old new takes.1.1 refl
 
--- what goes inside of the one side or of the other
+-- What is passed inside on one side or on the other.
 abbrev pub EitherGoes : {Q R : Type 0} → (Q → List R → Type 0) → (Q → List R → Type 0) → Q → List R → Type 0
 EitherGoes left right request inside = left request inside ⊎ right request inside
 
@@ -202,7 +202,7 @@ module _ {A B Q E F G : Type 0} (a : Relations A Q E F) (b : Relations B Q E G) 
     ];
   }
 
-  -- The side that is there stays so, and gets just this action.
+  -- The side that is present stays, and gets just this action.
   abbrev pub RunsOfSide : Either A B → Action Q E (EitherResponseFuture F G) → Either A B → Type 0
   RunsOfSide (Left old) action (Left new) = RunInside a (ByAction Once action) old new
   RunsOfSide (Right old) action (Right new) = RunInside b (ByAction Once action) old new
@@ -219,7 +219,7 @@ module _ {A B Q E F G : Type 0} (a : Relations A Q E F) (b : Relations B Q E G) 
   sides (Right old) (Action.call request future) new takes =
       let c = takes.1 in subst (λ v. RunsOfSide (Right old) (Action.call request future) v) (sym c.5) (one_call b old c.0 request c.1 c.2 c.3 refl)
 
-  -- what both sides contain
+  -- What both sides contain.
   module _ {X R D H : Type 0} (inner : Relations X R D H) (left : A → X) (right : B → X) (goes_left goes_right : Q → List R → Type 0) where
     abbrev inside : Either A B → X
     inside = elim [ Left x ↦ left x | Right y ↦ right y ]

@@ -1,4 +1,4 @@
--- The machines of `ReadyOneshot` and `Ready`: polls of readiness, and the service is given back once it is ready.
+-- The machines of `ReadyOneshot` and `Ready`: they poll readiness, and return the service once it is ready.
 use Rattle.std.specs.Borrow.{MutBor}
 use Rattle.std.specs.Prelude.{◌≡◌, Option, Some, None, Result, Ok, Err, IfOk, IsSomeAnd}
 use Rattle.futures.specs.declared.task.Poll.{Poll}
@@ -8,18 +8,18 @@ use Rattle.futures.specs.declared.task.context.Context.{Context}
 use Rattle.tower_base.specs.Gives.{MayGive}
 
 module _ {S E : Type 0} (sound ready : S → Type 0) (polled : S → Poll (Result (Unit {0}) E) → S → Type 0) where
-  -- the poll of readiness answered this, and left the service so: one that is ready is given back, and an error passed on
+  -- The poll of readiness returned this, and left the service so. A service that is ready is returned, and an error is passed on.
   abbrev pub ReadinessPolled : S → Poll (Result (Unit {0}) E) → Poll (Result S E) → Option S → Type 0
   ReadinessPolled left Pending answer new = (answer ≡ Pending) × (new ≡ Some left)
   ReadinessPolled left (Ready (Err e)) answer new = (answer ≡ Ready (Err e)) × (new ≡ Some left)
   ReadinessPolled left (Ready (Ok x)) answer new = sound left × ready left × (answer ≡ Ready (Ok left)) × (new ≡ None)
 
-  -- a poll: one poll of readiness
+  -- A poll polls readiness once.
   abbrev pub ReadyOneshotStepped : Option S → Poll (Result S E) → Option S → Type 0
   ReadyOneshotStepped (Some old) answer new = (inner : Poll (Result (Unit {0}) E)) × (left : S) × polled old inner left × ReadinessPolled left inner answer new
   ReadyOneshotStepped None answer new = ⊥
 
-  -- a poll of a service that is lent: one poll of readiness; where it is ready the same loan is handed back, and else it is kept
+  -- A poll of a borrowed service polls readiness once. If the service is ready, the same borrow is returned; otherwise it is kept.
   abbrev pub ReadyStepped : Option (MutBor S) → Poll (Result (MutBor S) E) → Option (MutBor S) → Type 0
   ReadyStepped (Some old) Pending (Some new) = polled old.now Pending new.now × sound new.now × (new.ghost_name ≡ old.ghost_name)
   ReadyStepped (Some old) (Ready (Err e)) (Some new) = polled old.now (Ready (Err e)) new.now × sound new.now × (new.ghost_name ≡ old.ghost_name)
@@ -27,20 +27,20 @@ module _ {S E : Type 0} (sound ready : S → Type 0) (polled : S → Poll (Resul
   ReadyStepped _ _ _ = ⊥
 
 module _ {S E : Type 0} (sound ready : S → Type 0) where
-  -- an output that gives the service back, which is ready
+  -- If the output returns the service, the service is sound and ready.
   abbrev pub GivesBack : Result S E → Type 0
   GivesBack out = IfOk out (λ back. sound back × ready back)
 
-  -- an output that hands the same loan back, of a service that is ready
+  -- If the output returns a borrow, it is the same one, and its service is sound and ready.
   abbrev pub HandsBack : Option (MutBor S) → Result (MutBor S) E → Type 0
   HandsBack old out = IfOk out (λ back. sound back.now × ready back.now × IsSomeAnd old (λ lent. back.ghost_name ≡ lent.ghost_name))
 
 module _ {S E : Type 0} (sound ready : S → Type 0) (polled : S → Poll (Result (Unit {0}) E) → S → Type 0) where
-  -- what a `ReadyOneshot` may give: an output of its steps, and a service that is given back is sound and ready
+  -- What a `ReadyOneshot` may give: an output of its steps. A service that is returned is sound and ready.
   abbrev pub MayGiveBack : Option S → Result S E → Type 0
   MayGiveBack old out = MayGive (ReadyOneshotStepped sound ready polled) old out × GivesBack sound ready out
 
-  -- All that a poll of a `ReadyOneshot` says: `IsStep`, and that of what is given back.
+  -- Everything that a poll of a `ReadyOneshot` ensures: `IsStep`, and what is known of a returned service.
   abbrev pub IsReadyOneshotStep : Option S → Poll (Result S E) → Option S → Context → Context → Type 0
   IsReadyOneshotStep old (Ready out) new before after = ReadyOneshotStepped sound ready polled old (Ready out) new × MayGiveBack old out × Keeps before after
   IsReadyOneshotStep old Pending new before after = ReadyOneshotStepped sound ready polled old Pending new × IsSomeAnd new sound

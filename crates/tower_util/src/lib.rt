@@ -1,4 +1,4 @@
-//! Small services, what combines them, and services that make services.
+//! Small services, combinators for services, and services that make services.
 #![tactic(auto)]
 
 pub mod make;

@@ -1,4 +1,4 @@
-//! Services that make services: the Rust's `tower::make`.
+//! Services that make services. The Rust's `tower::make`.
 
 mod as_service;
 mod into_service;
@@ -12,7 +12,7 @@ pub use make_connection::MakeConnection;
 pub use make_service::MakeService;
 pub use shared::Shared;
 
-/// The futures of these services: the Rust's `tower::make::future`.
+/// The futures of these services. The Rust's `tower::make::future`.
 pub mod future {
     pub use super::shared::SharedFuture;
 }

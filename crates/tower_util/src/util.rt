@@ -1,4 +1,4 @@
-//! Small services and what combines them: the Rust's `tower::util`.
+//! Small services and combinators for services. The Rust's `tower::util`.
 
 mod and_then;
 mod awaited;

@@ -1,4 +1,4 @@
--- The queue of an unordered stream: futures in the order of their calls, without those that have answered.
+-- The queue of an unordered stream: the futures in the order of their calls, without those that were ready.
 use Rattle.std.specs.Prelude.{◌≡◌, All, List, [], ◌∷◌, Option, Some, None}
 use Rattle.futures.specs.declared.task.Poll.{Poll}
 use Rattle.futures.specs.declared.task.Poll.TheVariants.{Ready, Pending}
@@ -6,30 +6,30 @@ use Rattle.tower_base.specs.declared.service.Steps.{Ghosts as StepsOf}
 use Rattle.tower_ware.specs.Queue.{Queue, Empty, Grown, HasRoom, Pushed}
 use Rattle.tower_ware.specs.declared.util.call_all.call_queue.CallQueue.{Ghosts as CallQueueOf}
 
--- the answer of a queue of these futures, from that of the first that has one
+-- the answer of a queue of these futures, from that of the first that is ready, if one is
 abbrev pub answer_of : {F T : Type 0} → List F → Option T → Poll (Option T)
 answer_of fs (Some x) = Ready (Some x)
 answer_of [] None = Ready None
 answer_of (f ∷ fs) None = Pending
 
--- a future answered, or was pending
+-- `Answers` holds of the answer if the future is ready, and `Waits` holds if it is pending.
 abbrev pub Comes : {T : Type 0} → (T → Type 0) → Type 0 → Poll T → Type 0
 Comes Answers Waits (Ready x) = Answers x
 Comes Answers Waits Pending = Waits
 
 module _ {F T : Type 0} (f : StepsOf F T) where
-  -- the futures are polled one after another, up to the first that answers, which leaves
+  -- The futures are polled one after another, up to the first that is ready, which is removed.
   abbrev pub EachAsked : List F → Option T → List F → Type 0
   EachAsked [] answer new = (answer ≡ None) × (new ≡ [])
   EachAsked (old ∷ rest) answer new = (inner : Poll T) × (left : F) × f.stepped old inner left
       × Comes (λ x. (answer ≡ Some x) × (new ≡ rest)) ((others : List F) × EachAsked rest answer others × (new ≡ left ∷ others)) inner
 
-  -- the queue of an unordered stream
+  -- a poll of the queue of an unordered stream
   abbrev pub BagAsked : Queue F → Poll (Option T) → Queue F → Type 0
   BagAsked old answer new =
       (first : Option T) × EachAsked old.calls first new.calls × (answer ≡ answer_of old.calls first) × (new.room ≡ old.room)
 
--- what a `Bag` of such futures does
+-- the relations of a `Bag` of such futures
 abbrev pub bag : {F T : Type 0} → StepsOf F T → (F → Type 0) → CallQueueOf (Queue F) T F
 bag f can_poll = record {
   sound = λ q. All can_poll q.calls;

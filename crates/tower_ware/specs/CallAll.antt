@@ -15,8 +15,8 @@ use Rattle.tower_ware.specs.declared.util.call_all.error.Error.{Error}
 use Rattle.tower_ware.specs.declared.util.call_all.error.Error.TheVariants.{Inner, Memory}
 use Rattle.tower_ware.specs.declared.util.call_all.slot.Slot.{Slot}
 
--- A `CallAll` or a `CallAllUnordered`: the service, unless it was taken, the requests to come, the queue of calls without a yielded answer,
--- whether no request is taken any more, and the request that was taken and not called yet.
+-- A `CallAll` or a `CallAllUnordered`: the service, unless it was taken out, the requests to come, the queue of the calls whose answers weren't
+-- yielded yet, whether the requests have ended, and the request that was taken but not called yet.
 pub record CallerView (S Q D R : Type 0) : Type 0 where
   pub service : Option S
   pub requests : Q
@@ -27,7 +27,7 @@ pub record CallerView (S Q D R : Type 0) : Type 0 where
 abbrev pub view_of : {S Q D R : Type 0} → Caller S Q D R → CallerView S Q D R
 view_of c = record { service = c.service; requests = c.requests; queue = c.queue; ended = c.ended; kept = c.kept }
 
--- what is just made, with a request that another stream kept
+-- a new stream, with the request that another stream kept, if any
 pub record New {S Q X R : Type 0} (service : Option S) (requests : Q) (kept : Option R) (new : CallerView S Q (Queue X) R) : Type 0 where
   pub serves : new.service ≡ service
   pub asks : new.requests ≡ requests
@@ -35,7 +35,7 @@ pub record New {S Q X R : Type 0} (service : Option S) (requests : Q) (kept : Op
   pub goes : new.ended ≡ false
   pub keeps : new.kept ≡ kept
 
--- What is polled: the service is there and sound, the calls may be polled, and so may the requests until they have ended.
+-- A stream may be polled: the service is there and sound, the calls may be polled, and so may the requests until they have ended.
 pub record CanFlow {S Q D R : Type 0} (sound : S → Type 0) (queue : D → Type 0) (can_poll : Q → Type 0) (v : CallerView S Q D R) : Type 0 where
   pub there : IsSomeAnd v.service sound
   pub calls : queue v.queue
@@ -47,11 +47,11 @@ yielded (Ok x) = Ok x
 yielded (Err e) = Err (Inner e)
 
 module _ {S Q D R A E F : Type 0} (s : ServiceOf S R A E F) (q : FlowOf Q R) (d : CallQueueOf D (Result A E) F) where
-  -- what comes of one pass: no answer yet, or the poll's
+  -- the result of one pass: no answer yet, or the answer of the poll
   abbrev pub Answer : Type 0
   Answer = Option (Poll (Option (Result A (Error E))))
 
-  -- the service's readiness, and then the call of the request at the ready value. A readiness error is the end of the requests.
+  -- What follows a poll of the service's readiness. A ready service is called with the request. A readiness error ends the requests.
   abbrev pub AfterReady : CallerView S Q D R → R → S → Poll (Result (Unit {0}) E) → Answer → CallerView S Q D R → Type 0
   AfterReady old request polled Pending answer new = (answer ≡ Some Pending) × (new ≡ record old { service = Some polled; kept = Some request })
   AfterReady old request polled (Ready (Err e)) answer new = (answer ≡ Some (Ready (Some (Err (Inner e)))))
@@ -60,20 +60,22 @@ module _ {S Q D R A E F : Type 0} (s : ServiceOf S R A E F) (q : FlowOf Q R) (d 
       × s.called polled request future left × d.pushed old.queue future queue × (answer ≡ None)
       × (new ≡ record old { service = Some left; queue = queue; kept = None })
 
-  -- a request is to be called: room is made, or refused, and then the service's readiness is asked
+  -- The service is to be called with a request: room for the call is allocated, and then the service's readiness is polled. If allocation fails,
+  -- which is the first case, the request is kept. `grown`, `pushed` and `asked` are the queue's own relations.
   abbrev pub Called : CallerView S Q D R → R → Answer → CallerView S Q D R → Type 0
   Called old request answer new = (queue : D) × d.grown old.queue queue
       × (((answer ≡ Some (Ready (Some (Err Memory)))) × (new ≡ record old { queue = queue; kept = Some request }))
       ⊎ ((service polled : S) × (readiness : Poll (Result (Unit {0}) E)) × (old.service ≡ Some service) × s.polled service readiness polled
       × AfterReady (record old { queue = queue }) request polled readiness answer new))
 
-  -- the next request
+  -- what follows a poll of the requests
   abbrev pub AfterFlow : CallerView S Q D R → Poll (Option R) → Answer → CallerView S Q D R → Type 0
   AfterFlow old Pending answer new = (answer ≡ Some Pending) × (new ≡ old)
   AfterFlow old (Ready None) answer new = (answer ≡ None) × (new ≡ record old { ended = true })
   AfterFlow old (Ready (Some request)) answer new = Called old request answer new
 
-  -- No answer is yielded. After the end of the requests this is the end where no call is left; before it a request is called, the kept one first.
+  -- The queue has no answer to yield. After the end of the requests, the stream ends if no call is left. Before it, the service is called with a
+  -- request, the kept one first.
   abbrev pub GoesOn : Bool → Option R → CallerView S Q D R → Answer → CallerView S Q D R → Type 0
   GoesOn true kept old answer new =
       (new ≡ old) × ((d.empty old.queue × (answer ≡ Some (Ready None))) ⊎ (¬ d.empty old.queue × (answer ≡ Some Pending)))
@@ -81,18 +83,18 @@ module _ {S Q D R A E F : Type 0} (s : ServiceOf S R A E F) (q : FlowOf Q R) (d 
   GoesOn false None old answer new = (next : Poll (Option R)) × (left : Q) × q.flowed old.requests next left
       × AfterFlow (record old { requests = left }) next answer new
 
-  -- an answer of the queue is yielded
+  -- What follows a poll of the queue. An answer is yielded.
   abbrev pub AfterAsk : CallerView S Q D R → Poll (Option (Result A E)) → Answer → CallerView S Q D R → Type 0
   AfterAsk old (Ready (Some x)) answer new = (answer ≡ Some (Ready (Some (yielded x)))) × (new ≡ old)
   AfterAsk old (Ready None) answer new = GoesOn old.ended old.kept old answer new
   AfterAsk old Pending answer new = GoesOn old.ended old.kept old answer new
 
-  -- one pass: the queue is asked first
+  -- one pass: the queue is polled first
   abbrev pub Pass : CallerView S Q D R → Answer → CallerView S Q D R → Type 0
   Pass old answer new = (first : Poll (Option (Result A E))) × (queue : D) × d.asked old.queue first queue
       × AfterAsk (record old { queue = queue }) first answer new
 
-  -- a poll: passes up to an answer, or as many as a poll makes at most
+  -- a poll: passes up to an answer, or 64 without one, and then it is pending
   pub record Flowed (old : CallerView S Q D R) (answer : Poll (Option (Result A (Error E)))) (new : CallerView S Q D R) : Type 0 where
     pub passes : Passes Pass Pending old answer new
 

@@ -1,4 +1,4 @@
--- The order of calls: what the items of a whole stream of calls came of.
+-- The order of calls: which calls the items of a whole stream come from.
 use Rattle.std.specs.Prelude.{◌≡◌, ℕ, zero, suc, List, [], ◌∷◌, Option, Some, None, Result, Ok, Err}
 use Rattle.std.specs.List.{AllZip}
 use Rattle.std.specs.List.Sorted.{IsPermutation}
@@ -14,34 +14,34 @@ use Rattle.tower_ware.specs.declared.util.call_all.error.Error.{Error}
 use Rattle.tower_ware.specs.declared.util.call_all.error.Error.TheVariants.{Inner, Memory}
 use Rattle.tower_ware.specs.declared.util.call_all.slot.Slot.{Slot}
 
--- the answers among the items, which are all but `Memory`
+-- the answers among the items: all items but `Memory`
 abbrev pub answers_of : {A E : Type 0} → List (Result A (Error E)) → List (Result A E)
 answers_of [] = []
 answers_of (Ok x ∷ items) = Ok x ∷ answers_of items
 answers_of (Err (Inner e) ∷ items) = Err e ∷ answers_of items
 answers_of (Err Memory ∷ items) = answers_of items
 
--- no error
+-- The answer isn't an error.
 abbrev pub IsCalm : {E : Type 0} → Poll (Result (Unit {0}) E) → Type 0
 IsCalm (Ready (Err e)) = ⊥
 IsCalm (Ready (Ok x)) = Unit {0}
 IsCalm Pending = Unit {0}
 
--- no poll of readiness answers an error
+-- No poll of readiness returns an error.
 abbrev pub NeverFails : {S R A E F : Type 0} → ServiceOf S R A E F → Type 0
 NeverFails {S} {E = E} s = (old new : S) (e : E) → ¬ s.polled old (Ready (Err e)) new
 
--- the service without the polls of readiness that answer an error
+-- the service without the polls of readiness that return an error
 abbrev pub unfailing : {S R A E F : Type 0} → ServiceOf S R A E F → ServiceOf S R A E F
 unfailing s = record s { polled = λ old answer new. s.polled old answer new × IsCalm answer }
 
 module _ {S R A E F : Type 0} (s : ServiceOf S R A E F) where
-  -- so many polls of readiness were pending
+  -- The given number of polls of readiness were pending.
   abbrev pub Waits : ℕ → Option S → Option S → Type 0
   Waits zero old new = new ≡ old
   Waits (suc n) old new = (service polled : S) × (old ≡ Some service) × s.polled service Pending polled × Waits n (Some polled) new
 
-  -- the call of a request: some polls of readiness were pending, the next one answered `Ok`, and the ready value that it left was called
+  -- the call of a request: some polls of readiness were pending, the next one returned `Ok`, and the ready value that it left was called
   pub record IsCall (old : Option S) (request : R) (future : F) (new : Option S) : Type 0 where
     pub waited : ℕ
     pub service : S
@@ -53,7 +53,7 @@ module _ {S R A E F : Type 0} (s : ServiceOf S R A E F) where
     pub called : s.called willing request future left
     pub after : new ≡ Some left
 
-  -- A run of the service to an end value: one call for each of these requests, in this order, which gave these futures, and at last some
+  -- A run of the service to an end value: one call for each of these requests, in this order, which returned these futures, and finally some
   -- polls of readiness that were pending.
   abbrev pub Serves : List R → List F → Option S → Option S → Type 0
   Serves [] [] old new = (n : ℕ) × Waits n old new
@@ -61,14 +61,14 @@ module _ {S R A E F : Type 0} (s : ServiceOf S R A E F) where
   Serves [] (future ∷ futures) old new = ⊥
   Serves (request ∷ requests) [] old new = ⊥
 
--- the kept request comes before those of the stream
+-- the requests of the stream, after the kept request if there is one
 abbrev pub after_kept : {R : Type 0} → Option R → List R → List R
 after_kept None requests = requests
 after_kept (Some request) requests = request ∷ requests
 
 module _ {S Q R A E F : Type 0} (s : ServiceOf S R A E F) (q : FlowOf Q R) (f : StepsOf F (Result A E)) (can_poll : F → Type 0) where
-  -- The stream gave these requests, in this order, and then its end. From the service there was one call for each, in this order, after that of
-  -- the kept request; and each call has one of these answers, in this order.
+  -- The stream yielded these requests, in this order, and then ended. The service was called once with each, in this order, after the kept
+  -- request. Each call has one of these answers, in this order.
   pub record CameOf (service : Option S) (stream : Q) (kept : Option R) (answers : List (Result A E)) : Type 0 where
     pub requests : List R
     pub futures : List F
@@ -77,18 +77,19 @@ module _ {S Q R A E F : Type 0} (s : ServiceOf S R A E F) (q : FlowOf Q R) (f : 
     pub made : Serves s (after_kept kept requests) futures service end
     pub gave : AllZip (MayGive f.stepped) futures answers
 
-  -- An ordered stream that gave these items and then its end, without a readiness error: one answer for each request, in the order of the requests.
+  -- An ordered stream that yielded these items and then ended, without a readiness error: one answer for each request, in the order of the
+  -- requests.
   abbrev pub InOrder : Option S → Q → Option R → Type 0
   InOrder service stream kept = (old : CallerView S Q (Queue (Slot F (Result A E))) R) (items : List (Result A (Error E))) → New service stream kept old
       → MayYield (CallAllFlowed (unfailing s) q f can_poll) old items None → CameOf service stream kept (answers_of items)
 
-  -- An unordered one: one answer for each request, in any order.
+  -- An unordered stream: one answer for each request, in any order.
   abbrev pub InAnyOrder : Option S → Q → Option R → Type 0
   InAnyOrder service stream kept = (old : CallerView S Q (Queue F) R) (items : List (Result A (Error E))) → New service stream kept old
       → MayYield (CallAllUnorderedFlowed (unfailing s) q f can_poll) old items None
       → (answers : List (Result A E)) × CameOf service stream kept answers × IsPermutation answers (answers_of items)
 
-  -- Where readiness never fails, the items of a stream come without a readiness error.
+  -- If readiness never fails, a stream yields its items without a readiness error.
   abbrev pub Calms : {D : Type 0}
       → (ServiceOf S R A E F → CallerView S Q D R → Poll (Option (Result A (Error E))) → CallerView S Q D R → Type 0) → Type 0
   Calms {D} Flowed = NeverFails s → (old : CallerView S Q D R) (items : List (Result A (Error E))) (last : Option (Result A (Error E)))

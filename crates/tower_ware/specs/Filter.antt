@@ -19,25 +19,26 @@ pub record FilterView (S U : Type 0) : Type 0 where
   pub inner : S
   pub predicate : U
 
--- the future of a `Filter` may be polled: a response that may be, or a refusal, unless it has answered
+-- The future of a `Filter` may be polled if its response may be, or if it holds a refusal. Once it has returned either, it may not.
 abbrev pub ResponseFutureCanPoll : {F P : Type 0} → (F → Type 0) → State F P → Type 0
 ResponseFutureCanPoll can_poll (Response f) = can_poll f
 ResponseFutureCanPoll can_poll (Refusal p) = ⊤
 ResponseFutureCanPoll can_poll Answered = ⊥
 
--- and what it waits for
+-- the sources that it waits for: those of its response
 abbrev pub response_future_needs : {F P : Type 0} → (F → ℕ → Type 0) → State F P → ℕ → Type 0
 response_future_needs needs (Response f) source = needs f source
 response_future_needs needs (Refusal p) source = ⊥
 response_future_needs needs Answered source = ⊥
 
--- that of an `AsyncFilter` may be polled: a check or a response that may be, and the service beside the check is ready
+-- The future of an `AsyncFilter` may be polled if its check may be and the service beside the check is sound and ready, or if its response may be.
+-- After an answer it still holds the check or the response that it polled last, whose own rule decides whether it may be polled again.
 abbrev pub AsyncResponseFutureCanPoll : {S Q A E G C F : Type 0} → ServiceOf S Q A E G → (C → Type 0) → (F → Type 0) → AsyncState C S F → Type 0
 AsyncResponseFutureCanPoll s check response (Check c service) = check c × s.sound service × s.ready service
 AsyncResponseFutureCanPoll s check response (InFlight f) = response f
 AsyncResponseFutureCanPoll s check response NoClone = ⊤
 
--- and what it waits for
+-- the sources that it waits for: those of its check or of its response
 abbrev pub async_response_future_needs : {S C F : Type 0} → (C → ℕ → Type 0) → (F → ℕ → Type 0) → AsyncState C S F → ℕ → Type 0
 async_response_future_needs check response (Check c service) source = check c source
 async_response_future_needs check response (InFlight f) source = response f source
@@ -51,15 +52,17 @@ pub record Polled {S Q A E F U P : Type 0} (s : ServiceOf S Q A E F)
   pub answers : answer ≡ answered Inner inner
   pub same : new.predicate ≡ old.predicate
 
--- A call: the predicate is asked once. The checked request goes inside, to a ready service. After a refused check nothing does.
+-- A call: the predicate is called once; `checked` is its own relation between its old value, the request, its result and its new value. If it
+-- accepts the request, which it may change, the inner service, which is ready, is called with it. If it rejects the request, the future holds its
+-- error, and the inner service isn't called.
 abbrev pub FilterCalled : {S Q A E F U R P : Type 0} → ServiceOf S Q A E F → PredicateOf U R Q P → FilterView S U → R → State F P → FilterView S U → Type 0
 FilterCalled {Q = Q} s u old request (Response future) new = (inside : Q) × u.checked old.predicate request (Ok inside) new.predicate
     × s.ready old.inner × s.called old.inner inside future new.inner
 FilterCalled s u old request (Refusal p) new = u.checked old.predicate request (Err p) new.predicate × (new.inner ≡ old.inner)
 FilterCalled s u old request Answered new = ⊥
 
--- A call of an `AsyncFilter`: the service that was polled goes into the future, a clone of it stays, and the predicate is asked.
--- Where no clone is had nothing changes.
+-- A call of an `AsyncFilter`: the service that was polled goes into the future, a clone of it stays, and the predicate is called, which returns
+-- the check (`asked`). If cloning fails, nothing changes.
 abbrev pub AsyncFilterCalled : {S Q A E F U R P C : Type 0} → ServiceOf S Q A E F → (S → S → Type 0) → AsyncPredicateOf U R Q P C
     → FilterView S U → R → AsyncState C S F → FilterView S U → Type 0
 AsyncFilterCalled s is_clone u old request (Check check service) new =
@@ -74,21 +77,23 @@ module _ {A E F P : Type 0} (f : StepsOf F (Result A E)) where
     pub stepped : f.stepped old inner new
     pub answers : answer ≡ answered Inner inner
 
-  -- a poll of the future: one poll of the response, which is there no more if it answers, or the refusal, which is given away
+  -- A poll of the future: one poll of the response, or the predicate's error. After its answer the future holds neither.
   abbrev pub ResponseFutureStepped : State F P → Poll (Result A (Error E P)) → State F P → Type 0
   ResponseFutureStepped (Response old) answer new = (left : F) × InFlightStepped old answer left × (new ≡ elim answer [ Ready x ↦ Answered | Pending ↦ Response left ])
   ResponseFutureStepped (Refusal p) answer new = (answer ≡ Ready (Err (Rejected p))) × (new ≡ Answered)
   ResponseFutureStepped Answered answer new = ⊥
 
 module _ {S Q A E F C P : Type 0} (s : ServiceOf S Q A E F) (f : StepsOf F (Result A E)) (c : StepsOf C (Result Q P)) where
-  -- What follows of the check's answer: the service that was polled is called with the checked request, and the response is polled.
+  -- What follows a poll of the check. If it is pending, so is the future. If it rejects the request, the future returns its error, and still
+  -- holds the check. If it accepts, the service, which is ready, is called with the checked request, and the response is polled at once.
   abbrev pub AfterCheck : Poll (Result Q P) → C → S → Poll (Result A (Error E P)) → AsyncState C S F → Type 0
   AfterCheck Pending check service answer new = (answer ≡ Pending) × (new ≡ Check check service)
   AfterCheck (Ready (Err p)) check service answer new = (answer ≡ Ready (Err (Rejected p))) × (new ≡ Check check service)
   AfterCheck (Ready (Ok request)) check service answer new = (left : S) × (future : F) × (polled : F)
       × s.ready service × s.called service request future left × InFlightStepped f future answer polled × (new ≡ InFlight polled)
 
-  -- a poll of the future of an `AsyncFilter`: one poll of the check or of the response
+  -- A poll of the future of an `AsyncFilter`: one poll of the check and, if that accepts, one of the new response; later one poll of the response.
+  -- If no service was cloned at the call, it returns `Memory`.
   abbrev pub AsyncResponseFutureStepped : AsyncState C S F → Poll (Result A (Error E P)) → AsyncState C S F → Type 0
   AsyncResponseFutureStepped (Check old service) answer new =
       (checked : Poll (Result Q P)) × (check : C) × c.stepped old checked check × AfterCheck checked check service answer new
@@ -96,7 +101,7 @@ module _ {S Q A E F C P : Type 0} (s : ServiceOf S Q A E F) (f : StepsOf F (Resu
   AsyncResponseFutureStepped NoClone answer new = (answer ≡ Ready (Err Memory)) × (new ≡ NoClone)
 
 module _ {S U : Type 0} (predicate : U → U → Type 0) where
-  -- what either layer makes: round the service, with a clone of the predicate
+  -- what either layer returns: a filter of the service, with a clone of the predicate
   abbrev pub Made : U → S → FilterView S U → Type 0
   Made layer service made = (made.inner ≡ service) × predicate layer made.predicate
 

@@ -8,25 +8,25 @@ use Rattle.tower_base.specs.declared.service.Steps.{Ghosts as StepsOf}
 use Rattle.tower_ware.specs.declared.load_shed.error.Error.{Error}
 use Rattle.tower_ware.specs.declared.load_shed.error.Error.TheVariants.{Inner, Overloaded}
 
--- A `LoadShed`. The flag says that the last inner answer was `Ok` and that no call came since.
+-- A `LoadShed`. The flag says that the last poll of the inner service returned `Ok` and that no call was made since.
 pub record LoadShedView (S : Type 0) : Type 0 where
   pub inner : S
   pub is_ready : Bool
 
--- the answer to a poll of readiness, from the inner one: only an error isn't `Ok`
+-- the answer of a poll of readiness, from the inner one: `Ok`, unless that is an error
 abbrev pub poll_of : {E : Type 0} → Poll (Result (Unit {0}) E) → Poll (Result (Unit {0}) (Error E))
 poll_of (Ready (Ok x)) = Ready (Ok tt)
 poll_of (Ready (Err e)) = Ready (Err (Inner e))
 poll_of Pending = Ready (Ok tt)
 
--- the flag after it
+-- the flag after that poll
 abbrev pub flag_of : {E : Type 0} → Poll (Result (Unit {0}) E) → Bool
 flag_of (Ready (Ok x)) = true
 flag_of (Ready (Err e)) = false
 flag_of Pending = false
 
 module _ {S Q A E F : Type 0} (s : ServiceOf S Q A E F) where
-  -- It may be called: where the flag is set, the inner service is ready.
+  -- A `LoadShed` may be called: if the flag is set, the inner service is ready.
   abbrev pub IsReady : LoadShedView S → Type 0
   IsReady v = v.is_ready ≡ true → s.ready v.inner
 
@@ -37,16 +37,16 @@ module _ {S Q A E F : Type 0} (s : ServiceOf S Q A E F) where
     pub answers : answer ≡ poll_of inner
     pub flag : new.is_ready ≡ flag_of inner
 
-  -- A call goes inside exactly where the flag is set, to a ready service, and clears it. Else there is no response.
+  -- A call: exactly if the flag is set, the inner service, which is ready, is called, and the flag is cleared. Otherwise there is no response.
   abbrev pub Called : LoadShedView S → Q → Option F → LoadShedView S → Type 0
   Called old request (Some future) new = (old.is_ready ≡ true) × s.ready old.inner × s.called old.inner request future new.inner × (new.is_ready ≡ false)
   Called old request None new = (old.is_ready ≡ false) × (new ≡ old)
 
--- what is just made: the flag isn't set
+-- a new `LoadShed`: the flag isn't set
 abbrev pub new_of : {S : Type 0} → S → LoadShedView S
 new_of inner = record { inner = inner; is_ready = false }
 
--- a clone: one of the inner service, and the flag isn't set
+-- a clone: a clone of the inner service, and the flag isn't set
 abbrev pub IsClone : {S : Type 0} → (S → S → Type 0) → LoadShedView S → LoadShedView S → Type 0
 IsClone inner old clone = inner old.inner clone.inner × (clone.is_ready ≡ false)
 

@@ -1,4 +1,4 @@
--- A `LoadShed` may be called at each moment.
+-- A `LoadShed` may be called at any time.
 use Rattle.std.proofs.Common.{◌≡◌, true, Option, Some, None, Ok, Err, Result}
 use Rattle.futures.specs.declared.task.Poll.{Poll}
 use Rattle.futures.specs.declared.task.Poll.TheVariants.{Ready, Pending}
@@ -13,7 +13,7 @@ module _ {S Q A E F : Type 0} (s : ServiceOf S Q A E F)
   flagged old new (Ready (Err e)) polled set = absurd (cc set)
   flagged old new Pending polled set = absurd (cc set)
 
--- after each poll, whatever it answered
+-- after each poll, whatever it returned
 pub ready_after : {S Q A E F : Type 0} {s : ServiceOf S Q A E F}
     → ((before after : S) → s.polled before (Ready (Ok tt)) after → s.ready after) → (old : LoadShedView S)
     → (answer : Poll (Result (Unit {0}) (Error E))) (new : LoadShedView S) → Polled s old answer new → IsReady s new
@@ -25,7 +25,7 @@ pub ready_called : {S Q A E F : Type 0} (s : ServiceOf S Q A E F) (old : LoadShe
 ready_called s old request (Some future) new c set = absurd (let flag = c.3 in cc)
 ready_called s old request None new c set = absurd (let flag = c.0 in let same = c.1 in cc)
 
--- as it is made, and as a clone
+-- when it is new, and when it is a clone
 pub ready_new : {S Q A E F : Type 0} (s : ServiceOf S Q A E F) (inner : S) → IsReady s (new_of inner)
 ready_new s inner set = absurd (cc set)
 

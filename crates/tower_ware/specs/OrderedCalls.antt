@@ -1,4 +1,4 @@
--- The queue of an ordered stream: futures in the order of their calls, each with its answer once it gave one.
+-- The queue of an ordered stream: the futures in the order of their calls, each replaced by its answer once it is ready.
 use Rattle.std.specs.Prelude.{⊤, ◌≡◌, All, List, [], ◌∷◌, Option, Some, None}
 use Rattle.futures.specs.declared.task.Poll.{Poll}
 use Rattle.futures.specs.declared.task.Poll.TheVariants.{Ready, Pending}
@@ -8,52 +8,52 @@ use Rattle.tower_ware.specs.declared.util.call_all.call_queue.CallQueue.{Ghosts 
 use Rattle.tower_ware.specs.declared.util.call_all.slot.Slot.{Slot}
 use Rattle.tower_ware.specs.declared.util.call_all.slot.Slot.TheVariants.{Waiting, Answered}
 
--- what waits may be polled
+-- The future may be polled, unless its answer is there.
 abbrev pub MayAsk : {F T : Type 0} → (F → Type 0) → Slot F T → Type 0
 MayAsk can_poll (Waiting f) = can_poll f
 MayAsk can_poll (Answered x) = ⊤
 
--- if no answer is there
+-- The condition holds, unless the answer is there.
 abbrev pub OnWaiting : {F T : Type 0} → Slot F T → Type 0 → Type 0
 OnWaiting (Waiting f) p = p
 OnWaiting (Answered x) p = ⊤
 
 module _ {F T : Type 0} (f : StepsOf F T) where
-  -- a future without an answer is polled once, and an answer is kept
+  -- A future without an answer is polled once. An answer stays as it is.
   abbrev pub SlotAsked : Slot F T → Slot F T → Type 0
   SlotAsked (Waiting old) (Waiting new) = f.stepped old Pending new
   SlotAsked (Waiting old) (Answered x) = (left : F) × f.stepped old (Ready x) left
   SlotAsked (Answered x) (Answered y) = y ≡ x
   SlotAsked (Answered x) (Waiting new) = ⊥
 
-  -- and so is each of them, in call order
+  -- The same for each slot, in call order.
   abbrev pub EachAsked : List (Slot F T) → List (Slot F T) → Type 0
   EachAsked [] new = new ≡ []
   EachAsked (old ∷ rest) new =
       (asked : Slot F T) × SlotAsked old asked × ((others : List (Slot F T)) × EachAsked rest others × (new ≡ asked ∷ others))
 
-  -- The front stays as it is, and the others are asked.
+  -- The front stays as it is, and the others are polled.
   abbrev pub OthersAsked : List (Slot F T) → List (Slot F T) → Type 0
   OthersAsked [] new = new ≡ []
   OthersAsked (front ∷ rest) new = (others : List (Slot F T)) × EachAsked rest others × (new ≡ front ∷ others)
 
-  -- the front was polled, and gave this
+  -- what follows a poll of the front
   abbrev pub AfterFront : F → List (Slot F T) → Poll T → Poll (Option T) → List (Slot F T) → Type 0
   AfterFront front rest (Ready x) answer new = (answer ≡ Ready (Some x)) × (new ≡ rest)
   AfterFront front rest Pending answer new = (answer ≡ Pending)
       × ((others : List (Slot F T)) × EachAsked rest others × (new ≡ Waiting front ∷ others))
 
-  -- The front's answer is given. Where the front is pending, each other future without an answer is polled once.
+  -- The front's answer is returned. If the front is pending, each other future without an answer is polled once.
   abbrev pub SlotsAsked : List (Slot F T) → Poll (Option T) → List (Slot F T) → Type 0
   SlotsAsked [] answer new = (answer ≡ Ready None) × (new ≡ [])
   SlotsAsked (Answered x ∷ rest) answer new = (answer ≡ Ready (Some x)) × (new ≡ rest)
   SlotsAsked (Waiting old ∷ rest) answer new = (inner : Poll T) × (front : F) × f.stepped old inner front × AfterFront front rest inner answer new
 
-  -- the queue of an ordered stream
+  -- a poll of the queue of an ordered stream
   abbrev pub LineAsked : Queue (Slot F T) → Poll (Option T) → Queue (Slot F T) → Type 0
   LineAsked old answer new = SlotsAsked old.calls answer new.calls × (new.room ≡ old.room)
 
--- what a `Line` of such futures does
+-- the relations of a `Line` of such futures
 abbrev pub line : {F T : Type 0} → StepsOf F T → (F → Type 0) → CallQueueOf (Queue (Slot F T)) T F
 line f can_poll = record {
   sound = λ q. All (MayAsk can_poll) q.calls;

@@ -1,4 +1,4 @@
--- What goes inside of what each middleware is asked.
+-- Which polls and calls each middleware makes of its inner service.
 use Rattle.std.proofs.Common.{◌≡◌, ◌⊎◌, ℕ, inl, inr, refl, ap, subst, sym, List, ◌∷◌, [], Option, Some, None, Result, Ok, Err, slice_index_or}
 use Rattle.futures.specs.declared.task.Poll.{Poll}
 use Rattle.futures.specs.declared.task.Poll.TheVariants.{Ready, Pending}
@@ -24,11 +24,11 @@ use Rattle.tower_ware.specs.declared.filter.predicate.Predicate.{Ghosts as Predi
 use Rattle.tower_ware.specs.declared.reconnect.state.State.{State as ConnectState}
 use Rattle.tower_ware.specs.declared.reconnect.state.State.TheVariants.{Idle, Connecting, Connected}
 
--- the service of a `Steer` at the index, or another one where there is none
+-- the service of a `Steer` at the index, or `other` if there is none
 abbrev pub service_at : {S F : Type 0} → ℕ → S → SteerView S F → S
 service_at index other v = slice_index_or v.services index other
 
--- the predicate may let the request through, at some value of it, as this one
+-- The predicate, at some value of it, may accept the request and turn it into this one.
 abbrev pub LetsThrough : {U R Q P : Type 0} → PredicateOf U R Q P → R → Q → Type 0
 LetsThrough {U} u request inside = (before after : U) × u.checked before request (Ok inside) after
 
@@ -59,7 +59,7 @@ module _ {S Q A E F : Type 0} (s : ServiceOf S Q A E F) where
     filter old (Action.call request (Refusal p)) new takes = no_action (relations s) old.inner new.inner takes.1.1 (inr refl)
     filter old (Action.call request Answered) new takes = absurd takes.1
 
-  -- `AsyncFilter`: a poll is one of the inner service. A call takes that into its future and leaves a clone, or nothing happens.
+  -- `AsyncFilter`: a poll is one of the inner service. A call moves the inner service into its future and leaves a clone, or changes nothing.
   module _ {U R P C : Type 0} (is_clone : S → S → Type 0) where
     abbrev pub GoesAside : Fi.FilterView S U → Action R (FilterError E P) (AsyncState C S F) → Fi.FilterView S U → Type 0
     GoesAside old (Action.poll answer) new = RunInside (relations s) (λ x. x ≡ []) old.inner new.inner
@@ -79,11 +79,11 @@ module _ {S Q A E F : Type 0} (s : ServiceOf S Q A E F) where
       async_filter old (Action.call request NoClone) new takes = ap (λ f. f.inner) takes.1
 
   module _ {C P : Type 0} (c : StepsOf C (Result Q P)) where
-    -- some check gave this request, and no other was made
+    -- Some check returned this request, and only this one was made.
     abbrev pub Checked : List Q → Type 0
     Checked requests = (request : Q) × ((before after : C) × c.stepped before (Ready (Ok request)) after) × (requests ≡ request ∷ [])
 
-    -- In the future the service stays as it was until the check lets the request through, and gets just this call then.
+    -- In the future the service stays as it was until the check accepts the request, and then gets only the call with that request.
     abbrev pub RunsOfChecked : AsyncState C S F → AsyncState C S F → Type 0
     RunsOfChecked (Check before old) (Check after new) = new ≡ old
     RunsOfChecked (Check before old) (InFlight future) = (left : S) × RunInside (relations s) Checked old left
@@ -108,17 +108,17 @@ module _ {S Q A E F : Type 0} (s : ServiceOf S Q A E F) where
 
   -- `Reconnect`
   module _ {N M : Type 0} (connect : StepsOf N (Result S M)) where
-    -- a connect gave this service
+    -- Some connect returned this service.
     abbrev pub Gave : S → Type 0
     Gave service = (before after : N) × connect.stepped before (Ready (Ok service)) after
 
-    -- a run from the connection of this state, whose requests have this, leads to the service
+    -- A run from the connection of this state leads to the service, and `Has` holds of the run's requests.
     abbrev pub FromState : (List Q → Type 0) → ConnectState N S → S → Type 0
     FromState Has (Connected old) new = RunInside (relations s) Has old new
     FromState Has (Connecting f) new = ⊥
     FromState Has Idle new = ⊥
 
-    -- A connection is the one before, after such a run, or one that a connect gave since, after a run without calls.
+    -- A connection is the one before, after such a run, or one that a connect has returned since, after a run without calls.
     abbrev pub Continues : (List Q → Type 0) → ConnectState N S → ConnectState N S → Type 0
     Continues Has old (Connected new) = FromState Has old new ⊎ ((given : S) × Gave given × RunInside (relations s) (λ x. x ≡ []) given new)
     Continues Has old (Connecting f) = Unit {0}

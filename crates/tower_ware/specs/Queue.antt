@@ -1,7 +1,7 @@
 -- A queue of calls.
 use Rattle.std.specs.Prelude.{◌≡◌, ℕ, ◌<◌, List, [], ◌∷◌, ◌++◌, length}
 
--- calls without a yielded answer, in call order, in a list that has room for so many
+-- the calls whose answers weren't yielded yet, in call order, in a list that has room for `room` calls
 pub record Queue (X : Type 0) : Type 0 where
   pub calls : List X
   pub room : ℕ
@@ -13,10 +13,10 @@ module _ {X : Type 0} where
   abbrev pub HasRoom : Queue X → Type 0
   HasRoom queue = length queue.calls < queue.room
 
-  -- room was made, or was refused
+  -- Whether allocating room for one more call succeeded or failed, the calls are unchanged.
   abbrev pub Grown : Queue X → Queue X → Type 0
   Grown old new = new.calls ≡ old.calls
 
-  -- a call was put in as the last
+  -- A call was added as the last.
   abbrev pub Pushed : {F : Type 0} → (F → X) → Queue X → F → Queue X → Type 0
   Pushed enter old future new = (new.calls ≡ old.calls ++ enter future ∷ []) × (new.room ≡ old.room)

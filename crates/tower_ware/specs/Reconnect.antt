@@ -15,25 +15,25 @@ use Rattle.tower_ware.specs.declared.reconnect.state.State.TheVariants.{Idle, Co
 use Rattle.tower_ware.specs.declared.reconnect.state.Reply.{Reply}
 use Rattle.tower_ware.specs.declared.reconnect.state.Reply.TheVariants.{InFlight, Failed}
 
--- a `Reconnect`, with the error of the last connect that failed, unless a call has answered it
+-- a `Reconnect`, with the error of the last connect that failed, unless a call has returned it
 pub record ReconnectView (M F S E T : Type 0) : Type 0 where
   pub maker : M
   pub state : State F S
   pub target : T
   pub error : Option E
 
--- what it shows
+-- the view of a `Reconnect`
 abbrev pub view_of : {M F S E T : Type 0} → Reconnect M T S E F → ReconnectView M F S E T
 view_of r = record { maker = r.maker; state = r.state; target = r.target; error = r.error }
 
 module _ {M T S F ME : Type 0} (m : ServiceOf M T S ME F) (connect : StepsOf F (Result S ME)) (can_poll : F → Type 0) (sound : S → Type 0) where
-  -- a connect may be polled and gives a sound service, and a connection is sound
+  -- A connect may be polled and returns a sound service. A connection is sound.
   abbrev pub IsSound : State F S → Type 0
   IsSound Idle = Unit {0}
   IsSound (Connecting f) = can_poll f × ((service : S) → MayGive connect.stepped f (Ok service) → sound service)
   IsSound (Connected service) = sound service
 
-  -- what constructors make: whatever service a connect of the maker gives is sound
+  -- The invariant of a `Reconnect`: whatever service a connect of the maker returns is sound.
   pub record Sound (v : ReconnectView M F S ME T) : Type 0 where
     pub maker : m.sound v.maker
     pub state : IsSound v.state
@@ -42,11 +42,11 @@ module _ {M T S F ME : Type 0} (m : ServiceOf M T S ME F) (connect : StepsOf F (
 
 module _ {M T S F ME Q A E G : Type 0} (m : ServiceOf M T S ME F) (connect : StepsOf F (Result S ME)) (s : ServiceOf S Q A E G)
     (is_clone : T → T → Type 0) where
-  -- what comes of one pass: no answer yet, or the poll's
+  -- the result of one pass: no answer yet, or the answer of the poll
   abbrev pub Answer : Type 0
   Answer = Option (Poll (Result (Unit {0}) (Error E ME)))
 
-  -- the maker's readiness, and then a connect, which asks a clone of the target, unless that was refused
+  -- What follows a poll of the maker's readiness. If it is ready, it is called with a clone of the target, unless cloning fails.
   abbrev pub AfterMaker : ReconnectView M F S ME T → M → Poll (Result (Unit {0}) ME) → Answer → ReconnectView M F S ME T → Type 0
   AfterMaker old polled Pending answer new = (answer ≡ Some Pending) × (new ≡ record old { maker = polled })
   AfterMaker old polled (Ready (Err e)) answer new = (answer ≡ Some (Ready (Err (Make e)))) × (new ≡ record old { maker = polled })
@@ -55,13 +55,13 @@ module _ {M T S F ME Q A E G : Type 0} (m : ServiceOf M T S ME F) (connect : Ste
       ⊎ ((target : T) × (left : M) × (f : F) × is_clone old.target target × m.ready polled × m.called polled target f left
       × (answer ≡ None) × (new ≡ record old { maker = left; state = Connecting f }))
 
-  -- a connect: a failed one keeps its error in place of an older one, and the poll is ready
+  -- What follows a poll of a connect. If it fails, its error is kept in place of an older one, and the poll returns `Ok`.
   abbrev pub AfterConnect : ReconnectView M F S ME T → F → Poll (Result S ME) → Answer → ReconnectView M F S ME T → Type 0
   AfterConnect old left Pending answer new = (answer ≡ Some Pending) × (new ≡ record old { state = Connecting left })
   AfterConnect old left (Ready (Ok service)) answer new = (answer ≡ None) × (new ≡ record old { state = Connected service })
   AfterConnect old left (Ready (Err e)) answer new = (answer ≡ Some (Ready (Ok tt))) × (new ≡ record old { state = Idle; error = Some e })
 
-  -- the connection's readiness, whose error is dropped
+  -- What follows a poll of the connection's readiness. An error is dropped.
   abbrev pub AfterReadiness : ReconnectView M F S ME T → S → Poll (Result (Unit {0}) E) → Answer → ReconnectView M F S ME T → Type 0
   AfterReadiness old left Pending answer new = (answer ≡ Some Pending) × (new ≡ record old { state = Connected left })
   AfterReadiness old left (Ready (Ok x)) answer new = (answer ≡ Some (Ready (Ok tt))) × (new ≡ record old { state = Connected left })
@@ -79,12 +79,12 @@ module _ {M T S F ME Q A E G : Type 0} (m : ServiceOf M T S ME F) (connect : Ste
   abbrev pub Pass : ReconnectView M F S ME T → Answer → ReconnectView M F S ME T → Type 0
   Pass old answer new = PassAt old.state old answer new
 
-  -- a poll of readiness: passes up to an answer, or as many as a poll makes at most
+  -- a poll of readiness: passes up to an answer, or 64 without one, and then it is pending
   pub record Polled (old : ReconnectView M F S ME T) (answer : Poll (Result (Unit {0}) (Error E ME))) (new : ReconnectView M F S ME T) : Type 0 where
     pub passes : Passes Pass Pending old answer new
 
 module _ {S F ME Q A E G : Type 0} (s : ServiceOf S Q A E G) where
-  -- an error is kept, or it is connected to a ready service
+  -- An error is kept, or the connection is ready.
   abbrev pub ReadyAt : State F S → Option ME → Type 0
   ReadyAt state (Some e) = Unit {0}
   ReadyAt (Connected service) None = s.ready service
@@ -95,7 +95,7 @@ module _ {S F ME Q A E G : Type 0} (s : ServiceOf S Q A E G) where
   IsReady v = ReadyAt v.state v.error
 
 module _ {M T S F ME Q A E G : Type 0} (s : ServiceOf S Q A E G) where
-  -- a call: the error that is kept, once, or a call of the connection, which is ready
+  -- a call: the kept error is returned and cleared; if there is none, the connection, which is ready, is called
   abbrev pub CalledAt : State F S → Option ME → ReconnectView M F S ME T → Q → Reply G ME → ReconnectView M F S ME T → Type 0
   CalledAt state (Some e) old request reply new = (reply ≡ Failed (Some e)) × (new ≡ record old { error = None })
   CalledAt (Connected service) None old request reply new = (f : G) × (left : S) × s.ready service × s.called service request f left
@@ -106,7 +106,7 @@ module _ {M T S F ME Q A E G : Type 0} (s : ServiceOf S Q A E G) where
   abbrev pub Called : ReconnectView M F S ME T → Q → Reply G ME → ReconnectView M F S ME T → Type 0
   Called old request reply new = CalledAt old.state old.error old request reply new
 
--- what may be polled: a response that may be, or an error that wasn't given yet
+-- The future may be polled if its response may be, or if its error wasn't returned yet.
 abbrev pub CanPoll : {G ME : Type 0} → (G → Type 0) → Reply G ME → Type 0
 CanPoll can_poll (InFlight f) = can_poll f
 CanPoll can_poll (Failed (Some e)) = Unit {0}
@@ -120,7 +120,7 @@ module _ {G A E ME : Type 0} (f : StepsOf G (Result A E)) where
   Stepped (Failed (Some e)) answer new = (answer ≡ Ready (Err (Make e))) × (new ≡ Failed None)
   Stepped (Failed None) answer new = ⊥
 
--- what a response waits for
+-- the sources that the future waits for: those of its response
 abbrev pub needs_of : {G ME : Type 0} → (G → ℕ → Type 0) → Reply G ME → ℕ → Type 0
 needs_of needs (InFlight f) source = needs f source
 needs_of needs (Failed e) source = ⊥

@@ -1,4 +1,4 @@
--- An `Ok` of `Reconnect` comes of the last pass, and leaves a ready value.
+-- If a poll of a `Reconnect` returns `Ok`, its last pass does, and leaves a ready value.
 use Rattle.std.specs.Prelude.{Option, Some, None, Result, Ok, Err}
 use Rattle.std.proofs.Common.{⊎_elim}
 use Rattle.futures.specs.declared.task.Poll.{Poll}

@@ -1,4 +1,4 @@
--- The machine of `steer`: a list of services, and the list of those that are to be asked for readiness, front first.
+-- The machine of `steer`: a list of services, and the list of the indexes of those whose readiness is to be polled, front first.
 use Rattle.std.specs.Prelude.{All, zero, suc, ◌++◌, ◌≡◌, ℕ, ◌<◌, ◌≤◌, List, [], ◌∷◌, Result, Ok, Err, ◌⊎◌, length, slice_index_or, slice_set}
 use Rattle.std.specs.List.{AllZip}
 use Rattle.futures.specs.declared.task.Poll.{Poll}
@@ -6,14 +6,14 @@ use Rattle.futures.specs.declared.task.Poll.TheVariants.{Ready, Pending}
 use Rattle.tower_base.specs.declared.service.Service.{Ghosts as ServiceOf}
 use Rattle.tower_ware.specs.declared.steer.picker.Picker.{Ghosts as PickerOf}
 
--- a `Steer`: the indexes to ask stand in a list that has room for so many
+-- A `Steer`. The indexes of the services to poll are in a list that has room for `room` indexes.
 pub record SteerView (S F : Type 0) : Type 0 where
   pub picker : F
   pub services : List S
   pub listed : List ℕ
   pub room : ℕ
 
--- j stands in the list
+-- The list has the index j.
 abbrev pub Listed : List ℕ → ℕ → Type 0
 Listed [] j = ⊥
 Listed (i ∷ is) j = (i ≡ j) ⊎ Listed is j
@@ -23,38 +23,38 @@ abbrev pub upto : ℕ → List ℕ
 upto zero = []
 upto (suc n) = upto n ++ n ∷ []
 
--- each service that isn't listed is ready
+-- Each service that isn't listed is ready.
 abbrev pub Rested : {S : Type 0} → (S → Type 0) → List S → List ℕ → Type 0
 Rested ready services listed = (j : ℕ) (v : _) → j < length services → slice_index_or services j v ≡ v → ready v ⊎ Listed listed j
 
--- What is true of every `Steer`: there is a service, the listed indexes are those of services, and there is room for the index of a call.
+-- The invariant of every `Steer`: there is a service, the listed indexes are those of services, and there is room for the index of a call.
 pub record Fits {S : Type 0} (services : List S) (listed : List ℕ) (room : ℕ) : Type 0 where
   pub some : 0 < length services
   pub inside : All (λ i. i < length services) listed
   pub fits : 0 < room
 
--- The picker and each service are sound, and each service that isn't listed is ready, as the poll left it that took it off the list.
+-- The picker and each service are sound, and each service that isn't listed is ready, as left by the poll that took it off the list.
 pub record Sound {S F : Type 0} (picker : F → Type 0) (sound ready : S → Type 0) (v : SteerView S F) : Type 0 where
   pub chooses : picker v.picker
   pub each : All sound v.services
   pub rested : Rested ready v.services v.listed
 
--- a clone: clones of the picker and of each service, every one of which is to be asked
+-- a clone: clones of the picker and of each service, all of which are to be polled
 pub record IsClone {S F : Type 0} (picker : F → F → Type 0) (service : S → S → Type 0) (old new : SteerView S F) : Type 0 where
   pub chooses : picker old.picker new.picker
   pub services : AllZip service old.services new.services
   pub listed : new.listed ≡ upto (length new.services)
   pub room : length new.services ≤ new.room
 
--- goes on after `Ok`, and stops with any other answer
+-- `Goes` holds after `Ok`, and `Stops` of any other answer.
 abbrev pub OnOk : {E : Type 0} → Type 0 → (Poll (Result (Unit {0}) E) → Type 0) → Poll (Result (Unit {0}) E) → Type 0
 OnOk Goes Stops (Ready (Ok u)) = Goes
 OnOk Goes Stops (Ready (Err e)) = Stops (Ready (Err e))
 OnOk Goes Stops Pending = Stops Pending
 
 module _ {S E : Type 0} (polled : S → Poll (Result (Unit {0}) E) → S → Type 0) where
-  -- The listed services are polled one after another, up to the first that doesn't answer `Ok`, which stays in front: the answer, the list and the
-  -- services after it.
+  -- The listed services are polled one after another, up to the first that doesn't return `Ok`, which stays at the front. The answer, the list and
+  -- the services are those after this.
   abbrev pub EachPolled : List ℕ → List S → Poll (Result (Unit {0}) E) → List ℕ → List S → Type 0
   EachPolled [] old answer rest new = (answer ≡ Ready (Ok tt)) × (rest ≡ []) × (new ≡ old)
   EachPolled (i ∷ is) old answer rest new = (service left : S) × (inner : Poll (Result (Unit {0}) E)) × (slice_index_or old i service ≡ service)
@@ -62,12 +62,12 @@ module _ {S E : Type 0} (polled : S → Poll (Result (Unit {0}) E) → S → Typ
       (λ stop. (answer ≡ stop) × (rest ≡ i ∷ is) × (new ≡ slice_set old i left)) inner
 
 module _ {S F Q A E G : Type 0} (s : ServiceOf S Q A E G) where
-  -- a poll of readiness asks the listed services
+  -- a poll of readiness: polls of the listed services
   pub record Polled (old : SteerView S F) (answer : Poll (Result (Unit {0}) E)) (new : SteerView S F) : Type 0 where
     pub polled : EachPolled s.polled old.listed old.services answer new.listed new.services
     pub same : new ≡ record old { listed = new.listed; services = new.services }
 
-  -- a call: one pick among the services, and one call of the service there, which is ready and is to be asked from now on
+  -- a call: one pick among the services, and one call of the service at that index, which is ready; its index is listed from now on
   pub record Called (p : PickerOf F S Q) (old : SteerView S F) (request : Q) (future : G) (new : SteerView S F) : Type 0 where
     pub index : ℕ
     pub service : S

@@ -1,4 +1,4 @@
--- A list of all indexes stands for services of which nothing is known.
+-- If all indexes are listed, nothing needs to be known of the services' readiness.
 use Rattle.std.proofs.Common.{All, ℕ, zero, suc, ◌<◌, ◌≤◌, List, [], ◌∷◌, ◌++◌, inl, inr, ⊎_elim, length, refl, sym, subst, arith}
 use Rattle.std.proofs.lemmas.Grind.{common_steps}
 use Rattle.std.proofs.lemmas.Bool.Decides.{eqb_tells}
@@ -24,11 +24,11 @@ listed_upto (suc n) j below =
     ⊎_elim (λ t. subst (Listed (upto (suc n))) (sym t.1) (listed_last (upto n) n))
     (λ f. let less : j < n = (let other = f.1 in omega arith) in listed_more (upto n) n j (listed_upto n j less)) (eqb_tells j n)
 
--- all are listed at first
+-- All services are listed at first.
 pub rested_new : {S : Type 0} (ready : S → Type 0) (ss : List S) → Rested ready ss (upto (length ss))
 rested_new ready ss = λ j v below there. inr (listed_upto (length ss) j below)
 
--- A clone is sound where clones of its parts are.
+-- A clone is sound if clones of its parts are.
 module _ {S F : Type 0} (picker : F → F → Type 0) (service : S → S → Type 0) (chooses : F → Type 0) (sound ready : S → Type 0) where
   each_sound : ((x y : S) → service x y → sound x → sound y) → (xs ys : List S) → AllZip service xs ys → All sound xs → All sound ys
   each_sound keeps xs ys zip h = λ k d below.

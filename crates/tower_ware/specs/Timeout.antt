@@ -26,13 +26,13 @@ pub record TimeoutLayerView (C : Type 0) : Type 0 where
   pub duration : ℕ
   pub clock : C
 
--- the answer to a poll of the future, from the response's and from the moment at which it was pending
+-- the answer of a poll of the future, from that of the response and from the moment at which the response was pending
 abbrev pub answer_of : {A E : Type 0} → Poll (Result A E) → ℕ → ℕ → Poll (Result A (Error E))
 answer_of (Ready (Ok x)) deadline moment = Ready (Ok x)
 answer_of (Ready (Err e)) deadline moment = Ready (Err (Inner e))
 answer_of Pending deadline moment = if nat_le deadline moment then Ready (Err Elapsed) else Pending
 
--- the clock is read exactly where the response is pending
+-- The clock is read exactly if the response is pending.
 abbrev pub Reads : {A : Type 0} → Type 0 → Type 0 → Poll A → Type 0
 Reads Read Unread Pending = Read
 Reads Read Unread (Ready x) = Unread
@@ -55,7 +55,7 @@ module _ {S C Q A E F : Type 0} (s : ServiceOf S Q A E F) (c : ClockOf C) where
     pub same : new.duration ≡ old.duration
 
 module _ {F C A E : Type 0} (f : StepsOf F (Result A E)) (c : ClockOf C) where
-  -- a poll of the future: one poll of the response, and one reading of the clock where that is pending
+  -- a poll of the future: one poll of the response, and one reading of the clock if the response is pending
   pub record Stepped (old : ResponseFutureView F C) (answer : Poll (Result A (Error E))) (new : ResponseFutureView F C) : Type 0 where
     pub inner : Poll (Result A E)
     pub stepped : f.stepped old.response inner new.response
@@ -64,7 +64,7 @@ module _ {F C A E : Type 0} (f : StepsOf F (Result A E)) (c : ClockOf C) where
     pub same : new.deadline ≡ old.deadline
 
 module _ {S C : Type 0} (c : ClockOf C) where
-  -- what the layer makes: round the service, with the layer's duration and a share of its clock
+  -- what the layer returns: a `Timeout` of the service, with the layer's duration and a share of its clock
   pub record Made (layer : TimeoutLayerView C) (service : S) (made : TimeoutView S C) : Type 0 where
     pub inner : made.inner ≡ service
     pub duration : made.duration ≡ layer.duration

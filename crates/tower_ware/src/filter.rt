@@ -1,4 +1,4 @@
-//! Requests that pass a predicate: the Rust's `tower::filter`.
+//! Services that check each request with a predicate: the Rust's `tower::filter`.
 ghost use Rattle.std.specs.Prelude.{◌≡◌};
 ghost use Rattle.tower_base.specs.AnswersLemmas.{answered_ok};
 ghost use Rattle.tower_ware.specs.Filter.{AsyncFilterCalled, AsyncResponseFutureStepped, FilterCalled, FilterView, IsClone, Polled};
@@ -26,10 +26,11 @@ use std::mem;
 use tower_base::run::Contains;
 use tower_base::service::{Service, Steps};
 
-/// Calls the inner service with the checked request, or answers `Rejected`: the Rust's
-/// `tower::filter::Filter`.
+/// A service that checks each request with a predicate: the Rust's `tower::filter::Filter`.
 ///
-/// Errors of the inner service's readiness and responses are `Inner`.
+/// If the predicate accepts the request, the inner service is called with the checked request. Otherwise
+/// the response is the error `Rejected`. Errors of the inner service's readiness and responses are
+/// returned as `Inner`.
 #[derive(Drop)]
 pub struct Filter<S, U> {
     inner: S,
@@ -43,14 +44,14 @@ impl<S, U> Model for Filter<S, U> {
 }
 
 impl<S, U> Filter<S, U> {
-    /// Nothing is asked here.
+    /// Creates a `Filter`. Calls neither the service nor the predicate.
     pub fn new(inner: S, predicate: U) -> Filter<S, U>
         ensures { result ≡ record { inner = inner; predicate = predicate } }
     {
         Filter { inner, predicate }
     }
 
-    /// A layer with the predicate.
+    /// Returns a `FilterLayer` with the predicate.
     pub fn layer(predicate: U) -> FilterLayer<U>
         ensures { result ≡ predicate }
     {
@@ -95,12 +96,12 @@ where
     }
 }
 
-/// Of each call the checked request goes inside, or nothing.
+/// States that each call makes one call of the inner service, with the checked request, or none.
 pub fn projection<R, P, S: Service<P>, U: Predicate<R, Request = P>>()
     ensures { Projects (relations ⟦<Filter<S, U> as Service<R>>⟧) (relations S.Service) (λ f. f.inner) (MappedOrNone (LetsThrough U.Predicate)) }
 {}
 
-/// What its inner service contains.
+/// A `Filter` contains what its inner service contains.
 impl<R, P, Passed, L, S, U> Contains<R, Passed, L> for Filter<S, U>
 where
     L: Service<Passed>,
@@ -114,7 +115,7 @@ where
     ghost projects = { composed _ _ _ (λ f. f.inner) S.inside _ S.goes (filter_projects _ U.Predicate) S.projects };
 }
 
-/// A clone has clones of both parts.
+/// Clones the inner service and the predicate.
 impl<S: Clone + Drop, U: Clone> Clone for Filter<S, U> {
     ghost is_clone = { IsClone U.is_clone S.is_clone };
 
@@ -129,7 +130,7 @@ impl<S, U> Filter<S, U> {
     ghost use Rattle.tower_ware.specs.FilterLends.{LendsInner};
     ghost use Rattle.std.specs.Borrow.{sem};
 
-    /// What the predicate makes of the request. The inner service isn't asked.
+    /// Calls the predicate with the request and returns its result. Doesn't call the inner service.
     pub fn check<R>(&mut self, request: R) -> Result<U::Request, U::Error>
     where
         U: Predicate<R>,
@@ -141,14 +142,14 @@ impl<S, U> Filter<S, U> {
         self.predicate.check(request)
     }
 
-    /// The inner service.
+    /// Returns a reference to the inner service.
     pub fn get_ref(&self) -> &S
         ensures { result.now ≡ self.now.inner }
     {
         &self.inner
     }
 
-    /// The inner service, to be changed.
+    /// Returns a mutable reference to the inner service.
     pub fn get_mut(&mut self) -> &mut S
         ensures* writes_back { sem 𝓛 (LendsInner S.row U.row self.entry result) }
         ensures value { result.now ≡ self.old.inner }
@@ -156,7 +157,7 @@ impl<S, U> Filter<S, U> {
         &mut self.inner
     }
 
-    /// The inner service. The predicate is dropped.
+    /// Returns the inner service and drops the predicate.
     pub fn into_inner(self) -> S
     where
         U: Drop,
@@ -166,11 +167,13 @@ impl<S, U> Filter<S, U> {
     }
 }
 
-/// Calls the inner service with the request that the predicate's future gives, or answers `Rejected`:
-/// the Rust's `tower::filter::AsyncFilter`.
+/// A service that checks each request with an asynchronous predicate: the Rust's
+/// `tower::filter::AsyncFilter`.
 ///
-/// The service that was polled goes into the future, and a clone stays behind. Where no clone is had
-/// for want of memory the service stays, the predicate isn't asked, and the answer is `Memory`.
+/// If the predicate's future accepts the request, the inner service is called with the request that it
+/// returns. Otherwise the response is the error `Rejected`. A call moves the service that was polled into
+/// the future and keeps a clone of it. If allocating the clone fails, the service stays, the predicate
+/// isn't called, and the response is the error `Memory`.
 #[derive(Drop)]
 pub struct AsyncFilter<S, U> {
     inner: S,
@@ -184,14 +187,14 @@ impl<S, U> Model for AsyncFilter<S, U> {
 }
 
 impl<S, U> AsyncFilter<S, U> {
-    /// Nothing is asked here.
+    /// Creates an `AsyncFilter`. Calls neither the service nor the predicate.
     pub fn new(inner: S, predicate: U) -> AsyncFilter<S, U>
         ensures { result ≡ record { inner = inner; predicate = predicate } }
     {
         AsyncFilter { inner, predicate }
     }
 
-    /// A layer with the predicate.
+    /// Returns an `AsyncFilterLayer` with the predicate.
     pub fn layer(predicate: U) -> AsyncFilterLayer<U>
         ensures { result ≡ predicate }
     {
@@ -242,14 +245,15 @@ where
     }
 }
 
-/// Each poll goes inside. A call takes the inner service into its future, and leaves a clone. There the service is called
-/// once, with the request that the check gave, or not at all.
+/// States that each poll of readiness is one of the inner service. A call moves the inner service into its
+/// future and leaves a clone, unless cloning fails. The future calls that service at most once, with the
+/// request that the check returned.
 pub fn async_projection<R: Drop, P, S: Service<P> + Clone, U: AsyncPredicate<R, Request = P>>()
     ensures inside { (old : _) (action : _) (new : _) → Takes (relations ⟦<AsyncFilter<S, U> as Service<R>>⟧) old action new → GoesAside S.Service S.is_clone old action new }
     ensures future { (old new : _) (answer : _) → AsyncResponseFutureStepped S.Service S.Future.Steps.own U.Future.Steps.own old answer new → RunsOfChecked S.Service U.Future.Steps.own old new }
 {}
 
-/// A clone has clones of both parts.
+/// Clones the inner service and the predicate.
 impl<S: Clone + Drop, U: Clone> Clone for AsyncFilter<S, U> {
     ghost is_clone = { IsClone U.is_clone S.is_clone };
 
@@ -264,7 +268,7 @@ impl<S, U> AsyncFilter<S, U> {
     ghost use Rattle.tower_ware.specs.FilterLends.{AsyncLendsInner};
     ghost use Rattle.std.specs.Borrow.{sem};
 
-    /// The predicate's future for the request. The inner service isn't asked.
+    /// Calls the predicate with the request and returns its future. Doesn't call the inner service.
     pub fn check<R>(&mut self, request: R) -> U::Future
     where
         U: AsyncPredicate<R>,
@@ -277,14 +281,14 @@ impl<S, U> AsyncFilter<S, U> {
         self.predicate.check(request)
     }
 
-    /// The inner service.
+    /// Returns a reference to the inner service.
     pub fn get_ref(&self) -> &S
         ensures { result.now ≡ self.now.inner }
     {
         &self.inner
     }
 
-    /// The inner service, to be changed.
+    /// Returns a mutable reference to the inner service.
     pub fn get_mut(&mut self) -> &mut S
         ensures* writes_back { sem 𝓛 (AsyncLendsInner S.row U.row self.entry result) }
         ensures value { result.now ≡ self.old.inner }
@@ -292,7 +296,7 @@ impl<S, U> AsyncFilter<S, U> {
         &mut self.inner
     }
 
-    /// The inner service. The predicate is dropped.
+    /// Returns the inner service and drops the predicate.
     pub fn into_inner(self) -> S
     where
         U: Drop,

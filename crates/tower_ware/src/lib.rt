@@ -1,4 +1,4 @@
-//! Middleware that shares nothing, and streams of calls.
+//! Middleware without shared state, and streams of calls.
 #![tactic(auto)]
 
 pub mod filter;

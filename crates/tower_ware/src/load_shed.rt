@@ -1,4 +1,4 @@
-//! Refuses the calls that the inner service isn't ready for: the Rust's `tower::load_shed`.
+//! Middleware that refuses a call if the inner service isn't ready: the Rust's `tower::load_shed`.
 ghost use Rattle.std.specs.Prelude.{◌≡◌, true, false, Result};
 ghost use Rattle.tower_ware.specs.LoadShed.{Called, IsClone, IsReady, LoadShedView, Polled, new_of};
 ghost use Rattle.tower_ware.specs.declared.load_shed.error.Error.{Error as ShedError};
@@ -21,10 +21,10 @@ use std::marker::Model;
 use tower_base::run::Contains;
 use tower_base::service::Service;
 
-/// Is always ready, and answers `Overloaded` where the inner service wasn't: the Rust's
+/// A service that may always be called, and returns `Overloaded` if the inner service wasn't ready: the Rust's
 /// `tower::load_shed::LoadShed`.
 ///
-/// An inner error of readiness is passed on; it says that nothing is ready.
+/// An error of the inner service's readiness is returned, and the inner service then counts as not ready.
 #[derive(Drop)]
 pub struct LoadShed<S> {
     inner: S,
@@ -38,7 +38,8 @@ impl<S> Model for LoadShed<S> {
 }
 
 impl<S> LoadShed<S> {
-    /// The inner service counts as not ready until a poll of it answers `Ok`.
+    /// Creates a `LoadShed`. The inner service counts as not ready until a poll of its readiness returns
+    /// `Ok`.
     pub fn new(inner: S) -> LoadShed<S>
         ensures { result ≡ new_of inner }
     {
@@ -58,7 +59,7 @@ impl<S: Service<Request>, Request: Drop> Service<Request> for LoadShed<S> {
 
     ghost sound = { λ s. S.sound s.inner };
 
-    // Where the flag is set, the inner service is ready.
+    // If the flag is set, the inner service is ready.
     ghost ready = { IsReady S.Service };
 
     ghost polled = { Polled S.Service };
@@ -89,12 +90,12 @@ impl<S: Service<Request>, Request: Drop> Service<Request> for LoadShed<S> {
     }
 }
 
-/// Some of the calls go inside, in their order: those that it doesn't shed.
+/// States that the inner service gets some of the calls, in their order: those that aren't shed.
 pub fn projection<Request: Drop, S: Service<Request>>()
     ensures { Projects (relations ⟦<LoadShed<S> as Service<Request>>⟧) (relations S.Service) (λ l. l.inner) AtMostOnce }
 {}
 
-/// What its inner service contains.
+/// A `LoadShed` contains what its inner service contains.
 impl<Request, Passed, L, S> Contains<Request, Passed, L> for LoadShed<S>
 where
     Request: Drop,
@@ -108,7 +109,7 @@ where
     ghost projects = { composed _ _ _ (λ l. l.inner) S.inside AtMostOnce S.goes (load_shed_projects _) S.projects };
 }
 
-// What a clone's inner service is ready for isn't known.
+// It isn't known whether the clone of the inner service is ready.
 impl<S: Clone> Clone for LoadShed<S> {
     ghost is_clone = { IsClone S.is_clone };
 
@@ -117,8 +118,8 @@ impl<S: Clone> Clone for LoadShed<S> {
     }
 }
 
-/// It may be called at each moment: as it is made, as a clone, after each poll of readiness, whatever that answers, and
-/// after each call.
+/// States that a `LoadShed` may be called at any time: when it is new, when it is a clone, after each
+/// poll of readiness, whatever that returns, and after each call.
 pub fn law<S: Service<Request> + Clone, Request: Drop>()
     ensures new { (inner : S) → IsReady S.Service (new_of inner) }
     ensures clone { (old clone : LoadShedView S) → IsClone S.is_clone old clone → IsReady S.Service clone }

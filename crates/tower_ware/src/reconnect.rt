@@ -1,4 +1,4 @@
-//! A service that is made anew once it fails: the Rust's `tower::reconnect`.
+//! A service that connects again if its connection fails: the Rust's `tower::reconnect`.
 ghost use Rattle.std.specs.Prelude.{◌≡◌, Some, None, IfSome};
 ghost use Rattle.futures.specs.Task.{IsArmed, Keeps};
 ghost use Rattle.futures.specs.Poll.{OnPending};
@@ -20,13 +20,13 @@ use state::{Reply, State};
 use tower_base::passes::TURNS;
 use tower_base::service::{Service, Steps};
 
-/// Connects to its target by its maker, and connects again where the connection's readiness fails: the
-/// Rust's `tower::reconnect::Reconnect`.
+/// A service that connects to its target with its maker, and connects again if the connection's readiness
+/// fails: the Rust's `tower::reconnect::Reconnect`.
 ///
-/// A failed connect answers the poll with `Ok` and the next call with its error; a later failure takes
-/// its place. An error of the maker's readiness answers the poll as `Make`, and no connection is begun.
-/// Where the clone of the target is refused the poll answers `Memory`, and the next one tries again. A
-/// poll makes 64 passes at most, and is then pending with its own task woken.
+/// If a connect fails, the poll returns `Ok`, and the next call returns the error of the connect; the error
+/// of a later failed connect replaces it. If the maker's readiness fails, the poll returns the error as
+/// `Make` and begins no connect. If cloning the target fails, the poll returns `Memory`, and the next poll
+/// tries again. A poll makes at most 64 passes; then it is pending and has woken its own task.
 #[derive(Drop)]
 // (A `Model` over the bound couldn't be used at a closure's type, so clauses say `view_of`.)
 pub struct Reconnect<M: Service<Target>, Target> {
@@ -37,7 +37,7 @@ pub struct Reconnect<M: Service<Target>, Target> {
 }
 
 impl<M: Service<Target>, Target> Reconnect<M, Target> {
-    /// It connects at its first poll.
+    /// Creates a `Reconnect` that connects at its first poll.
     pub fn new(maker: M, target: Target) -> Reconnect<M, Target>
         ensures { view_of result ≡ record { maker = maker; state = Idle; target = target; error = None } }
     {
@@ -49,7 +49,7 @@ impl<M: Service<Target>, Target> Reconnect<M, Target> {
         }
     }
 
-    /// It begins with a connection.
+    /// Creates a `Reconnect` that begins with the given connection.
     pub fn with_connection(service: M::Response, maker: M, target: Target) -> Reconnect<M, Target>
         ensures { view_of result ≡ record { maker = maker; state = Connected service; target = target; error = None } }
     {
@@ -108,7 +108,8 @@ where
     }
 }
 
-/// For each connection, from its making on: each call goes there, once, or nothing does.
+/// States that each call makes at most one call of the connection, with the same request, from the
+/// creation of the connection on.
 pub fn projection<Request, M, S, Target>()
 where
     M: Service<Target, Response = S>,
@@ -121,7 +122,7 @@ where
 
 type Answer<E, M> = Poll<Result<(), Error<E, M>>>;
 
-// One pass: an answer, or on with the next pass.
+// Makes one pass. Returns the answer of the poll, or `None` if another pass follows.
 fn pass<Request, M, S, Target>(
     reconnect: &mut Reconnect<M, Target>,
     cx: &mut Context<'_>,

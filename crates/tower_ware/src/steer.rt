@@ -1,4 +1,4 @@
-//! One of many services for each request: the Rust's `tower::steer`.
+//! A service that chooses one of many services for each request: the Rust's `tower::steer`.
 ghost use Rattle.std.specs.Prelude.{◌≡◌, ◌<◌, ◌≤◌, [], All, IfOk, length};
 ghost use Rattle.std.specs.VecDeque.{deque_capacity};
 ghost use Rattle.tower_ware.specs.Steer.{Called, Fits, IsClone, Polled, Sound, SteerView, upto};
@@ -16,11 +16,11 @@ use std::collections::VecDeque;
 use std::marker::{Model, PhantomData};
 use tower_base::service::Service;
 
-/// Calls the service that its picker chooses: the Rust's `tower::steer::Steer`.
+/// A service that calls the service that its picker chooses: the Rust's `tower::steer::Steer`.
 ///
-/// It is ready where all its services are. A poll asks those that aren't known to be ready, front first,
-/// and stops at the first that is pending or fails, which is asked again by the next poll. A clone asks
-/// all of them anew.
+/// It is ready if all its services are. A poll of readiness polls those that aren't known to be ready,
+/// front of the list first, and stops at the first that is pending or fails. The next poll begins with
+/// that one. A clone polls all its services anew.
 #[derive(Drop)]
 pub struct Steer<S, F, Req> {
     picker: F,
@@ -43,8 +43,10 @@ impl<S, F, Req> Model for Steer<S, F, Req> {
 }
 
 impl<S: Service<Req>, F: Picker<S, Req>, Req> Steer<S, F, Req> {
-    /// Asks for one service at least. Makes room for the list of those to be asked, all at first. Where that is
-    /// refused, what was handed in is dropped.
+    /// Creates a `Steer`, which at first has to poll all the services. Requires at least one service.
+    ///
+    /// Returns an error and drops the services and the picker if allocating the list of services to poll
+    /// fails.
     pub fn new(alloc: Global, services: Vec<S>, picker: F) -> Result<Steer<S, F, Req>, AllocError>
         requires { 0 < length services.items }
         ensures parts { IfOk result (λ m. (m.picker ≡ picker) × (m.services ≡ services.items) × (m.listed ≡ upto (length services.items))) }
@@ -97,7 +99,7 @@ impl<S: Service<Req>, F: Picker<S, Req>, Req> Service<Req> for Steer<S, F, Req> 
     }
 }
 
-/// For each service in it: each call goes there, once, or nothing does.
+/// States for each of the services that each call makes at most one call of it, with the same request.
 pub fn projection<S: Service<Req>, F: Picker<S, Req>, Req>()
     ensures { (index : _) (other : S) → Projects (relations ⟦<Steer<S, F, Req> as Service<Req>>⟧) (relations S.Service) (service_at index other) AtMostOnce }
 {}
@@ -118,7 +120,7 @@ impl<S: Clone, F: Clone, Req> Clone for Steer<S, F, Req> {
     }
 }
 
-// All indexes below the count, in a list that has room for so many.
+// Returns all indexes below `count`, in a list that has room for `count` indexes.
 fn all_indexes(alloc: Global, count: usize) -> Result<VecDeque<usize>, AllocError>
     ensures { IfOk result (λ listed. (listed.items ≡ upto count) × (count ≤ deque_capacity listed)) }
 {

@@ -21,9 +21,9 @@ use std::marker::Model;
 use tower_base::run::Contains;
 use tower_base::service::{Clock, Service};
 
-/// Answers `Elapsed` in place of a response that takes too long: the Rust's `tower::timeout::Timeout`.
+/// A service that returns `Elapsed` if a response takes too long: the Rust's `tower::timeout::Timeout`.
 ///
-/// The time of a response begins at its call. The clock is handed in.
+/// The time of a response begins at its call. The clock is passed to the constructor.
 #[derive(Drop)]
 pub struct Timeout<S, C> {
     inner: S,
@@ -38,7 +38,7 @@ impl<S, C> Model for Timeout<S, C> {
 }
 
 impl<S, C> Timeout<S, C> {
-    /// The duration is in nanoseconds. Nothing is read of the clock here.
+    /// Creates a `Timeout`. The duration is in nanoseconds. Doesn't read the clock.
     pub fn new(inner: S, duration: u64, clock: C) -> Timeout<S, C>
         ensures { result ≡ record { inner = inner; duration = duration; clock = clock } }
     {
@@ -83,12 +83,12 @@ impl<Request, S: Service<Request>, C: Clock> Service<Request> for Timeout<S, C> 
     }
 }
 
-/// Each call goes inside, once.
+/// States that each call makes exactly one call of the inner service, with the same request.
 pub fn projection<Request, S: Service<Request>, C: Clock>()
     ensures { Projects (relations ⟦<Timeout<S, C> as Service<Request>>⟧) (relations S.Service) (λ t. t.inner) Once }
 {}
 
-/// What its inner service contains.
+/// A `Timeout` contains what its inner service contains.
 impl<Request, Passed, L, S, C> Contains<Request, Passed, L> for Timeout<S, C>
 where
     L: Service<Passed>,
@@ -116,14 +116,14 @@ impl<S, C> Timeout<S, C> {
     ghost use Rattle.tower_ware.specs.TimeoutLends.{LendsInner};
     ghost use Rattle.std.specs.Borrow.{sem};
 
-    /// The inner service.
+    /// Returns a reference to the inner service.
     pub fn get_ref(&self) -> &S
         ensures { result.now ≡ self.now.inner }
     {
         &self.inner
     }
 
-    /// The inner service, to be changed.
+    /// Returns a mutable reference to the inner service.
     pub fn get_mut(&mut self) -> &mut S
         ensures* writes_back { sem 𝓛 (LendsInner S.row C.row self.entry result) }
         ensures value { result.now ≡ self.old.inner }
@@ -131,7 +131,7 @@ impl<S, C> Timeout<S, C> {
         &mut self.inner
     }
 
-    /// The inner service. The clock is dropped.
+    /// Returns the inner service and drops the clock.
     pub fn into_inner(self) -> S
     where
         C: Drop,

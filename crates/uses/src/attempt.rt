@@ -1,4 +1,4 @@
-//! What comes of a request that may hang.
+//! The response to a request that may hang.
 
 ghost use Rattle.std.specs.Prelude.{⊤};
 
@@ -7,7 +7,7 @@ use futures::task::{Context, Poll};
 use std::convert::Infallible;
 use tower::service::Steps;
 
-/// A response that is there at once, or never.
+/// A response that comes at once, or never.
 #[derive(Clone, Copy, Debug)]
 pub enum Attempt {
     Answers,

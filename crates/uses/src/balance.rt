@@ -13,7 +13,7 @@ use tower::load::Constant;
 use tower::util::rng::HasherRng;
 use tower::{BlockOnExt, service_fn};
 
-/// Servers, each with its distance, which is its load.
+/// A list of servers, each with its distance as its load.
 type Servers = ServiceList<Constant<Server, u32>>;
 
 fn servers(alloc: Global) -> Result<Servers, AllocError> {
@@ -22,7 +22,8 @@ fn servers(alloc: Global) -> Result<Servers, AllocError> {
     Ok(ServiceList::new(vec![in alloc; near, far]?))
 }
 
-/// A directory makes lists, `MakeBalance` of each list a balancer, and that calls the nearer server.
+/// Calls a server through a balancer. A directory makes a list of servers, `MakeBalance` makes a balancer
+/// over it, and that calls the nearer server.
 pub fn make_a_pool<R>(rt: R) -> io::Result<()>
 where
     R: Wait + RandomSource + AllocGlobal + Print + Copy,

@@ -10,7 +10,7 @@ use std::random::RandomSource;
 use std::sync::Wait;
 use tower::{ServiceBuilder, ServiceExt};
 
-/// The pool polls the worker beside the call. Clones of the buffer may call from elsewhere.
+/// Calls a buffer while the pool polls its worker. Clones of the buffer may call from elsewhere.
 pub fn call_beside_the_worker<R>(rt: R) -> io::Result<()>
 where
     R: Wait + RandomSource + AllocGlobal + Print + Copy,

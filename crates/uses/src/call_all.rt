@@ -14,7 +14,7 @@ use std::sync::Wait;
 use tower::service::{Flow, Steps};
 use tower::{ServiceExt, service_fn};
 
-/// Answers with its number, after ten times as many pending polls.
+/// A future that returns its number, after ten times as many pending polls.
 #[derive(Clone, Copy)]
 struct Fetch {
     number: u32,
@@ -72,7 +72,7 @@ impl Flow for Requests {
     }
 }
 
-// The answers of a stream, in the order in which they come.
+// Prints the answers of a stream, in the order in which they come.
 fn tell_all<R, Q, E>(rt: R, name: &str, answers: Q) -> io::Result<()>
 where
     R: Wait + RandomSource + AllocGlobal + Print + Copy,
@@ -86,7 +86,7 @@ where
     Ok(())
 }
 
-/// The answers come in the order of the requests.
+/// Prints answers that come in the order of the requests.
 pub fn in_order<R>(rt: R) -> io::Result<()>
 where
     R: Wait + RandomSource + AllocGlobal + Print + Copy,
@@ -99,7 +99,7 @@ where
     )
 }
 
-/// Each answer comes as soon as it is there.
+/// Prints answers that come as soon as they are there.
 pub fn as_they_come<R>(rt: R) -> io::Result<()>
 where
     R: Wait + RandomSource + AllocGlobal + Print + Copy,

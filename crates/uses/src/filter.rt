@@ -10,12 +10,12 @@ use std::sync::Wait;
 use tower::BlockOnExt;
 use tower::filter::{AsyncFilter, AsyncPredicateFn, Filter, PredicateFn};
 
-/// Why a request is rejected.
+/// The error of a request that is rejected.
 #[derive(Clone, Copy, Debug, thiserror::Error)]
 #[error("odd")]
 pub struct Odd;
 
-/// Lets even requests through.
+/// Accepts even requests.
 pub fn even(request: u32) -> Result<u32, Odd> {
     if request % 2 == 0 {
         Ok(request)
@@ -24,7 +24,7 @@ pub fn even(request: u32) -> Result<u32, Odd> {
     }
 }
 
-/// The predicate answers at once.
+/// Calls a `Filter`, whose predicate returns its answer at once.
 pub fn reject<R>(rt: R) -> io::Result<()>
 where
     R: Wait + RandomSource + AllocGlobal + Print + Copy,
@@ -34,7 +34,7 @@ where
     tell(rt, "filter", service.block_on_call(&rt, 3)?)
 }
 
-/// The predicate gives a future of its answer.
+/// Calls an `AsyncFilter`, whose predicate returns a future of its answer.
 pub fn reject_later<R>(rt: R) -> io::Result<()>
 where
     R: Wait + RandomSource + AllocGlobal + Print + Copy,

@@ -16,7 +16,7 @@ use tower::latch::Latch;
 use tower::service::{Clock, Fraction, SystemClock};
 use tower::{BlockOnExt, Service, filter, service_fn};
 
-/// Each request may be made twice.
+/// A policy by which each request may be made twice.
 #[derive(Clone, Copy)]
 struct Twice;
 
@@ -30,8 +30,8 @@ impl Policy<u32> for Twice {
     }
 }
 
-// A hedge is made of these parts. At the types that it has below the check doesn't end, so it is let into one generic
-// function after another.
+// Calls a hedge, which is made of these parts. The check doesn't end at the types that the hedge has below,
+// so it is passed through one generic function after another.
 fn call<R, P, A, D, F, C>(rt: R, mut client: Flat<Select<P, A, Delay<D, F, C>>>) -> io::Result<()>
 where
     R: Wait + RandomSource + AllocGlobal + Print + Copy,
@@ -62,7 +62,8 @@ where
     call(rt, client)
 }
 
-/// The first attempt doesn't answer, and nine of ten took a millisecond: then a second attempt is made, and answers.
+/// Calls a server whose first attempt doesn't answer. Nine of ten requests took a millisecond, so after
+/// that time a second attempt is made, which answers.
 pub fn ask_again<R>(rt: R) -> io::Result<()>
 where
     R: Wait + RandomSource + AllocGlobal + Print + std::time::Clock + Copy,

@@ -1,4 +1,4 @@
-//! `Core`, `Latch` and `Guarded`: a core of one's own behind a lock.
+//! `Core`, `Latch` and `Guarded`: a custom core behind a lock.
 
 ghost use Rattle.std.specs.Prelude.{◌≡◌, ◌≤◌, false};
 ghost use Rattle.uses.specs.Seats.{Sold};
@@ -9,7 +9,7 @@ use std::thread::Threads;
 use std::{io, thread};
 use tower::latch::{Core, Guarded, Latch};
 
-/// The seats that are left: the ones below this number, of three.
+/// The seats that are left, of three: those numbered below `left`.
 #[derive(Drop)]
 struct Seats {
     left: u32,
@@ -21,11 +21,17 @@ impl Core for Seats {
 
     type Reply = Option<u32>;
 
+    ghost use Rattle.tower_latch.specs.LatchLemmas.{none_held, no_places};
+
     ghost opens = { λ seats. seats.left ≡ 3 };
 
     ghost steps = { λ old _ reply new. Sold old.left reply new.left };
 
     ghost is_wait = { λ _. false };
+
+    ghost starts = { none_held _ };
+
+    ghost counts = { no_places _ };
 
     fn step(&mut self, _step: ()) -> Option<u32> {
         if self.left == 0 {
@@ -38,13 +44,17 @@ impl Core for Seats {
     fn waits(_reply: &Option<u32>) -> bool {
         false
     }
+
+    fn capacity(&self) -> usize {
+        0
+    }
 }
 
-/// What the seats cost.
+/// The prices of the seats.
 const PRICES: [u32; 3] = [50, 30, 20];
 
-// Sells a seat, and answers its price. Of the seat no more is known than that somewhere in a run of the hall it was sold:
-// so it is one of three, and the index is in bounds.
+// Sells a seat, and returns its price. All that is known of the seat is that it was sold somewhere in a run
+// of the hall. So it is one of three, and the index is in bounds.
 fn sell<L: Latch<Seats>>(hall: &L) -> u32 {
     match hall.step(()) {
         Some(seat) => PRICES[seat as usize],
@@ -52,7 +62,7 @@ fn sell<L: Latch<Seats>>(hall: &L) -> u32 {
     }
 }
 
-/// Two threads sell a seat each, of one hall.
+/// Sells two seats of one hall, each in a thread of its own.
 pub fn sell_two_seats<R>(rt: R) -> io::Result<()>
 where
     R: Threads + Wait + AllocGlobal + Print + Copy + Send + Sync,

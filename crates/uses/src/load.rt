@@ -8,7 +8,7 @@ use std::sync::Wait;
 use tower::load::{CompleteOnResponse, Constant, Load, PendingRequests};
 use tower::{BlockOnExt, Service};
 
-/// The load is what was said, or the number of the requests whose futures are there still.
+/// Prints two loads: one that was given, and the number of requests whose futures still exist.
 pub fn of_pending_requests<R>(rt: R) -> io::Result<()>
 where
     R: Wait + RandomSource + AllocGlobal + Print + Copy,

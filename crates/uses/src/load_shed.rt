@@ -10,7 +10,7 @@ use tower::BlockOnExt;
 use tower::limit::ConcurrencyLimit;
 use tower::load_shed::LoadShed;
 
-/// A limit that lets nobody in is never ready, so the call is refused at once.
+/// Calls a service under a limit of 0, which is never ready, so that the call is refused at once.
 pub fn refuse<R>(rt: R) -> io::Result<()>
 where
     R: Wait + RandomSource + AllocGlobal + Print + Copy,

@@ -1,4 +1,5 @@
-//! The shortest caller of each middleware that the examples don't show. Each function is proved, and prints a line.
+//! The shortest use of each middleware that the examples don't show. Each function is proved, and prints
+//! what came of its calls.
 #![tactic(auto)]
 
 mod attempt;
@@ -11,6 +12,7 @@ mod latch;
 mod load;
 mod load_shed;
 mod make;
+mod permits;
 mod ready_cache;
 mod reconnect;
 mod select;
@@ -22,7 +24,7 @@ mod within_rate;
 use std::fmt::Display;
 use std::io;
 
-/// Prints what came of a call.
+/// Prints the outcome of a call.
 fn tell<R, T, E>(rt: R, name: &str, answer: Result<T, E>) -> io::Result<()>
 where
     R: Print + Copy,
@@ -54,5 +56,6 @@ fn main(rt: HostRuntime) -> io::Result<()> {
     select::ask_a_backup(rt)?;
     hedge::ask_again(rt)?;
     latch::sell_two_seats(rt)?;
+    permits::hold_three(rt)?;
     within_rate::hold_back(rt)
 }

@@ -13,7 +13,7 @@ use tower::make::Shared;
 use tower::util::FutureService;
 use tower::{BlockOnExt, ServiceExt};
 
-/// A maker that gives a clone of its service, which is called once.
+/// Calls, once, the clone of a service that a `Shared` makes.
 pub fn call_a_clone<R>(rt: R) -> io::Result<()>
 where
     R: Wait + RandomSource + AllocGlobal + Print + Copy,
@@ -24,7 +24,7 @@ where
     }
 }
 
-/// The service comes by a future, and is ready once that is.
+/// Calls a service that a future gives. It is ready once the future is.
 pub fn await_a_service<R>(rt: R) -> io::Result<()>
 where
     R: Wait + RandomSource + AllocGlobal + Print + Copy,

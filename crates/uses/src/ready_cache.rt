@@ -15,10 +15,10 @@ use tower::ready_cache::ReadyCache;
 
 type Pool = ReadyCache<u16, Server, u32>;
 
-/// An answer that is awaited later.
+/// A response that is awaited later.
 type Response = Pollable<Ready<Result<u32, Infallible>>>;
 
-// Asks the endpoints that aren't ready yet, and calls the one of this port if it is ready.
+// Polls the endpoints that aren't ready yet, and calls the one at this port if it is ready.
 fn call(pool: &mut Pool, cx: &mut Context<'_>, port: u16) -> Option<Response> {
     let _ = pool.poll_pending(cx);
     match pool.check_ready(cx, &port) {
@@ -27,7 +27,7 @@ fn call(pool: &mut Pool, cx: &mut Context<'_>, port: u16) -> Option<Response> {
     }
 }
 
-/// The endpoint of one key is called.
+/// Calls the endpoint of one key.
 pub fn call_by_key<R>(rt: R) -> io::Result<()>
 where
     R: Wait + RandomSource + AllocGlobal + Print + Copy,

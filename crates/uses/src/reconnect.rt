@@ -12,12 +12,12 @@ use tower::reconnect::Reconnect;
 use tower::util::Sealed;
 use tower::{BlockOnExt, Service, service_fn};
 
-/// The connection takes nothing more.
+/// The error of a connection that takes no more requests.
 #[derive(Clone, Copy, Debug, thiserror::Error)]
 #[error("closed")]
 struct Closed;
 
-/// Answers one request, which the answer is, and is closed then.
+/// A connection that answers one request with the request itself, and is then closed.
 #[derive(Clone, Copy)]
 struct Connection {
     is_closed: bool,
@@ -43,7 +43,7 @@ impl Service<u32> for Connection {
     }
 }
 
-// Three calls. `Sealed` keeps the service sound through the loop.
+// Makes three calls. `Sealed` keeps the service sound through the loop.
 fn call_three<R, S>(rt: R, service: S) -> io::Result<()>
 where
     R: Wait + RandomSource + AllocGlobal + Print + Copy,
@@ -58,7 +58,7 @@ where
     Ok(())
 }
 
-/// Each call goes over a new connection.
+/// Makes three calls, each over a new connection.
 pub fn connect_again<R>(rt: R) -> io::Result<()>
 where
     R: Wait + RandomSource + AllocGlobal + Print + Copy,

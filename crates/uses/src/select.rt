@@ -12,7 +12,7 @@ use tower::hedge::select::{self, Select};
 use tower::service::SystemClock;
 use tower::{BlockOnExt, service_fn};
 
-/// Each request is made a second time, so many nanoseconds later.
+/// A policy that makes each request a second time, the given number of nanoseconds later.
 #[derive(Clone, Copy)]
 struct After(u64);
 
@@ -28,7 +28,7 @@ impl delay::Policy<u32> for After {
     }
 }
 
-/// The primary doesn't answer, so the backup does, a millisecond later.
+/// Calls a primary that doesn't answer, so that the backup does, a millisecond later.
 pub fn ask_a_backup<R>(rt: R) -> io::Result<()>
 where
     R: Wait + RandomSource + AllocGlobal + Print + std::time::Clock + Copy,

@@ -1,11 +1,11 @@
-//! What the middleware here stand round.
+//! The service that the middleware here wrap.
 
 use futures::future::{Ready, ok};
 use futures::task::{Context, Poll};
 use std::convert::Infallible;
 use tower::Service;
 
-/// Answers each request with its own number, at once.
+/// A server that answers each request with its own number, at once.
 #[derive(Clone, Copy, Debug)]
 pub struct Server(pub u32);
 

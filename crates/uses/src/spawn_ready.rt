@@ -12,7 +12,7 @@ use std::sync::Wait;
 use tower::spawn_ready::SpawnReady;
 use tower::{Service, ServiceExt};
 
-/// Isn't ready at its first poll.
+/// A service that isn't ready at its first poll.
 #[derive(Drop)]
 struct Cold {
     is_warm: bool,
@@ -41,7 +41,7 @@ impl Service<u32> for Cold {
     }
 }
 
-/// The service gets ready in a task of the pool, and is called then.
+/// Calls a service once it has become ready in a task of the pool.
 pub fn warm_up<R>(rt: R) -> io::Result<()>
 where
     R: Wait + RandomSource + AllocGlobal + Print + Copy,

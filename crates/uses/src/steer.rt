@@ -12,7 +12,7 @@ use tower::steer::{Picker, Steer};
 use tower::util::{Either, Optional};
 use tower::{BlockOnExt, service_fn};
 
-/// Even requests go to the first service, odd ones to the last.
+/// A picker that sends even requests to the first service, and odd ones to the last.
 #[derive(Clone, Copy)]
 struct ByParity;
 
@@ -26,7 +26,7 @@ impl<S> Picker<S, u32> for ByParity {
     }
 }
 
-/// A service by a type and one by a closure, in one list.
+/// Calls two services in one list: one of a named type, and one made from a closure.
 pub fn pick<R>(rt: R) -> io::Result<()>
 where
     R: Wait + RandomSource + AllocGlobal + Print + Copy,
@@ -38,7 +38,7 @@ where
     tell(rt, "steer", service.block_on_call(&rt, 3)?)
 }
 
-/// A service that isn't there says so.
+/// Calls a service that isn't there, which returns an error.
 pub fn miss<R>(rt: R) -> io::Result<()>
 where
     R: Wait + RandomSource + AllocGlobal + Print + Copy,

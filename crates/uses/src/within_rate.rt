@@ -1,5 +1,5 @@
-//! A rate limit under layers of the library and one of one's own: whatever is polled, called, dropped or answered, the
-//! calls that reach the server keep to the rate.
+//! A rate limit under layers of the library and a custom one. Whatever is polled, called, dropped or
+//! answered, the calls that reach the server keep to the rate.
 ghost use Rattle.std.specs.Prelude.{IfOk};
 ghost use Rattle.tower_base.specs.Projection.{MappedOrNone, Once, Through};
 ghost use Rattle.tower_base.specs.ProjectionLemmas.{composed_once, forwards};
@@ -25,14 +25,14 @@ use tower::run::Contains;
 use tower::service::{Clock, Monotonic, SystemClock};
 use tower::timeout::{self, Timeout};
 
-/// A layer of one's own: it counts the calls of its service.
+/// A custom layer, which counts the calls of its service.
 #[derive(Drop)]
 struct Counted<S> {
     inner: S,
     calls: u64,
 }
 
-// Contracts see the inner service alone.
+// Contracts see only the inner service.
 impl<S> Model for Counted<S> {
     ghost Value = { S };
 
@@ -66,7 +66,7 @@ impl<Request, S: Service<Request>> Service<Request> for Counted<S> {
     }
 }
 
-// What goes inside: each poll and each call, as it is.
+// Each poll and each call goes inside unchanged.
 impl<Request, Passed, L, S> Contains<Request, Passed, L> for Counted<S>
 where
     L: Service<Passed>,
@@ -81,10 +81,11 @@ where
 
 type Failure<E, P> = timeout::Error<filter::Error<concurrency::Error<E>, P>>;
 
-// A timeout, a filter, a concurrency limit and the layer of one's own over a rate limit.
+// A timeout, a filter, a concurrency limit and the custom layer, over a rate limit.
 type Five<S, C, L, U, D> = Timeout<Filter<ConcurrencyLimit<Counted<RateLimit<S, C>>, L>, U>, D>;
 
-// Drives the five. Of the calls that reach the server at most `num` come in any interval of length `per`, if the limit is new.
+// Drives the five. At most `num` of the calls that reach the server come in any interval of length `per`,
+// if the limit is new.
 fn drive_five<S, C, D, U, L, T>(
     alloc: Global,
     cx: &mut Context<'_>,
@@ -107,7 +108,7 @@ where
     Ok(transcript)
 }
 
-/// Lets even requests through.
+/// A predicate that accepts even requests.
 #[derive(Drop)]
 struct Even;
 
@@ -121,7 +122,7 @@ impl Predicate<u32> for Even {
     }
 }
 
-// How many calls were made.
+// Returns how many calls were made.
 fn calls<A, E>(transcript: &Transcript<A, E, ()>) -> u64 {
     let mut made: u64 = 0;
     for entry in &transcript.entries {
@@ -132,7 +133,7 @@ fn calls<A, E>(transcript: &Transcript<A, E, ()>) -> u64 {
     made
 }
 
-/// Of three calls two reach the server within the hour.
+/// Attempts three calls, two of which reach the server within the hour.
 pub fn hold_back<R>(rt: R) -> io::Result<()>
 where
     R: Wait + RandomSource + AllocGlobal + Print + std::time::Clock + Copy,

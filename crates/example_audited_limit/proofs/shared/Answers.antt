@@ -1,7 +1,7 @@
 use Rattle.std.proofs.Common.{sym, subst, arith}
 use Rattle.std.specs.Result.{IfOk}
-use Rattle.tower_base.specs.Latch.{StepsAs}
-use Rattle.tower_base.specs.History.{IsLegal}
+use Rattle.tower_latch.specs.Latch.{StepsAs}
+use Rattle.tower_latch.specs.History.{IsLegal}
 use Rattle.tower_limit.specs.Line.{LineSteps}
 use Rattle.tower_limit.specs.LineCore.{Opens, StandsFor}
 use Rattle.example_audited_limit.proofs.shared.Goals as goal

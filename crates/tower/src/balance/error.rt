@@ -1,4 +1,4 @@
-//! Why there is no response.
+//! The errors of balancers and their makers.
 
 use std::fmt::Display;
 
@@ -13,7 +13,7 @@ pub enum Error<E, D> {
     /// The discovery's error.
     #[error("load balancer discovery error: {0}")]
     Discover(D),
-    /// There was no memory for one more endpoint. No endpoint is lost.
+    /// Allocation failed for one more endpoint. No endpoint is lost.
     #[error("out of memory")]
     Memory,
 }
@@ -25,7 +25,7 @@ pub enum MakeError<E> {
     /// The maker's own error.
     #[error(transparent)]
     Inner(E),
-    /// The clone of the generator was refused at the call.
+    /// The generator couldn't be cloned at the call.
     #[error("out of memory")]
     Memory,
 }

@@ -1,4 +1,5 @@
-//! The power of two choices: of two endpoints drawn at random the lighter is called. The Rust's `tower::balance::p2c`.
+//! The power of two choices: two endpoints are drawn at random and the lighter is called. The Rust's
+//! `tower::balance::p2c`.
 
 mod choose;
 mod future;

@@ -1,4 +1,4 @@
-//! Why there is no response, and no readiness.
+//! The error of a `SpawnReady`, for responses and readiness.
 
 use std::fmt::Display;
 
@@ -6,13 +6,13 @@ use std::fmt::Display;
 #[derive(Clone, Debug, Drop, PartialEq, Eq, thiserror::Error)]
 #[error_bound(E: Display)]
 pub enum Error<E> {
-    /// The service's own error. One that its task met is the answer to one poll alone.
+    /// The service's own error. If it failed in its task, only one poll returns the error.
     #[error(transparent)]
     Inner(E),
-    /// There was no memory for the task's share of the slot. The service is kept.
+    /// Allocation failed for the task's share of the slot. The service is kept.
     #[error("out of memory")]
     Memory,
-    /// The task failed earlier, or was dropped before the service was ready.
+    /// The service failed in the task earlier, or the task was dropped before the service was ready.
     #[error("service is gone")]
     Gone,
     /// The executor gave the task back. The service is kept.

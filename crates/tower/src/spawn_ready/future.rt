@@ -11,7 +11,8 @@ use std::marker::Model;
 use tower_base::service::Steps;
 use tower_util::util::Fuse;
 
-/// The service's response, which is dropped as it answers, or its error: the Rust's `tower::spawn_ready::future::ResponseFuture`.
+/// The response of a `SpawnReady`, whose error is `Inner`: the Rust's
+/// `tower::spawn_ready::future::ResponseFuture`. The inner future is dropped once it is ready.
 #[derive(Drop)]
 pub struct ResponseFuture<F> {
     response: Fuse<F>,

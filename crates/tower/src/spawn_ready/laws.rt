@@ -1,8 +1,8 @@
-//! What holds of all slots.
+//! What holds for all slots.
 ghost use Rattle.tower.specs.SlotLaws.{ComesFromATask};
 
-/// What holds of every list of steps and replies of a slot: a service that comes back was put there by a
-/// task, and no service was given since.
+/// Proves, for every list of steps and replies of a slot, that a service that comes back was put there by a
+/// task, and that the slot gave no service since.
 pub fn law<S, E>()
     ensures { ComesFromATask S E }
 {}

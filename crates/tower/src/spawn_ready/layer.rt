@@ -1,4 +1,4 @@
-//! What makes a `SpawnReady` of a service.
+//! The layer that makes a `SpawnReady` from a service.
 ghost use Rattle.std.specs.Prelude.{◌≡◌};
 ghost use Rattle.tower.specs.SpawnReady.{Made, view_of};
 
@@ -7,13 +7,14 @@ use crate::spawn_ready::slot_core::SlotCore;
 use std::alloc::{AllocError, Global};
 use std::marker::{Model, PhantomData};
 use std::sync::Wait;
-use tower_base::latch::Guarded;
-use tower_base::latch::held::Viewed;
 use tower_base::layer::Layer;
 use tower_base::service::Service;
+use tower_latch::Guarded;
+use tower_latch::held::Viewed;
 
-/// Gives each service a slot of its own, and a clone of its executor: the Rust's
-/// `tower::spawn_ready::SpawnReadyLayer`. `Request` is what its services are called with.
+/// A layer that makes a `SpawnReady` from each service, with a slot of its own and a clone of the executor:
+/// the Rust's `tower::spawn_ready::SpawnReadyLayer`. `Request` is the type of the requests that its
+/// services take.
 #[derive(Drop)]
 pub struct SpawnReadyLayer<R, X, Request> {
     rt: R,
@@ -29,7 +30,7 @@ impl<R, X, Request> Model for SpawnReadyLayer<R, X, Request> {
 }
 
 impl<R, X, Request> SpawnReadyLayer<R, X, Request> {
-    /// Tasks are handed to clones of this executor.
+    /// Creates a layer whose services spawn their tasks on clones of `executor`.
     pub fn new(rt: R, alloc: Global, executor: X) -> SpawnReadyLayer<R, X, Request>
         ensures { result ≡ executor }
     {
@@ -42,7 +43,7 @@ impl<R, X, Request> SpawnReadyLayer<R, X, Request> {
     }
 }
 
-/// It is refused where the executor's clone is, or there is no memory for the slot.
+/// `layer` fails if the executor can't be cloned, or the slot can't be allocated.
 impl<R, X, Request, S> Layer<S> for SpawnReadyLayer<R, X, Request>
 where
     S: Service<Request>,

@@ -1,4 +1,4 @@
-//! A service that gets ready in a task of its own.
+//! A service that becomes ready in a task of its own.
 ghost use Rattle.std.specs.Prelude.{◌≡◌, IfOk, IfSome, IsSome, IsSomeAnd, None, Some, true, false};
 ghost use Rattle.futures.specs.Task.{IsArmed, Keeps};
 ghost use Rattle.futures.specs.Poll.{OnPending};
@@ -15,20 +15,20 @@ use futures::task::{Context, Poll};
 use std::alloc::{AllocError, Global};
 use std::marker::PhantomData;
 use std::sync::Wait;
-use tower_base::latch::held::Viewed;
-use tower_base::latch::{Guarded, Latch};
 use tower_base::passes::TURNS;
 use tower_base::service::{Executor, Service};
+use tower_latch::held::Viewed;
+use tower_latch::{Guarded, Latch};
 
-/// Hands its service, while that isn't ready, to a task of its own, which drives it to readiness and gives
-/// it back: the Rust's `tower::spawn_ready::SpawnReady`.
+/// A service that passes its inner service, while that isn't ready, to a task of its own: the Rust's
+/// `tower::spawn_ready::SpawnReady`. The task drives the inner service to readiness and gives it back.
 ///
-/// The service that comes back is asked again before a call. An error that the task met is the answer to
-/// one poll, and later ones answer `Gone`; so do those after a task that was dropped. Where the task's
-/// share of the slot is refused (`Memory`), or the executor gives the task back (`NotSpawned`), the service
-/// is kept and the next poll asks it again. A poll makes 64 passes at most, and is then pending with its own
-/// task woken. Dropping it aborts the task, which ends at its next poll.
-// (With a `Model` a generic function couldn't drop it, so clauses say `view_of`.)
+/// A service that comes back is polled again before a call. If it failed in the task, one poll returns its
+/// error, and later polls return `Gone`. They also return `Gone` if the task was dropped. If the task's
+/// share of the slot can't be allocated (`Memory`), or the executor gives the task back (`NotSpawned`), the
+/// service is kept and the next poll polls it again. A poll makes 64 passes at most, and is then pending
+/// with its own task woken. Dropping the `SpawnReady` aborts the task, which ends at its next poll.
+// (A generic function couldn't drop a `SpawnReady` that had a `Model`, so clauses say `view_of`.)
 pub struct SpawnReady<
     S: Service<Request, Error = E>,
     Request,
@@ -50,8 +50,8 @@ where
     X: Drop,
     R: Wait + Copy,
 {
-    /// The service, with a slot behind a lock. For want of memory it answers an error, and service and
-    /// executor are dropped.
+    /// Creates a `SpawnReady` with a slot behind a lock. Returns an error, and drops the service and the
+    /// executor, if allocation fails.
     pub fn new(rt: R, alloc: Global, service: S, executor: X) -> Result<Self, AllocError>
         ensures { IfOk result (λ made. New service executor (view_of made)) }
     {
@@ -59,7 +59,7 @@ where
         Ok(SpawnReady::with_latch(service, executor, latch))
     }
 
-    /// Its layer.
+    /// Creates its layer.
     pub fn layer(rt: R, alloc: Global, executor: X) -> SpawnReadyLayer<R, X, Request>
         ensures { result ≡ executor }
     {
@@ -74,7 +74,7 @@ where
     X: Drop,
     L: Latch<SlotCore<Viewed<S, Request>, E>>,
 {
-    /// The slot is over a latch of the caller's.
+    /// Creates a `SpawnReady` with a slot behind the caller's latch.
     pub fn with_latch(service: S, executor: X, latch: L) -> SpawnReady<S, Request, E, X, L>
         ensures { view_of result ≡ record { service = Some service; is_running = false; executor = executor; latch = latch } }
     {
@@ -88,7 +88,7 @@ where
     }
 }
 
-/// The task, where there is one, is aborted by one step at the latch.
+/// Aborts the task, if there is one, by one step at the latch.
 impl<S, Request, E, X, L> Drop for SpawnReady<S, Request, E, X, L>
 where
     E: Drop,
@@ -159,7 +159,7 @@ where
     X: Executor<ReadyTask<S, Request, E, L>> + Drop,
     L: Latch<SlotCore<Viewed<S, Request>, E>>,
 {
-    // One pass: an answer, or on with the next pass.
+    // Makes one pass. Returns an answer, or `None` to go on with the next pass.
     fn pass(&mut self, cx: &mut Context<'_>) -> Answer<E>
         requires { Sound S.sound X.Executor (view_of self.old) }
         ensures pass { Pass S.Service L.Latch X.Executor (view_of self.old) result (view_of self.new) }
@@ -177,7 +177,7 @@ where
         }
     }
 
-    // Looks for the service, which a task has.
+    // Looks into the slot for the service, which a task has.
     fn look(&mut self, cx: &mut Context<'_>) -> Answer<E>
         requires sound { Sound S.sound X.Executor (view_of self.old) }
         requires away { self.old.service ≡ None }
@@ -186,7 +186,8 @@ where
         ensures armed { IfSome result (λ answer. OnPending answer (IsArmed cx.new)) }
         ensures kept { Keeps cx.old cx.new }
     {
-        match self.latch.wait(SlotStep::Look, cx) {
+        let (reply, _) = self.latch.wait(SlotStep::Look, cx);
+        match reply {
             SlotReply::Waiting => Some(Poll::Pending),
             SlotReply::Unknown => Some(cx.yield_now()),
             SlotReply::Service(viewed) => {
@@ -199,7 +200,7 @@ where
         }
     }
 
-    // Hands the service to a task. The task's share of the slot is made first.
+    // Passes the service to a task. The task's share of the slot is made first.
     fn hand_over(&mut self) -> Answer<E>
         requires sound { Sound S.sound X.Executor (view_of self.old) }
         requires here { IsSome self.old.service }
@@ -217,7 +218,7 @@ where
         self.spawn(service, share)
     }
 
-    // The slot begins to run, unless it runs already.
+    // Starts the slot, unless it runs already.
     fn start(&mut self)
         ensures { Starts S.Service L.Latch X.Executor (view_of self.old) (view_of self.new) }
     {
@@ -227,7 +228,7 @@ where
         }
     }
 
-    // Spawns a task, which puts the service into the slot. That runs by then.
+    // Spawns a task, which puts the service into the slot. The slot already runs.
     fn spawn(&mut self, service: S, share: L) -> Answer<E>
         requires sound { Sound S.sound X.Executor (view_of self.old) }
         requires inner { S.sound service }

@@ -1,12 +1,12 @@
-//! The core of a `SpawnReady` and its tasks.
+//! The core that a `SpawnReady` shares with its tasks.
 ghost use Rattle.std.specs.Prelude.{◌≡◌};
 ghost use Rattle.tower.specs.Slot.{SlotSteps, is_waiting, slot_step};
 
 use std::marker::Model;
 use std::mem;
-use tower_base::latch::Core;
+use tower_latch::Core;
 
-/// What may be asked of a slot.
+/// A step of a slot.
 #[derive(Clone, Copy, Debug, Drop, PartialEq, Eq)]
 pub enum SlotStep<S, E> {
     /// A task is about to have the service.
@@ -21,32 +21,32 @@ pub enum SlotStep<S, E> {
     TaskGone,
     /// Asks whether nobody waits for the service any more.
     Aborted,
-    /// Asks for the service.
+    /// Requests the service.
     Look,
 }
 
-/// What a slot answers.
+/// The reply of a slot to a step.
 #[derive(Clone, Copy, Debug, Drop, PartialEq, Eq)]
 pub enum SlotReply<S, E> {
-    /// It was done.
+    /// The step was made.
     Done,
     /// Nobody waits for this service any more.
     Back(S),
-    /// Whether it is so.
+    /// Whether nobody waits for the service any more.
     Truth(bool),
     /// The task isn't done yet.
     Waiting,
     /// The service, which the task put here.
     Service(S),
-    /// The error that the service met in the task. It is told once.
+    /// The service's error in the task. It is returned once.
     Error(E),
     /// There is neither a service nor a task.
     Lost,
-    /// The step doesn't fit. The slot is as it was.
+    /// The step doesn't fit the slot, which stays as it was.
     Unknown,
 }
 
-/// How far a slot is.
+/// The state of a slot.
 #[derive(Drop)]
 pub enum Slot<S, E> {
     Idle,
@@ -57,7 +57,7 @@ pub enum Slot<S, E> {
     Aborted,
 }
 
-/// The place where a task puts its service once that is ready.
+/// The place into which a task puts its service once that is ready.
 #[derive(Drop)]
 pub struct SlotCore<S, E> {
     slot: Slot<S, E>,
@@ -74,7 +74,7 @@ impl<S, E> Model for SlotCore<S, E> {
 impl<S, E> SlotCore<S, E> {
     ghost use Rattle.tower.specs.declared.spawn_ready.slot_core.Slot.{Slot as SlotCase};
 
-    /// A slot without a task.
+    /// Creates a slot without a task.
     pub fn new() -> SlotCore<S, E>
         ensures { result ≡ SlotCase.Idle }
     {
@@ -89,11 +89,17 @@ impl<S: Drop, E: Drop> Core for SlotCore<S, E> {
 
     type Reply = SlotReply<S, E>;
 
+    ghost use Rattle.tower_latch.specs.LatchLemmas.{none_held, no_places};
+
     ghost opens = { λ slot. slot ≡ SlotCase.Idle };
 
     ghost steps = { SlotSteps };
 
     ghost is_wait = { is_waiting };
+
+    ghost starts = { none_held _ };
+
+    ghost counts = { no_places _ };
 
     fn step(&mut self, step: SlotStep<S, E>) -> SlotReply<S, E> {
         let old = mem::replace(&mut self.slot, Slot::Idle);
@@ -105,9 +111,13 @@ impl<S: Drop, E: Drop> Core for SlotCore<S, E> {
     fn waits(reply: &SlotReply<S, E>) -> bool {
         matches!(reply, SlotReply::Waiting | SlotReply::Truth(false))
     }
+
+    fn capacity(&self) -> usize {
+        0
+    }
 }
 
-// The reply to a step, and the slot after it.
+// Returns the reply to a step, and the slot after it.
 fn transition<S: Drop, E: Drop>(
     old: Slot<S, E>,
     step: SlotStep<S, E>,

@@ -10,16 +10,17 @@ use crate::spawn_ready::slot_core::{SlotCore, SlotReply, SlotStep};
 use futures::future::Future;
 use futures::task::{Context, Poll};
 use std::marker::PhantomData;
-use tower_base::latch::Latch;
-use tower_base::latch::held::Viewed;
 use tower_base::service::{Service, Steps};
+use tower_latch::Latch;
+use tower_latch::held::Viewed;
 
-/// Drives a service to readiness, and puts it into its slot: what the Rust spawns a `ReadyOneshot` for.
+/// A task that drives a service to readiness, and then puts it into its slot. The Rust spawns a
+/// `ReadyOneshot` for this.
 ///
-/// A poll looks whether nobody waits for the service any more, and then polls it once. The task is done
-/// once the service is ready or has failed, or nobody waits for it; then it has neither service nor slot.
-/// One that is dropped earlier tells its slot so.
-// (With a `Model` a generic function couldn't drop it, so clauses say `held_of`.)
+/// A poll first checks whether anybody still waits for the service, and if so polls the service once. The
+/// task is done once the service is ready or has failed, or nobody waits for it; then it has neither the
+/// service nor the slot. If it is dropped earlier, it reports that to its slot.
+// (A generic function couldn't drop a task that had a `Model`, so clauses say `held_of`.)
 pub struct ReadyTask<
     S: Service<Request, Error = E>,
     Request,
@@ -30,7 +31,7 @@ pub struct ReadyTask<
     of: PhantomData<(Request, E)>,
 }
 
-/// What a task has until it is done.
+/// The service and the latch that a task has until it is done.
 #[derive(Drop)]
 pub struct Held<S, L> {
     pub service: S,
@@ -52,7 +53,7 @@ where
         }
     }
 
-    // The service. The slot isn't told.
+    // Returns the service, without a step at the slot.
     pub(crate) fn into_service(mut self) -> S
         requires { IsSome (held_of self) }
         ensures { IfSome (held_of self) (λ held. result ≡ held.service) }
@@ -63,13 +64,15 @@ where
         service
     }
 
-    // Whether nobody waits for the service any more. As long as it isn't so, the task is woken by the abort.
+    // Returns whether nobody waits for the service any more. As long as somebody does, an abort wakes the
+    // task.
     fn is_aborted(latch: &L, cx: &mut Context<'_>) -> bool
         ensures asked { (reply : _) × L.gave latch.now Step.Aborted reply × (result ≡ tells reply) }
         ensures armed { result ≡ false → IsArmed cx.new }
         ensures kept { Keeps cx.old cx.new }
     {
-        match latch.wait(SlotStep::Aborted, cx) {
+        let (reply, _) = latch.wait(SlotStep::Aborted, cx);
+        match reply {
             SlotReply::Truth(true) => true,
             SlotReply::Truth(false) => false,
             _ => {
@@ -79,7 +82,7 @@ where
         }
     }
 
-    // Polls the service once. A look has said that somebody waits for it.
+    // Polls the service once. A check has shown that somebody waits for it.
     fn drive(&mut self, mut service: S, latch: L, cx: &mut Context<'_>) -> Poll<()>
         requires sound { S.sound service }
         requires looked { IsWaitedFor L.Latch latch }
@@ -112,7 +115,7 @@ where
     }
 }
 
-/// One that isn't done tells its slot by one step at the latch.
+/// A task that isn't done reports to its slot, by one step at the latch, that it is gone.
 impl<S, Request, E, L> Drop for ReadyTask<S, Request, E, L>
 where
     E: Drop,

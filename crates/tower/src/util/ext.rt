@@ -1,4 +1,4 @@
-//! Methods of each service.
+//! Methods of every service.
 ghost use Rattle.std.specs.Prelude.{◌≡◌, Some, None, IsSomeAnd, IfOk, OnOk};
 ghost use Rattle.tower_ware.specs.CallAll.{New as Opens};
 ghost use Rattle.tower.specs.Waits.{Waited, Answered, Each};
@@ -17,10 +17,10 @@ use std::random::RandomSource;
 use std::sync::Wait;
 use tower_base::service::{Flow, Service};
 
-/// Methods that each service has: the Rust's `tower::ServiceExt`.
+/// Methods that every service has: the Rust's `tower::ServiceExt`.
 pub trait ServiceExt<Request>: Service<Request> {
-    /// Waits until the service is ready, and gives the borrow of it back. After an error nothing is
-    /// known of the service by this way, and `block_on_ready` knows more.
+    /// Returns a future that waits until the service is ready, and then returns its borrow. After an error
+    /// contracts know nothing of the service; after `block_on_ready` they do.
     final fn ready(&mut self) -> Ready<'_, Self, Request>
     where
         Self: Sized,
@@ -29,7 +29,7 @@ pub trait ServiceExt<Request>: Service<Request> {
         Ready::new(self)
     }
 
-    /// Waits until the service is ready, and gives it back.
+    /// Returns a future that waits until the service is ready, and then returns the service.
     final fn ready_oneshot(self) -> ReadyOneshot<Self, Request>
     where
         Self: Sized,
@@ -38,7 +38,7 @@ pub trait ServiceExt<Request>: Service<Request> {
         ReadyOneshot::new(self)
     }
 
-    /// Waits until the service is ready, and calls it once.
+    /// Returns a future that waits until the service is ready, and then calls it once.
     final fn oneshot(self, request: Request) -> Oneshot<Self, Request>
     where
         Self: Sized,
@@ -47,7 +47,8 @@ pub trait ServiceExt<Request>: Service<Request> {
         Oneshot::new(self, request)
     }
 
-    /// Calls the service with each request of the stream, and yields the answers in their order.
+    /// Returns a stream that calls the service with each request of `requests`, and yields the answers in
+    /// the order of the requests.
     final fn call_all<Q>(
         self,
         alloc: Global,
@@ -61,7 +62,7 @@ pub trait ServiceExt<Request>: Service<Request> {
         CallAll::new(alloc, self, requests)
     }
 
-    /// Lets through the requests that the predicate lets through.
+    /// Passes on only the requests that the predicate accepts.
     final fn filter<F, NewRequest>(self, predicate: F) -> Filter<Self, F>
     where
         Self: Sized,
@@ -71,7 +72,7 @@ pub trait ServiceExt<Request>: Service<Request> {
         Filter::new(self, predicate)
     }
 
-    /// As `filter`, by a predicate that answers later.
+    /// Filters as `filter` does, by a predicate that returns a future.
     final fn filter_async<F, NewRequest>(self, predicate: F) -> AsyncFilter<Self, F>
     where
         Self: Sized,
@@ -162,13 +163,13 @@ where
     T: Service<Request>,
 {}
 
-/// Waits for a borrowed service on the calling thread. Own.
+/// Methods that wait for a borrowed service on the calling thread. The Rust has no such trait.
 ///
-/// It has no bound, and each method asks for a service: by a bound of the trait, or of its impl, what a
-/// call of a method needs would be written out twice.
+/// The trait has no bound; each method requires that `Self` is a service. With a bound on the trait or its
+/// impl, all that a call of a method requires would have to be written out twice.
 pub trait BlockOnExt<Request> {
-    /// Waits on the calling thread until the service is ready, or answers an error: the Rust's
-    /// `service.ready().await`. The outer error says that the executor failed.
+    /// Waits on the calling thread until the service is ready or returns an error: the Rust's
+    /// `service.ready().await`. The outer error means that the executor failed.
     final fn block_on_ready<R>(
         &mut self,
         rt: &R,
@@ -184,9 +185,9 @@ pub trait BlockOnExt<Request> {
         util::block_on_ready(self, rt)
     }
 
-    /// Waits on the calling thread until the service is ready, calls it once, and waits for the
-    /// response: the Rust's `service.ready().await?.call(request).await`. An error of readiness is
-    /// answered, and then no call is made. The outer error says that the executor failed.
+    /// Waits on the calling thread until the service is ready, calls it once, and waits for the response:
+    /// the Rust's `service.ready().await?.call(request).await`. If readiness fails, its error is returned
+    /// and no call is made. The outer error means that the executor failed.
     final fn block_on_call<R>(
         &mut self,
         rt: &R,
@@ -203,8 +204,8 @@ pub trait BlockOnExt<Request> {
         util::block_on_call(self, rt, request)
     }
 
-    /// Calls the service with each of the requests, in order, as `block_on_call` does, and hands each
-    /// answer to the closure before the next call. An answer that is an error ends nothing.
+    /// Calls the service with each of the requests, in order, as `block_on_call` does. Passes each answer
+    /// to the closure before the next call, and goes on after an answer that is an error.
     final fn block_on_each<R, F>(
         &mut self,
         rt: &R,

@@ -1,8 +1,9 @@
-//! Waiting on the calling thread, for a borrowed service and for its responses. Own: the Rust waits by `.await`.
+//! Waiting on the calling thread, for a borrowed service and for its responses. The Rust has no such
+//! functions: it waits by `.await`.
 //!
-//! The thread sleeps between two polls until a waker wakes it. A task that waits for a clock wakes itself:
-//! before it polls such a task again the thread sleeps 50 microseconds at first, twice as long each time, and
-//! 1 millisecond at most. So long another thread's wake may wait meanwhile.
+//! Between two polls the thread sleeps until a waker wakes it. A task that waits for a clock wakes itself.
+//! Before the thread polls such a task again it sleeps for 50 microseconds at first, then twice as long
+//! each time, and 1 millisecond at most. A wake by another thread may be delayed by as much.
 ghost use Rattle.std.specs.Prelude.{IfOk, OnOk};
 ghost use Rattle.tower.specs.Waits.{Waited, Answered, Each};
 
@@ -15,16 +16,16 @@ use std::sync::{Condvar, Wait};
 use std::time::Duration;
 use tower_base::service::{Polled, Service};
 
-/// So many microseconds a thread sleeps at first, and at most.
+/// How many microseconds a thread sleeps at first (`FIRST`), and at most (`LONGEST`).
 const FIRST: u64 = 50;
 
 const LONGEST: u64 = 1_000;
 
-/// Waits until a borrowed service is ready, or answers an error: the Rust's
-/// `service.ready().await`, which leaves the service known here after an error too.
+/// Waits until a borrowed service is ready or returns an error: the Rust's `service.ready().await`.
+/// Contracts know the service after an error too.
 ///
-/// The outer error says that the executor failed, and then the service may have been polled, but never
-/// to an answer.
+/// The outer error means that the executor failed. The service may have been polled then, but each poll was
+/// pending.
 pub fn block_on_ready<S, R, Request>(service: &mut S, rt: &R) -> io::Result<Result<(), S::Error>>
 where
     S: Service<Request>,
@@ -54,8 +55,8 @@ where
 /// Waits until a borrowed service is ready, calls it once, and waits for the response: the Rust's
 /// `service.ready().await?.call(request).await`.
 ///
-/// An error of readiness is answered, and then no call is made. The outer error says that the
-/// executor failed: the service may have been called then, and its response dropped.
+/// If readiness fails, its error is returned and no call is made. The outer error means that the executor
+/// failed. The service may have been called then, and its response dropped.
 pub fn block_on_call<S, R, Request>(
     service: &mut S,
     rt: &R,
@@ -75,10 +76,10 @@ where
     }
 }
 
-/// Calls a borrowed service with each of the requests, in order, as `block_on_call` does, and hands
-/// each answer to the closure before the next call. An answer that is an error ends nothing.
+/// Calls a borrowed service with each of the requests, in order, as `block_on_call` does. Passes each
+/// answer to the closure before the next call, and goes on after an answer that is an error.
 ///
-/// The outer error says that the executor failed, and then the later requests aren't called.
+/// The outer error means that the executor failed. The later requests aren't called then.
 pub fn block_on_each<S, R, Request: Drop, F>(
     service: &mut S,
     rt: &R,
@@ -100,8 +101,8 @@ where
     Ok(())
 }
 
-/// Polls a future on this thread until it answers: the `block_on` of `futures`, which polls all the while
-/// what waits for a clock.
+/// Polls a future on this thread until it is ready. The `block_on` of `futures` does so too, but polls a
+/// future that waits for a clock without sleeping in between.
 pub fn block_on<R, F>(rt: &R, mut future: F) -> io::Result<F::Output>
 where
     R: Wait + RandomSource + AllocGlobal,
@@ -126,8 +127,9 @@ where
     Err(shut_down())
 }
 
-// After a pending poll of a queue's only task. If that is to be polled again already, as a task that wakes itself is, the
-// thread sleeps for so many microseconds. If it isn't, `Queue::next` waits for a waker. It returns how long to sleep next.
+// Rests after a pending poll of a queue's only task. If the task is queued again already, because it woke
+// itself, the thread sleeps for `nap` microseconds. If it isn't, `Queue::next` waits for a waker. Returns
+// how long to sleep next.
 fn rest<R: Wait>(rt: &R, queue: &Queue, nap: u64) -> io::Result<u64> {
     // What was queued first runs first, so this mark comes first only if the task isn't queued.
     let mark = queue.add()?;

@@ -1,4 +1,5 @@
-//! The slab, and the only calls that reach one of its entries. Each reaches one entry at most, and counts one touch.
+//! The slab, and the only calls that reach its entries. Each such call reaches at most one entry, and
+//! counts one touch.
 ghost use Rattle.std.specs.Prelude.{◌≡◌, ◌+◌, ◌≤◌, ◌<◌, [], Some, None, OnOk, IsOk, OnSome, IfNone, length};
 ghost use Rattle.slab.specs.Slab.{get, slab_len, ContainsKey, HasRoomFor, Updates, with_value};
 ghost use Rattle.tower_base.specs.Cells.{place_at, entry, with_place};
@@ -9,21 +10,21 @@ use slab::Slab;
 use std::alloc::{AllocError, Global};
 use std::mem;
 
-/// Where an entry stands: between two others in the order, or outside it.
+/// The place of an entry: between two others in the order, or outside the order.
 #[derive(Clone, Copy, Debug)]
 pub enum Place {
     Linked(Option<usize>, Option<usize>),
     Outside,
 }
 
-/// A value, and where it stands.
+/// A value and its place.
 #[derive(Drop)]
 pub struct Entry<T> {
     pub value: T,
     pub place: Place,
 }
 
-/// The entries. They are reached through these calls alone.
+/// The entries. They are reached only through these calls.
 #[derive(Drop)]
 pub struct Cells<T> {
     slab: Slab<Entry<T>>,
@@ -49,7 +50,7 @@ impl<T> Cells<T> {
         }
     }
 
-    /// Reaches no entry.
+    /// Makes room for `additional` more entries. Reaches no entry.
     pub fn reserve(&mut self, additional: usize) -> Result<(), AllocError>
         ensures room { OnOk result (HasRoomFor self.new.slab additional) }
         ensures succeeds { HasRoomFor self.old.slab additional → IsOk result }
@@ -61,7 +62,7 @@ impl<T> Cells<T> {
         self.slab.reserve(additional)
     }
 
-    /// How many values fit with no allocation. Reaches no entry.
+    /// Returns how many values fit without allocation. Reaches no entry.
     pub fn capacity(&self) -> usize
         ensures value { result ≡ self.now.slab.capacity }
         ensures slots { length self.now.slab.slots ≤ result }
@@ -83,7 +84,7 @@ impl<T> Cells<T> {
         self.slab.insert_reserved(Entry { value, place })
     }
 
-    /// Where the entry stands.
+    /// Returns the place of the entry, if there is one.
     pub fn place(&mut self, key: usize) -> Option<Place>
         ensures place { result ≡ place_at self.old.slab key }
         ensures same { self.new.slab ≡ self.old.slab }
@@ -96,7 +97,7 @@ impl<T> Cells<T> {
         }
     }
 
-    /// The value under the key, if there is one.
+    /// Returns the value under the key, if there is one.
     pub fn get(&mut self, key: usize) -> Option<&T>
         ensures* rests { sem 𝓛 (ends_touched T.row self.entry) }
         ensures value { option_copied result ≡ value_at self.old.slab key }
@@ -108,7 +109,7 @@ impl<T> Cells<T> {
         }
     }
 
-    /// Puts another value in the place of the one under the key, and returns that one.
+    /// Replaces the value under the key, and returns the old one.
     pub fn replace(&mut self, key: usize, value: T) -> T
         requires { ContainsKey self.old.slab key }
         ensures value { (old : Entry T) → get self.old.slab key ≡ Some old → result ≡ old.value }
@@ -122,7 +123,7 @@ impl<T> Cells<T> {
         }
     }
 
-    /// Puts the entry at another place, and returns where it stood.
+    /// Moves the entry to another place, and returns its old place.
     pub fn put(&mut self, key: usize, place: Place) -> Option<Place>
         ensures place { result ≡ place_at self.old.slab key }
         ensures slab { self.new.slab ≡ with_place self.old.slab key (λ _. place) }
@@ -135,7 +136,7 @@ impl<T> Cells<T> {
         }
     }
 
-    /// A linked entry names another key after it.
+    /// Sets the key after the entry, if the entry is linked.
     pub fn set_next(&mut self, key: usize, next: Option<usize>)
         ensures slab { self.new.slab ≡ with_place self.old.slab key (with_next next) }
         ensures touches { self.new.touches.count ≡ self.old.touches.count + 1 }
@@ -149,7 +150,7 @@ impl<T> Cells<T> {
         }
     }
 
-    /// A linked entry names another key before it.
+    /// Sets the key before the entry, if the entry is linked.
     pub fn set_previous(&mut self, key: usize, previous: Option<usize>)
         ensures slab { self.new.slab ≡ with_place self.old.slab key (with_previous previous) }
         ensures touches { self.new.touches.count ≡ self.old.touches.count + 1 }

@@ -1,11 +1,11 @@
-//! What holds of every run.
+//! Laws of every run.
 ghost use Rattle.tower_base.specs.ServiceRun.{RunsMake, relations};
 ghost use Rattle.tower_base.specs.Projection.{DrivesProject, Once, OnceIsSame, Projects};
 
 use crate::run::Contains;
 use crate::service::Service;
 
-/// Every run of `drive` is a run of its service, which makes just the requests whose entries say
+/// Every run of `drive` is a run of its service. That run makes exactly the requests whose entries are
 /// `Called`, in their order.
 pub fn law<Request, S, T, U, O>()
 where
@@ -14,7 +14,8 @@ where
     ensures { RunsMake S.Service S.Future.stepped O.step }
 {}
 
-/// Every run of `drive` is a run of the service inside, which makes there what goes inside for each request.
+/// Every run of `drive` is a run of the service inside. That run makes there what `goes` gives for each
+/// request.
 pub fn inside<Request, Passed, L, W, T, U, O>()
 where
     L: Service<Passed>,
@@ -23,13 +24,13 @@ where
     ensures { DrivesProject W.Service W.Future.stepped O.step (relations L.Service) W.inside W.goes }
 {}
 
-/// Projections compose: what is inside of the service inside is inside.
+/// Projections compose: a service inside of the service inside is itself inside.
 pub fn compose<Request, S: Service<Request>, M: Service<Request>, I: Service<Request>>()
     ensures { (outside : S → M) (inside : M → I) → Projects (relations S.Service) (relations M.Service) outside Once
         → Projects (relations M.Service) (relations I.Service) inside Once → Projects (relations S.Service) (relations I.Service) (λ s. inside (outside s)) Once }
 {}
 
-/// If each request goes inside once, the requests inside are those outside, in their order.
+/// If each request is passed inside once, the inner requests are the outer ones, in their order.
 pub fn once<Request>()
     ensures { OnceIsSame Request }
 {}

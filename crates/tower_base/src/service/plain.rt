@@ -8,8 +8,8 @@ use crate::service::Steps;
 use futures::future::{Future, Pending, Ready};
 use futures::task::{Context, Poll};
 
-// An answer is the value that was put in. (The kit's contract leaves room for a pending poll,
-// after which the future gives no more than before.)
+// The output is the value that was put in. (The kit's contract also allows a pending poll, after which
+// the future may return no more than before.)
 impl<T: Drop> Steps for Ready<T> {
     type Output = T;
 

@@ -1,4 +1,4 @@
-//! Futures by their steps.
+//! Any `Steps` as a `Future`.
 ghost use Rattle.std.specs.Prelude.{◌≡◌};
 ghost use Rattle.futures.specs.Poll.{IfReady, OnPending};
 ghost use Rattle.futures.specs.Task.{Covers, Keeps};
@@ -9,11 +9,11 @@ use futures::future::Future;
 use futures::task::{Context, Poll};
 use std::marker::Model;
 
-/// Any `Steps` as a `Future`: what generic code gives to the kit's executors and combinators in place of
-/// a bare `S::Future`. Contracts see the future that it was made of. The Rust has no such type, since a
-/// response is a `Future` there.
+/// A wrapper that makes any `Steps` a `Future`. Generic code passes it to the kit's executors and
+/// combinators in place of a bare `S::Future`. Contracts see the wrapped future. The Rust has no such
+/// type, since a response is a `Future` there.
 ///
-/// What `block_on` returns is an output that the future may give after some number of pending polls.
+/// `block_on` returns an output that the future may return after some number of pending polls.
 #[derive(Drop)]
 pub struct Polled<F> {
     future: F,
@@ -26,14 +26,14 @@ impl<F> Model for Polled<F> {
 }
 
 impl<F> Polled<F> {
-    /// The future, to be polled by its steps.
+    /// Wraps the future, to be polled by its steps.
     pub fn new(future: F) -> Polled<F>
         ensures { result ≡ future }
     {
         Polled { future }
     }
 
-    /// The future, as the polls left it.
+    /// Returns the wrapped future, as the polls left it.
     pub fn into_inner(self) -> F
         ensures { result ≡ self }
     {

@@ -1,4 +1,4 @@
-//! A future of a clock.
+//! A future that waits for a clock.
 ghost use Rattle.std.specs.Prelude.{◌≡◌, ⊤, ◌+◌};
 ghost use Rattle.futures.specs.Poll.{IfReady, OnPending};
 ghost use Rattle.futures.specs.Task.{Covers, Keeps};
@@ -10,7 +10,7 @@ use futures::future::Future;
 use futures::task::{Context, Poll};
 use std::marker::Model;
 
-/// A future that answers at the first poll whose reading is at or past its deadline: the Rust's
+/// A future that completes at the first poll whose reading is at or past its deadline. It is the Rust's
 /// `tokio::time::Sleep` over a `Clock`.
 #[derive(Drop)]
 pub struct Sleep<C> {
@@ -25,7 +25,7 @@ impl<C> Model for Sleep<C> {
 }
 
 impl<C: Clock> Sleep<C> {
-    /// Reads the clock once. The deadline is so many nanoseconds later.
+    /// Creates a future whose deadline is `wait` nanoseconds after now. Reads the clock once.
     pub fn new(mut clock: C, wait: u64) -> Sleep<C>
         ensures deadline { result.deadline ≡ C.reading result.clock + wait }
         ensures read { C.read clock result.clock }
@@ -40,7 +40,7 @@ impl<C: Clock> Future for Sleep<C> {
 
     ghost gives = { MayGive (Stepped C.Clock) };
 
-    // A pending poll wakes its own waker, whatever source is meant.
+    // A pending poll wakes its own waker, whatever the source.
     ghost needs = { λ _ _. ⊤ };
 
     #[tactic(auto, using(crate::specs::GivesLemmas::one_step))]
@@ -54,7 +54,7 @@ impl<C: Clock> Future for Sleep<C> {
 impl<C: Clock> Steps for Sleep<C> {
     type Output = ();
 
-    // A pending poll wakes its own waker, whatever source is meant.
+    // A pending poll wakes its own waker, whatever the source.
     ghost needs = { λ _ _. ⊤ };
 
     ghost stepped = { Stepped C.Clock };

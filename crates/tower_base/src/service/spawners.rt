@@ -1,12 +1,12 @@
-//! The kit's executors.
+//! `Executor` for the kit's executors.
 ghost use Rattle.std.specs.Prelude.{◌≡◌, IfErr};
 
 use crate::service::Executor;
 use futures::executor::{LocalSpawner, TaskSet};
 use futures::future::Future;
 
-/// A task that is taken runs on the thread that runs the pool. One is given back if the pool is dropped,
-/// or if there is no memory for it.
+/// An accepted task runs on the thread that runs the pool. A task is returned if the pool was dropped,
+/// or if allocation fails.
 impl<F: Future<Output = ()>> Executor<F> for LocalSpawner<F> {
     ghost can_spawn = { λ _ task. F.can_poll task };
 
@@ -20,8 +20,8 @@ impl<F: Future<Output = ()>> Executor<F> for LocalSpawner<F> {
     }
 }
 
-/// A task that is taken runs on the threads that work at the set. One is given back if the set is shut
-/// down, or if there is no memory for it.
+/// An accepted task runs on the threads that work at the set. A task is returned if the set was shut
+/// down, or if allocation fails.
 impl<'a, F: Future<Output = ()>> Executor<F> for &'a TaskSet<F> {
     ghost can_spawn = { λ _ task. F.can_poll task };
 

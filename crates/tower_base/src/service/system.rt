@@ -1,4 +1,4 @@
-//! The machine's own clock.
+//! The computer's own clock.
 ghost use Rattle.std.specs.Prelude.{◌≡◌, IfOk};
 ghost use Rattle.tower_base.specs.SystemClock.{SystemClockView, Read};
 
@@ -7,11 +7,11 @@ use std::marker::Model;
 use std::time::Instant;
 use std::{io, rt};
 
-/// The machine's monotonic clock: a reading is the nanoseconds since it was made. It stands for
-/// tokio's timer.
+/// The computer's monotonic clock. A reading is the number of nanoseconds since the clock was created.
+/// It takes the place of tokio's timer.
 ///
-/// No reading is before the last one. Where the clock can't be read, or is past 2^64 - 1 or before the last
-/// reading, a reading is the last one again.
+/// No reading is before the last one. If the clock can't be read, or is past 2^64 - 1 or before the last
+/// reading, a reading repeats the last one.
 #[derive(Drop)]
 pub struct SystemClock<R> {
     rt: R,
@@ -26,7 +26,7 @@ impl<R> Model for SystemClock<R> {
 }
 
 impl<R: rt::Clock + Copy> SystemClock<R> {
-    /// Read the machine's clock once, and fails where that can't be read.
+    /// Creates the clock. Reads the computer's clock once, and returns an error if that fails.
     pub fn new(rt: R) -> io::Result<SystemClock<R>>
         ensures { IfOk result (λ clock. (clock.rt ≡ rt) × (clock.last ≡ 0)) }
     {

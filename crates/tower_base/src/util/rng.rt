@@ -11,16 +11,16 @@ use std::hash::{BuildHasher, BuildHasherDefault, FoldHasher};
 use std::marker::Model;
 use std::ops::Range;
 
-/// A source of random words: the Rust's `tower::util::rng::Rng`.
+/// A source of random words. It is the Rust's `tower::util::rng::Rng`.
 pub trait Rng: Drop {
-    // A draw may give this word and leave the second value. Left out, any word may come.
+    // A draw may return this word and leave the second value. If this is left out, any word may come.
     ghost drew: { Self → ℕ → Self → Type 0 } = { λ _ _ _. ⊤ };
 
-    /// The next word: all its bits are random.
+    /// Returns the next word. All its bits are random.
     fn next_u64(&mut self) -> u64
         ensures { drew self.old result self.new };
 
-    /// One word, brought below the end by division, and not below the start.
+    /// Returns a number in the range, made from one word by taking the remainder of a division.
     fn next_range(&mut self, range: Range<u64>) -> u64
         requires { range.start < range.end }
         ensures { (word : ℕ) × drew self.old word self.new × (result ≡ word % (range.end - range.start) + range.start) }
@@ -30,8 +30,8 @@ pub trait Rng: Drop {
     }
 }
 
-/// Hashes a counter, which begins at 0 and goes up by one with each word: the Rust's
-/// `tower::util::rng::HasherRng`. A clone goes on from the same counter.
+/// A generator that hashes a counter, which begins at 0 and goes up by one with each word. It is the
+/// Rust's `tower::util::rng::HasherRng`. A clone continues from the same counter.
 #[derive(Drop)]
 pub struct HasherRng<H = BuildHasherDefault<FoldHasher>> {
     hasher: H,
@@ -45,7 +45,7 @@ impl<H> Model for HasherRng<H> {
 }
 
 impl HasherRng {
-    /// Hashes as a `HashMap` does by default, so that each such generator gives the same words.
+    /// Creates a generator with the default hasher of a `HashMap`. All such generators return the same words.
     pub fn new() -> Self
         ensures { New result }
     {
@@ -62,7 +62,7 @@ impl Default for HasherRng {
 }
 
 impl<H> HasherRng<H> {
-    /// Each word is the hash of the counter by a hasher that this builds.
+    /// Creates a generator whose words are hashes of the counter, each by a hasher that `hasher` builds.
     pub fn with_hasher(hasher: H) -> HasherRng<H>
         ensures { result ≡ record { hasher = hasher; counter = 0 } }
     {
@@ -91,11 +91,11 @@ impl<H: BuildHasher + Drop> Rng for HasherRng<H> {
     }
 }
 
-/// Two distinct indexes below the length, by two words: the Rust's `tower::util::rng::sample_floyd2`, which is
-/// private there. It asks for a length of 2 at least.
+/// Returns two distinct indexes below `length`, which is at least 2, from two words. It is the Rust's
+/// `tower::util::rng::sample_floyd2`, which is private there.
 ///
-/// The first word is brought below `length - 1` and the second below `length`. Where both are the same number,
-/// the last index stands in place of the first.
+/// The first word is reduced below `length - 1` and the second below `length`. If both give the same
+/// number, the first index is the last one below `length` instead.
 pub fn sample_floyd2<R: Rng>(rng: &mut R, length: u64) -> [u64; 2]
     requires { 2 ≤ length }
     ensures drawn { Drawn R.drew rng.old length result rng.new }

@@ -9,8 +9,8 @@ use std::convert::Infallible;
 use std::marker::Model;
 use std::vec::IntoIter;
 
-/// Inserts the services of a list under their places, one at each poll, and then ends: the Rust's
-/// `tower::discover::ServiceList`.
+/// A discovery that inserts the services of a list, one at each poll, each under its index, and then
+/// ends: the Rust's `tower::discover::ServiceList`.
 #[derive(Drop)]
 pub struct ServiceList<S> {
     next: usize,
@@ -26,7 +26,7 @@ impl<S> Model for ServiceList<S> {
 }
 
 impl<S> ServiceList<S> {
-    /// The first service has the key 0.
+    /// Creates a discovery of these services. The first one has the key 0.
     pub fn new(services: Vec<S>) -> ServiceList<S>
         ensures { result ≡ record { next = 0; services = services.items } }
     {

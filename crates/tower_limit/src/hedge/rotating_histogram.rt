@@ -12,14 +12,14 @@ use std::alloc::{AllocError, Global};
 use std::marker::Model;
 use std::sync::Wait;
 pub use steps::{HistoReply, HistoStep};
-use tower_base::latch::{Guarded, Latch};
 use tower_base::service::{Clock, Fraction};
+use tower_latch::{Guarded, Latch};
 
-/// How long responses took in the period before this one: the Rust's
+/// A record of how long responses took in the period before the present one: the Rust's
 /// `tower::hedge::rotating_histogram::RotatingHistogram`. Its clones share one core.
 ///
-/// A recorded latency is read in the period after. One that finds no memory, or a period that is full,
-/// is left out. Latencies are kept by the millisecond.
+/// A recorded latency is read in the next period. It is left out if allocation fails, or if that period
+/// is full. Latencies are kept in whole milliseconds.
 #[derive(Drop)]
 pub struct RotatingHistogram<L: Latch<HistoCore>, C> {
     latch: L,
@@ -33,8 +33,8 @@ impl<L: Latch<HistoCore>, C> Model for RotatingHistogram<L, C> {
 }
 
 impl<R: Wait + Copy, C: Clock> RotatingHistogram<Guarded<HistoCore, R>, C> {
-    /// The period is in nanoseconds. It asks for what `fits` tests. The clock is read once, and is
-    /// dropped where there is no memory for the core.
+    /// Creates a histogram with a period in nanoseconds. Requires what `fits` tests. Reads the clock
+    /// once. Returns `AllocError` and drops the clock if allocation fails.
     pub fn new(rt: R, alloc: Global, period: u64, mut clock: C) -> Result<Self, AllocError>
         requires { period ≢ 0 }
         ensures { IfOk result (λ histogram. C.read clock histogram.clock) }
@@ -44,7 +44,7 @@ impl<R: Wait + Copy, C: Clock> RotatingHistogram<Guarded<HistoCore, R>, C> {
         Ok(RotatingHistogram { latch, clock })
     }
 
-    /// The period that `new` asks for: a positive one.
+    /// Returns whether the period is positive, as `new` requires.
     pub fn fits(period: u64) -> bool
         ensures { IsTrue result ↔ (period ≢ 0) }
     {
@@ -53,14 +53,14 @@ impl<R: Wait + Copy, C: Clock> RotatingHistogram<Guarded<HistoCore, R>, C> {
 }
 
 impl<L: Latch<HistoCore>, C: Clock> RotatingHistogram<L, C> {
-    /// A histogram over a latch of the caller's. It makes no reading.
+    /// Creates a histogram over the caller's latch. It doesn't read the clock.
     pub fn with_latch(latch: L, clock: C) -> RotatingHistogram<L, C>
         ensures { result ≡ record { latch = latch; clock = clock } }
     {
         RotatingHistogram { latch, clock }
     }
 
-    /// A latency in milliseconds that is read in the present period.
+    /// Adds a latency in milliseconds, which is read in the present period.
     pub fn seed(&mut self, millis: u64)
         ensures { Seeded L.gave C.Clock self.old millis self.new }
     {
@@ -68,7 +68,7 @@ impl<L: Latch<HistoCore>, C: Clock> RotatingHistogram<L, C> {
         let _reply = self.latch.step(HistoStep::Seed(moment, millis));
     }
 
-    /// Latencies in milliseconds that are read in the present period, one after another.
+    /// Adds latencies in milliseconds, one after another, which are read in the present period.
     pub fn seed_all(&mut self, latencies: &[u64])
         ensures { SeededAll L.gave C.Clock self.old latencies.now self.new }
     {
@@ -77,7 +77,7 @@ impl<L: Latch<HistoCore>, C: Clock> RotatingHistogram<L, C> {
         }
     }
 
-    /// How many latencies are read in the present period.
+    /// Returns how many latencies are read in the present period.
     pub fn points(&mut self) -> u64
         ensures { Counted L.gave C.Clock self.old result self.new }
     {
@@ -88,8 +88,8 @@ impl<L: Latch<HistoCore>, C: Clock> RotatingHistogram<L, C> {
         }
     }
 
-    /// The milliseconds that this part of the latencies of the present period is at or below: 0 where
-    /// there are none.
+    /// Returns the milliseconds that this fraction of the present period's latencies is at or below, or
+    /// 0 if there are no latencies.
     pub fn quantile(&mut self, part: Fraction) -> u64
         ensures { Ranked L.gave C.Clock self.old part result self.new }
     {

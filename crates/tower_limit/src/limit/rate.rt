@@ -1,7 +1,7 @@
 //! A limit on the calls in a time: the Rust's `tower::limit::rate`.
 //!
-//! The moments of the last calls are kept. After so many calls a further one waits until the oldest of
-//! them is a period ago, so each half-open interval as long as the period has at most so many.
+//! It keeps the moments of the last `num` calls. After `num` calls a further one waits until the oldest
+//! of them is a period ago, so each half-open interval as long as the period has at most `num` calls.
 
 mod laws;
 mod layer;

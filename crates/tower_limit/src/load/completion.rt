@@ -10,24 +10,25 @@ use futures::task::{Context, Poll};
 use std::marker::Model;
 use tower_base::service::Steps;
 
-/// Is given the handle of a request with its response, and so tells how long the request is pending: the Rust's
-/// `tower::load::completion::TrackCompletion`.
+/// Takes the handle of a request with its response, and so decides how long the request is pending: the
+/// Rust's `tower::load::completion::TrackCompletion`.
 pub trait TrackCompletion<H, V>: Copy {
     type Output: Drop;
 
-    // What is handed in has it.
+    // Each completion that is passed in has it.
     ghost sound: { Self → Type 0 } = { λ _. ⊤ };
 
     // A handle and a value may give this output.
     ghost tracked: { Self → H → V → Self.Output → Type 0 };
 
-    /// The response that goes outside. The request is pending until the handle is dropped.
+    /// Returns the response for the caller. The request is pending until the handle is dropped.
     fn track_completion(&self, handle: H, value: V) -> Self::Output
         requires { sound self.now }
         ensures { tracked self.now handle value result };
 }
 
-/// A request is pending until its response is there: the Rust's `tower::load::completion::CompleteOnResponse`.
+/// Drops the handle at once, so that a request is pending until its response is there: the Rust's
+/// `tower::load::completion::CompleteOnResponse`.
 #[derive(Clone, Copy, Debug, PartialEq, Eq)]
 pub struct CompleteOnResponse;
 
@@ -48,9 +49,11 @@ impl<H: Drop, V: Drop> TrackCompletion<H, V> for CompleteOnResponse {
     }
 }
 
-/// A response with the handle of its request: the Rust's `tower::load::completion::TrackCompletionFuture`.
+/// The future of a response, with the handle of its request: the Rust's
+/// `tower::load::completion::TrackCompletionFuture`.
 ///
-/// The completion gets the handle with an `Ok`. After an error it is kept until the future is dropped.
+/// On `Ok` the handle is passed to the completion. After an error the future keeps it until the future
+/// is dropped.
 #[derive(Drop)]
 pub struct TrackCompletionFuture<F, C, H> {
     future: F,

@@ -27,7 +27,7 @@ impl<T, M> Model for Constant<T, M> {
 }
 
 impl<T, M: Copy> Constant<T, M> {
-    /// A discovery gives each of its services this load.
+    /// Creates a service or a discovery with this load. A discovery gives it to each of its services.
     pub fn new(inner: T, load: M) -> Constant<T, M>
         ensures { result ≡ record { inner = inner; load = load } }
     {
@@ -71,12 +71,12 @@ impl<Request, S: Service<Request>, M: Copy> Service<Request> for Constant<S, M> 
     }
 }
 
-/// Each call goes inside, once.
+/// States that each call makes one call of the inner service, with the same request.
 pub fn projection<Request, S: Service<Request>, M: Copy>()
     ensures { Projects (relations ⟦<Constant<S, M> as Service<Request>>⟧) (relations S.Service) (λ k. k.inner) Once }
 {}
 
-/// What its inner service contains.
+/// A `Constant` contains what its inner service contains.
 impl<Request, Passed, I, S, M> Contains<Request, Passed, I> for Constant<S, M>
 where
     I: Service<Passed>,

@@ -1,4 +1,4 @@
-//! The load as the number of requests that are pending: the Rust's `tower::load::pending_requests`.
+//! Load as the number of pending requests: the Rust's `tower::load::pending_requests`.
 
 mod count;
 mod count_core;

@@ -1,4 +1,4 @@
-//! Why there is no place, or no response.
+//! The errors of a `Buffer`.
 
 use std::fmt::Display;
 use std::{error, fmt};
@@ -11,7 +11,8 @@ pub struct ServiceError<E> {
     pub error: E,
 }
 
-/// The worker is gone, or the buffer is closed: the Rust's `tower::buffer::error::Closed`.
+/// The error of a `Buffer` that is closed or whose worker is gone: the Rust's
+/// `tower::buffer::error::Closed`.
 #[derive(Clone, Copy, Debug, PartialEq, Eq)]
 pub struct Closed;
 
@@ -30,13 +31,13 @@ pub enum Error<E> {
     /// The error of the call's own future.
     #[error(transparent)]
     Inner(E),
-    /// The service wasn't ready but failed, for this message or an earlier one.
+    /// The service failed to become ready, for this message or an earlier one.
     #[error(transparent)]
     Service(ServiceError<E>),
     /// The buffer is closed without an error, or the message was lost with the worker.
     #[error("buffer's worker closed unexpectedly")]
     Closed,
-    /// There was no memory for a share, a place, or a clone of the service's error.
+    /// Allocation failed for a share, a place, or a clone of the service's error.
     #[error("out of memory")]
     Memory,
     /// The executor gave the worker back.

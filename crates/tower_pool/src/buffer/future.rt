@@ -10,38 +10,32 @@ ghost use Rattle.tower_pool.specs.declared.buffer.error.Error.{Error as BufferEr
 
 use crate::buffer::error::{Error, ServiceError};
 use crate::buffer::mail::{MailReply, MailStep};
-use crate::buffer::mail_core::MailCore;
+use crate::buffer::mail_core::{Mail, waited};
 use crate::buffer::seat::ResponseState;
 use futures::future::Future;
 use futures::task::{Context, Poll};
 use std::marker::{Model, PhantomData};
 use std::mem;
-use tower_base::latch::Latch;
-use tower_base::latch::held::Pollable;
 use tower_base::service::Steps;
+use tower_latch::Latch;
 
-/// The response of a message: the Rust's `tower::buffer::future::ResponseFuture`.
+/// The future of a message's response: the Rust's `tower::buffer::future::ResponseFuture`.
 ///
-/// It waits for the outcome of its message, and polls the inner future in the same poll. One that goes
-/// away before makes the mail forget its message.
-pub struct ResponseFuture<
-    Request: Drop,
-    F: Steps + Drop,
-    E: Clone,
-    L: Latch<MailCore<Request, Pollable<F>, E>>,
-> {
+/// It waits for the outcome of its message, and polls the inner future in the same poll. If it is
+/// dropped before, the mail forgets its message.
+pub struct ResponseFuture<Request: Drop, F: Steps + Drop, E: Clone, L: Latch<Mail<Request, F, E>>> {
     state: ResponseState<L, F, Error<E>>,
     of: PhantomData<(Request, E)>,
 }
 
-impl<Request: Drop, F: Steps + Drop, E: Clone, L: Latch<MailCore<Request, Pollable<F>, E>>> Model
+impl<Request: Drop, F: Steps + Drop, E: Clone, L: Latch<Mail<Request, F, E>>> Model
     for ResponseFuture<Request, F, E, L> {
     ghost Value = { ResponseState L F (BufferError E) };
 
     ghost view = { λ f. f.state };
 }
 
-impl<Request: Drop, F: Steps + Drop, E: Clone, L: Latch<MailCore<Request, Pollable<F>, E>>> Drop
+impl<Request: Drop, F: Steps + Drop, E: Clone, L: Latch<Mail<Request, F, E>>> Drop
     for ResponseFuture<Request, F, E, L> {
     fn drop(self)
         ensures { Forgets L.gave self }
@@ -53,12 +47,12 @@ impl<Request: Drop, F: Steps + Drop, E: Clone, L: Latch<MailCore<Request, Pollab
     }
 }
 
-impl<
-    Request: Drop,
-    F: Steps + Drop,
-    E: Clone,
-    L: Latch<MailCore<Request, Pollable<F>, E>>,
-> ResponseFuture<Request, F, E, L> {
+impl<Request: Drop, F: Steps + Drop, E: Clone, L: Latch<Mail<Request, F, E>>> ResponseFuture<
+    Request,
+    F,
+    E,
+    L,
+> {
     pub(crate) fn sent(latch: L, id: u64) -> Self
         ensures { result ≡ IsSent latch id }
     {
@@ -83,7 +77,7 @@ where
     Request: Drop,
     E: Clone,
     F: Steps<Output = Result<T, E>> + Drop,
-    L: Latch<MailCore<Request, Pollable<F>, E>>,
+    L: Latch<Mail<Request, F, E>>,
 {
     type Output = Result<T, Error<E>>;
 
@@ -107,7 +101,7 @@ where
     Request: Drop,
     E: Clone,
     F: Steps<Output = Result<T, E>> + Drop,
-    L: Latch<MailCore<Request, Pollable<F>, E>>,
+    L: Latch<Mail<Request, F, E>>,
 {
     type Output = Result<T, Error<E>>;
 
@@ -123,7 +117,7 @@ where
             ResponseState::Polls(future) => return carry(future, cx),
             ResponseState::Sent(latch, id) => (latch, *id),
         };
-        match latch.wait(MailStep::Outcome(id), cx) {
+        match waited(latch, MailStep::Outcome(id), cx) {
             MailReply::Waiting(_) => Poll::Pending,
             MailReply::Unknown => cx.yield_now(),
             MailReply::Memory => Poll::Ready(Err(Error::Memory)),
@@ -147,7 +141,7 @@ where
     }
 }
 
-// One poll of the inner future, whose error is `Inner`.
+// Polls the inner future once. Its error becomes `Inner`.
 fn carry<T, E, F>(future: &mut F, cx: &mut Context<'_>) -> Poll<Result<T, Error<E>>>
 where
     F: Steps<Output = Result<T, E>>,

@@ -1,14 +1,15 @@
 //! What holds of all mail.
-ghost use Rattle.tower_base.specs.Latch.{IsRun};
+ghost use Rattle.tower_latch.specs.Latch.{IsRun};
 ghost use Rattle.tower_pool.specs.Mail.{MailSteps};
 ghost use Rattle.tower_pool.specs.Mailbox.{StandsFor};
 ghost use Rattle.tower_pool.specs.MailHistory.{TakenAsSent};
 ghost use Rattle.tower_pool.specs.MailLaws.{EachOnce, FailsAtOnce, InOrder, StaysShut};
 
-/// What holds of every list of steps and replies: each message has one outcome at most and is taken once
-/// at most, in the order of sending; a failure stores the first error, closes, and fails its message, in
-/// one step; and closed mail stays so. What a `MailCore` serves is such a list, and so is the history of
-/// mail that ran under a log, where messages are taken in the order of their sends, each at most once.
+/// States what holds of every list of steps and replies: each message has at most one outcome and is
+/// taken at most once, in the order of sending; a failure stores the first error, closes the mail, and
+/// fails its message, in one step; and closed mail stays closed. What a `MailCore` serves is such a
+/// list, and so is the history of mail that ran under a log, where messages are taken in the order of
+/// their sends, each at most once.
 pub fn law<Request, F, E>()
     ensures follows { IsRun (StandsFor {Q = Request} {F = F} {E = E}) MailSteps }
     ensures once { EachOnce Request F E }

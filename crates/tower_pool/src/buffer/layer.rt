@@ -1,22 +1,22 @@
-//! What puts a `Buffer` before a service.
+//! The layer that puts a `Buffer` before a service.
 ghost use Rattle.std.specs.Prelude.{◌≡◌, ◌<◌};
 ghost use Rattle.tower_pool.specs.Making.{BufferLayerView, ClonesLayer, Tries, Wraps, idle};
 
-use crate::buffer::mail_core::MailCore;
+use crate::buffer::mail_core::{Mail, MailCore};
 use crate::buffer::service::Buffer;
 use crate::buffer::worker::Worker;
 use std::alloc::{AllocError, Global};
 use std::marker::{Model, PhantomData};
 use std::sync::Wait;
-use tower_base::latch::held::Pollable;
-use tower_base::latch::{Core, Guarded, Latch};
 use tower_base::layer::Layer;
 use tower_base::service::{Executor, Service, Steps};
+use tower_latch::{Core, Guarded, Latch};
 
-/// Gives each service a `Buffer` of its own, and its worker to the executor: the Rust's
+/// Gives each service a `Buffer` of its own, and passes its worker to the executor: the Rust's
 /// `tower::buffer::BufferLayer`.
 ///
-/// A worker that the executor gives back is dropped, so the `Buffer` answers as one whose worker is gone.
+/// If the executor gives the worker back, it is dropped. The `Buffer` then behaves as one whose worker
+/// is gone.
 #[derive(Drop)]
 pub struct BufferLayer<Request, E: Clone, X, R> {
     rt: R,
@@ -31,13 +31,13 @@ impl<Request, E: Clone, X, R> Model for BufferLayer<Request, E, X, R> {
 
     ghost view = { λ l. record { bound = l.bound; executor = l.executor } };
 
-    // `Buffer::pair` asks for both.
+    // `Buffer::pair` requires both.
     ghost invariant = { λ l. (0 < l.bound) × ((x y : E) → E.is_clone x y → y ≡ x) };
 }
 
 impl<Request, E: Clone, X, R> BufferLayer<Request, E, X, R> {
-    /// So many places for each service. It asks for what `Buffer::fits` tests, and for errors whose clones
-    /// equal what was cloned.
+    /// Creates a layer with `bound` places for each service. Requires what `Buffer::fits` tests, and
+    /// that a clone of an error equals the error.
     pub fn new(rt: R, alloc: Global, bound: usize, executor: X) -> BufferLayer<Request, E, X, R>
         requires positive { 0 < bound }
         requires same { (x y : E) → E.is_clone x y → y ≡ x }
@@ -53,11 +53,11 @@ impl<Request, E: Clone, X, R> BufferLayer<Request, E, X, R> {
     }
 }
 
-/// What a layer puts a core behind: a lock, for whoever may wait.
+/// Puts a core behind a latch for a layer. Each handle that may wait puts it behind a lock.
 pub trait Guard<C: Core>: Copy {
     type Latch: Latch<C>;
 
-    /// A latch of its own for the core.
+    /// Creates a latch of its own for the core.
     fn guard(self, alloc: Global, core: C) -> Result<Self::Latch, AllocError>
         requires { C.opens core };
 }
@@ -75,10 +75,10 @@ where
     Request: Drop,
     F: Steps + Drop,
     E: Clone,
-    L: Latch<MailCore<Request, Pollable<F>, E>>,
+    L: Latch<Mail<Request, F, E>>,
     S: Service<Request, Error = E, Future = F>,
     X: Executor<Worker<S, Request, F, E, L>>,
-    R: Guard<MailCore<Request, Pollable<F>, E>, Latch = L>,
+    R: Guard<Mail<Request, F, E>, Latch = L>,
 {
     type Service = Buffer<Request, F, E, L>;
 
@@ -95,7 +95,7 @@ where
     }
 }
 
-// Hands the task over. It is dropped where it comes back.
+// Spawns the task, which is dropped if the executor gives it back.
 fn try_spawn<T: Drop, X: Executor<T>>(executor: &X, task: T)
     requires { X.can_spawn executor.now task }
     ensures { Tries X.spawned executor.now task }

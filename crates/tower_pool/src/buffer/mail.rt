@@ -1,17 +1,17 @@
-//! What may be asked of mail, and what it answers.
+//! The steps of mail, and its replies.
 
-/// What may be asked of mail.
+/// A step of a `MailCore`.
 #[derive(Clone, Copy, Debug, PartialEq, Eq, Drop)]
 pub enum MailStep<Request, F, E> {
-    /// There is a `Buffer` more.
+    /// Counts one `Buffer` more.
     Join,
-    /// There is a `Buffer` less.
+    /// Counts one `Buffer` less.
     Part,
-    /// Asks for a place, or to wait for one.
+    /// Reserves a place, or waits for one.
     Reserve,
-    /// Asks whether the place of this key is there. The key ends once it is.
+    /// Checks whether this key has got its place. The key ends once it has.
     Look(u64),
-    /// Gives the wait of this key up, also where its place is there.
+    /// Cancels the wait of this key, even if it has got its place.
     Cancel(u64),
     /// Gives a reserved place back.
     Unreserve,
@@ -19,32 +19,33 @@ pub enum MailStep<Request, F, E> {
     Send(Request),
     /// Takes the oldest message.
     Take,
-    /// Asks whether the response of this taken message is still waited for.
+    /// Checks whether the response of this taken message is still waited for.
     Live(u64),
-    /// The future of this taken message.
+    /// Gives this taken message its future.
     Answer(u64, F),
-    /// The error of the service, which this taken message met.
+    /// Reports the error of the service, which this taken message met.
     Fail(u64, E),
-    /// The stored error is the outcome of this taken message.
+    /// Makes the stored error the outcome of this taken message.
     FailStored(u64),
-    /// Asks for the outcome of this message. Its id ends once there is one.
+    /// Takes the outcome of this message. Its id ends once there is one.
     Outcome(u64),
-    /// Nobody waits for this message any more.
+    /// Reports that nobody waits for this message any more.
     Forget(u64),
-    /// The worker is gone.
+    /// Reports that the worker is gone.
     WorkerGone,
 }
 
-/// What mail answers.
+/// The reply of a `MailCore` to a step.
 #[derive(Clone, Copy, Debug, PartialEq, Eq, Drop)]
 pub enum MailReply<Request, F, E> {
-    /// It was done.
+    /// The step was made.
     Done,
-    /// The asker has reserved a place.
+    /// The caller has reserved a place.
     Place,
-    /// It isn't there yet. The asker waits under this key, or for the outcome of this message.
+    /// There is no place or outcome yet. The caller waits under this key, or for the outcome of this
+    /// message.
     Waiting(u64),
-    /// There is no room, or no further `Buffer`. The mail is as it was.
+    /// There is no room, or no further `Buffer` can be counted. The mail is unchanged.
     Memory,
     /// The service failed, with this error.
     Failed(E),
@@ -52,7 +53,7 @@ pub enum MailReply<Request, F, E> {
     Closed,
     /// The message was sent under this id, which no other message has.
     Sent(u64),
-    /// The message of this id.
+    /// The message of this id was taken, with its request.
     Message(u64, Request),
     /// Only messages that nobody waits for were queued. They were removed.
     Cleared,
@@ -60,7 +61,7 @@ pub enum MailReply<Request, F, E> {
     Empty,
     /// No message is queued, and none will be.
     End,
-    /// Whether it is so.
+    /// Whether the response is still waited for.
     Truth(bool),
     /// Nobody waits for this future.
     Back(F),
@@ -68,6 +69,6 @@ pub enum MailReply<Request, F, E> {
     Future(F),
     /// The message was lost with the worker.
     Lost,
-    /// There is no such key, message or place. The mail is as it was.
+    /// There is no such key, message or place. The mail is unchanged.
     Unknown,
 }

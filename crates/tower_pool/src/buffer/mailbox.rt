@@ -2,7 +2,7 @@
 ghost use Rattle.std.specs.Prelude.{◌≡◌, ◌<◌, ◌≤◌, ◌+◌, ◌^◌, Some, None, true, false};
 ghost use Rattle.slab.specs.Slab.{get};
 ghost use Rattle.tower_base.specs.Order.{first_or};
-ghost use Rattle.tower_limit.specs.WaitQueue.{granted, room, size, waiting};
+ghost use Rattle.tower_latch.specs.WaitQueue.{granted, room, size, waiting};
 ghost use Rattle.tower_pool.specs.MessageSteps.{capacity, len, queued};
 ghost use Rattle.tower_pool.specs.declared.buffer.message.Fate.{Fate};
 ghost use Rattle.tower_pool.specs.declared.buffer.message.Message.{Message};
@@ -10,10 +10,10 @@ ghost use Rattle.tower_pool.specs.declared.buffer.message.Message.{Message};
 use crate::buffer::mail::{MailReply, MailStep};
 use crate::buffer::messages::Messages;
 use std::alloc::{AllocError, Global};
-use tower_limit::wait_queue::{Turn, WaitQueue};
+use tower_latch::wait_queue::{Turn, WaitQueue};
 
-/// The reserved places, the queue of those who wait for places, and the messages that have their ids, which
-/// are their keys.
+/// The reserved places, the queue of those who wait for places, and the messages that still have their
+/// ids, which are their keys.
 ///
 /// Each reserved place and each waiter has room for its message.
 #[derive(Drop)]
@@ -75,7 +75,7 @@ impl<Request, F, E> Mailbox<Request, F, E> {
         MailReply::Done
     }
 
-    // How many places are free.
+    // Returns how many places are free.
     fn free(&self) -> usize
         ensures { result + (self.now.reserved + queued self.now.messages + granted self.now.queue) ≡ self.now.bound }
     {
@@ -107,7 +107,7 @@ impl<Request, F, E> Mailbox<Request, F, E> {
         MailReply::Done
     }
 
-    // Waits, since no place is free. There is room for its message.
+    // Adds a waiter, since no place is free. There is room for its message.
     fn queue_up(&mut self) -> MailReply<Request, F, E>
         requires closed { self.old.closed ≡ false }
         requires full { self.old.bound ≤ self.old.reserved + queued self.old.messages + granted self.old.queue }
@@ -186,7 +186,7 @@ impl<Request: Drop, F, E: Clone> Mailbox<Request, F, E> {
         MailReply::Sent(id)
     }
 
-    // The worker is gone. The place is used up, unless the reply finds no memory.
+    // Refuses the request, since the worker is gone. The place is used up, unless the reply is `Memory`.
     fn refuse(&mut self, request: Request) -> MailReply<Request, F, E>
         requires same { (x y : E) → E.is_clone x y → y ≡ x }
         requires reserved { 0 < self.old.reserved }
@@ -231,7 +231,7 @@ impl<Request: Drop, F: Drop, E: Drop> Mailbox<Request, F, E> {
         MailReply::Empty
     }
 
-    // Whether no further message will be queued.
+    // Returns whether no further message will be queued.
     fn is_over(&self) -> bool
         ensures { result ≡ (nat_eq self.now.reserved 0 && (self.now.closed || nat_eq self.now.buffers 0)) }
     {

@@ -1,25 +1,24 @@
-//! How a `Buffer` and its worker are made.
+//! How a `Buffer` and its worker are created.
 ghost use Rattle.std.specs.Prelude.{◌≡◌, ◌<◌, ◌↔◌, IfOk, IsTrue};
 ghost use Rattle.tower_pool.specs.Making.{Begins, HandsOver, Paired, PairedOver, idle};
 
 use crate::buffer::error::Error;
-use crate::buffer::mail_core::MailCore;
+use crate::buffer::mail_core::{Mail, MailCore};
 use crate::buffer::service::Buffer;
 use crate::buffer::worker::Worker;
 use std::alloc::{AllocError, Global};
 use std::sync::Wait;
-use tower_base::latch::held::Pollable;
-use tower_base::latch::{Guarded, Latch};
 use tower_base::service::{Executor, Service, Steps};
+use tower_latch::{Guarded, Latch};
 
-impl<Request: Drop, F: Steps + Drop, E: Clone, L: Latch<MailCore<Request, Pollable<F>, E>>> Buffer<
+impl<Request: Drop, F: Steps + Drop, E: Clone, L: Latch<Mail<Request, F, E>>> Buffer<
     Request,
     F,
     E,
     L,
 > {
-    /// A `Buffer` and its worker over a latch of the caller's, whose mail nobody has asked yet. Where the
-    /// latch refuses the worker's share, latch and service are dropped.
+    /// Creates a `Buffer` and its worker over the caller's latch, whose mail has served no step yet. If
+    /// the latch refuses the worker's share, returns `AllocError` and drops the latch and the service.
     pub fn with_latch<S>(
         latch: L,
         service: S,
@@ -32,7 +31,7 @@ impl<Request: Drop, F: Steps + Drop, E: Clone, L: Latch<MailCore<Request, Pollab
         Ok((Buffer::away(latch), Worker::idle(share, service)))
     }
 
-    // The executor has the worker.
+    // Creates a `Buffer` and passes its worker to the executor.
     fn begin<S, X>(latch: L, service: S, executor: &X) -> Result<Self, Error<E>>
     where
         S: Service<Request, Error = E, Future = F>,
@@ -46,7 +45,7 @@ impl<Request: Drop, F: Steps + Drop, E: Clone, L: Latch<MailCore<Request, Pollab
         hand_over(executor, worker, buffer)
     }
 
-    /// The bound is one that `pair`, `new` and `BufferLayer::new` take: it isn't 0.
+    /// Returns whether the bound isn't 0, as `pair`, `new` and `BufferLayer::new` require.
     pub fn fits(bound: usize) -> bool
         ensures { IsTrue result ↔ (0 < bound) }
     {
@@ -58,11 +57,11 @@ impl<Request: Drop, F: Steps + Drop, E: Clone, R: Wait + Copy> Buffer<
     Request,
     F,
     E,
-    Guarded<MailCore<Request, Pollable<F>, E>, R>,
+    Guarded<Mail<Request, F, E>, R>,
 > {
-    /// A `Buffer` of so many places and its worker, which the caller drives: the Rust's
-    /// `tower::buffer::Buffer::pair`. It asks for what `fits` tests, and for errors whose clones equal what
-    /// was cloned. Without memory the service is dropped.
+    /// Creates a `Buffer` of `bound` places and its worker, which the caller drives: the Rust's
+    /// `tower::buffer::Buffer::pair`. Requires what `fits` tests, and that a clone of an error equals
+    /// the error. Returns `AllocError` and drops the service if allocation fails.
     pub fn pair<S>(
         rt: R,
         alloc: Global,
@@ -71,7 +70,7 @@ impl<Request: Drop, F: Steps + Drop, E: Clone, R: Wait + Copy> Buffer<
     ) -> Result<
         (
             Self,
-            Worker<S, Request, F, E, Guarded<MailCore<Request, Pollable<F>, E>, R>>,
+            Worker<S, Request, F, E, Guarded<Mail<Request, F, E>, R>>,
         ),
         AllocError,
     >
@@ -79,15 +78,15 @@ impl<Request: Drop, F: Steps + Drop, E: Clone, R: Wait + Copy> Buffer<
         S: Service<Request, Error = E, Future = F>,
         requires positive { 0 < bound }
         requires same { (x y : E) → E.is_clone x y → y ≡ x }
-        ensures { IfOk result (λ made. Paired ⟦<Guarded<MailCore<Request, Pollable<F>, E>, R> as Latch<MailCore<Request, Pollable<F>, E>>>⟧.shares service made.0 made.1) }
+        ensures { IfOk result (λ made. Paired ⟦<Guarded<Mail<Request, F, E>, R> as Latch<Mail<Request, F, E>>>⟧.shares service made.0 made.1) }
     {
         let latch = Guarded::new(rt, alloc, MailCore::new(alloc, bound))?;
         Buffer::with_latch(latch, service)
     }
 
-    /// A `Buffer` of so many places, whose worker the executor has: the Rust's
-    /// `tower::buffer::Buffer::new`. It asks for what `pair` does. Without memory it answers `Memory`, and
-    /// where the executor gives the worker back `NotSpawned`; the service is dropped then.
+    /// Creates a `Buffer` of `bound` places and passes its worker to the executor: the Rust's
+    /// `tower::buffer::Buffer::new`. Requires what `pair` does. Returns `Memory` if allocation fails,
+    /// and `NotSpawned` if the executor gives the worker back. The service is dropped then.
     pub fn new<S, X>(
         rt: R,
         alloc: Global,
@@ -97,11 +96,11 @@ impl<Request: Drop, F: Steps + Drop, E: Clone, R: Wait + Copy> Buffer<
     ) -> Result<Self, Error<E>>
     where
         S: Service<Request, Error = E, Future = F>,
-        X: Executor<Worker<S, Request, F, E, Guarded<MailCore<Request, Pollable<F>, E>, R>>>,
+        X: Executor<Worker<S, Request, F, E, Guarded<Mail<Request, F, E>, R>>>,
         requires positive { 0 < bound }
         requires same { (x y : E) → E.is_clone x y → y ≡ x }
         requires can_spawn { (latch : _) → X.can_spawn executor.now (idle latch service) }
-        ensures { Begins ⟦<Guarded<MailCore<Request, Pollable<F>, E>, R> as Latch<MailCore<Request, Pollable<F>, E>>>⟧.shares X.spawned executor.now service result }
+        ensures { Begins ⟦<Guarded<Mail<Request, F, E>, R> as Latch<Mail<Request, F, E>>>⟧.shares X.spawned executor.now service result }
     {
         let Ok(latch) = Guarded::new(rt, alloc, MailCore::new(alloc, bound)) else {
             return Err(Error::Memory);
@@ -110,7 +109,7 @@ impl<Request: Drop, F: Steps + Drop, E: Clone, R: Wait + Copy> Buffer<
     }
 }
 
-// Hands the task over, and keeps the other value for it. Both are dropped where the task comes back.
+// Spawns the task and returns the other value. Both are dropped if the executor gives the task back.
 fn hand_over<T: Drop, B: Drop, E, X: Executor<T>>(
     executor: &X,
     task: T,

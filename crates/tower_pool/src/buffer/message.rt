@@ -1,4 +1,4 @@
-//! A message that somebody still knows by its id.
+//! A message that is still known by its id.
 ghost use Rattle.std.specs.Prelude.{◌≡◌};
 ghost use Rattle.tower_pool.specs.Messages.{bare, taken_by};
 
@@ -17,7 +17,7 @@ pub enum Fate<F> {
     Lost,
 }
 
-/// A message, under its id. It has its request while it is queued.
+/// A message that is kept under its id. It has its request while it is queued.
 #[derive(Drop)]
 pub struct Message<Request, F> {
     pub request: Option<Request>,
@@ -25,7 +25,7 @@ pub struct Message<Request, F> {
 }
 
 impl<F> Fate<F> {
-    // Without its future.
+    // Returns the fate without its future.
     pub(crate) fn bare(&self) -> Fate<()>
         ensures { result ≡ bare self.now }
     {
@@ -40,7 +40,8 @@ impl<F> Fate<F> {
 }
 
 impl<Request, F> Message<Request, F> {
-    // If the worker holds it unsettled: whether someone still waits. Otherwise `None`.
+    // Returns whether someone still waits, if the worker holds the message unsettled, and otherwise
+    // `None`.
     pub(crate) fn taken(&self) -> Option<bool>
         ensures { result ≡ taken_by self.now.request self.now.fate }
     {

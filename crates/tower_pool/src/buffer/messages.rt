@@ -1,10 +1,10 @@
-//! The messages that somebody still knows by their ids.
+//! The messages that are still known by their ids.
 ghost use Rattle.std.specs.Prelude.{◌≡◌, ◌<◌, ◌≤◌, ◌+◌, ℕ, unwrap_or, Some, None, [], true, false, IsOk, OnOk};
 ghost use Rattle.slab.specs.Slab.{get, slab_len, ContainsKey, Updates};
 ghost use Rattle.tower_base.specs.Order.{has, without, first_or};
 ghost use Rattle.tower_pool.specs.Messages.{Ended, FailsTaken, Fits, fate_at, is_cancelled, is_queued, lost, taken_at};
 ghost use Rattle.tower_pool.specs.Mail.{Tells};
-ghost use Rattle.tower_limit.specs.Waiters.{are_apart};
+ghost use Rattle.tower_latch.specs.Waiters.{are_apart};
 ghost use Rattle.tower_pool.specs.declared.buffer.message.Message.{Message};
 
 use crate::buffer::mail::{MailReply, MailStep};
@@ -14,7 +14,8 @@ use tower_base::links::Links;
 
 type Linked<Request, F> = Links<Message<Request, F>>;
 
-/// The messages that have their ids, which are their keys, and the error that is the outcome of those that failed.
+/// The messages that still have their ids, which are their keys, and the error that is the outcome of
+/// those that failed.
 ///
 /// A queued message is linked in the order of sending, and any other stands outside that order.
 #[derive(Drop)]
@@ -40,28 +41,28 @@ impl<Request, F, E> Messages<Request, F, E> {
         }
     }
 
-    /// How many are queued.
+    /// Returns how many messages are queued.
     pub(crate) fn queued(&self) -> usize
         ensures { result ≡ queued self.now }
     {
         self.links.len()
     }
 
-    /// How many fit with no allocation.
+    /// Returns how many messages fit without an allocation.
     pub(crate) fn capacity(&self) -> usize
         ensures { result ≡ capacity self.now }
     {
         self.links.capacity()
     }
 
-    /// The id of the oldest queued message.
+    /// Returns the id of the oldest queued message.
     pub(crate) fn oldest(&self) -> Option<usize>
         ensures { result ≡ first_or self.now.links.order None }
     {
         self.links.front()
     }
 
-    /// Makes room for so many more.
+    /// Makes room for `additional` more messages.
     pub(crate) fn reserve(&mut self, additional: usize) -> Result<(), AllocError>
         ensures room { OnOk result (len self.new + additional ≤ capacity self.new) }
         ensures succeeds { len self.old + additional ≤ capacity self.old → IsOk result }
@@ -73,7 +74,7 @@ impl<Request, F, E> Messages<Request, F, E> {
         self.links.reserve(additional)
     }
 
-    /// Queues a message behind all others, under the id that it returns.
+    /// Queues a message behind all others and returns its id.
     pub(crate) fn push(&mut self, request: Request) -> u64
         requires { len self.old < capacity self.old }
         ensures follows { Becomes self.old (λ old new. Sends old request result new) self.new }
@@ -89,7 +90,7 @@ impl<Request, F, E> Messages<Request, F, E> {
         id as u64
     }
 
-    /// Whether nobody waits for this message.
+    /// Returns whether nobody waits for this message.
     pub(crate) fn is_cancelled(&mut self, id: usize) -> bool
         ensures cancelled { (message : Message Request F) → get self.old.links.entries id ≡ Some message → result ≡ is_cancelled message.fate }
         ensures order { self.new.links.order ≡ self.old.links.order }
@@ -102,7 +103,7 @@ impl<Request, F, E> Messages<Request, F, E> {
 }
 
 impl<Request, F, E: Clone> Messages<Request, F, E> {
-    /// What a closed mail replies.
+    /// Returns the reply of closed mail.
     pub(crate) fn shut(&self) -> MailReply<Request, F, E>
         requires { (x y : E) → E.is_clone x y → y ≡ x }
         ensures { Tells self.now.stored result }
@@ -218,8 +219,8 @@ impl<Request: Drop, F: Drop, E: Drop> Messages<Request, F, E> {
         MailReply::Done
     }
 
-    /// Returns whether the worker holds this message unsettled. If so, it stores the first error for good, and the message
-    /// fails, or is removed if nobody waits for it.
+    /// Returns whether the worker holds this message unsettled. If so, it stores the first error for
+    /// good, and the message fails, or is removed if nobody waits for it.
     pub(crate) fn fail(&mut self, id: u64, error: E) -> bool
         ensures unknown { result ≡ false → Becomes self.old (λ old new. NoneWith IsTaken old id × (new ≡ old)) self.new × (self.new.stored ≡ self.old.stored) }
         ensures fails { result ≡ true → Becomes self.old (λ old new. Settles Fate.Failed old id new) self.new × (self.new.stored ≡ Some (unwrap_or self.old.stored error)) }
@@ -234,7 +235,8 @@ impl<Request: Drop, F: Drop, E: Drop> Messages<Request, F, E> {
         true
     }
 
-    /// The worker is gone: messages without an outcome are lost, and those that nobody waits for are removed.
+    /// Ends the messages of a worker that is gone. Those without an outcome are lost, and those that
+    /// nobody waits for are removed.
     pub(crate) fn abandon(&mut self)
         ensures follows { Becomes self.old (λ old new. new ≡ abandoned old) self.new }
         ensures queued { queued self.new ≡ 0 }
@@ -267,7 +269,7 @@ impl<Request: Drop, F: Drop, E: Clone> Messages<Request, F, E> {
         }
     }
 
-    // Replies the stored error. If its clone finds no memory, the message stays.
+    // Returns the stored error. If allocation of its clone fails, the message stays.
     fn tell_failure(&mut self, id: u64) -> MailReply<Request, F, E>
         requires same { (x y : E) → E.is_clone x y → y ≡ x }
         requires failed { (message : Message Request F) × (get self.old.links.entries id ≡ Some message) × (message.fate ≡ Fate.Failed) }
@@ -284,7 +286,7 @@ impl<Request: Drop, F: Drop, E: Clone> Messages<Request, F, E> {
         }
     }
 
-    // Replies the future of a message that was answered, or that the message was lost.
+    // Returns the future of a message that was answered, or that the message was lost.
     fn hand_out(&mut self, id: u64) -> MailReply<Request, F, E>
         requires ended { (message : Message Request F) × (get self.old.links.entries id ≡ Some message) × Ended message.fate }
         ensures follows { Follows self.old (MailStep.Outcome id) result self.new }
@@ -301,7 +303,7 @@ impl<Request: Drop, F: Drop, E: Clone> Messages<Request, F, E> {
     }
 }
 
-// If the worker holds this message unsettled: whether someone still waits. Otherwise `None`.
+// Returns whether someone still waits, if the worker holds this message unsettled, and otherwise `None`.
 fn taken<Request, F>(links: &mut Linked<Request, F>, id: usize) -> Option<bool>
     ensures taken { result ≡ taken_at (get links.old.entries id) }
     ensures order { links.new.order ≡ links.old.order }
@@ -311,7 +313,7 @@ fn taken<Request, F>(links: &mut Linked<Request, F>, id: usize) -> Option<bool>
     links.get(id)?.taken()
 }
 
-// What became of this message, without its future.
+// Returns what became of this message, without its future.
 fn fate_of<Request, F>(links: &mut Linked<Request, F>, id: usize) -> Option<Fate<()>>
     ensures fate { result ≡ fate_at (get links.old.entries id) }
     ensures order { links.new.order ≡ links.old.order }
@@ -321,7 +323,7 @@ fn fate_of<Request, F>(links: &mut Linked<Request, F>, id: usize) -> Option<Fate
     Some(links.get(id)?.fate.bare())
 }
 
-// A message that isn't queued.
+// Creates a message that isn't queued.
 fn out<Request, F>(fate: Fate<F>) -> Message<Request, F>
     ensures { result ≡ record { request = None; fate = fate } }
 {
@@ -345,7 +347,8 @@ fn settle<Request: Drop, F: Drop>(links: &mut Linked<Request, F>, id: usize, fat
     links.replace(id, Message { request, fate });
 }
 
-// Returns whether the worker holds this message unsettled. If so, the message fails, or is removed if nobody waits for it.
+// Returns whether the worker holds this message unsettled. If so, the message fails, or is removed if
+// nobody waits for it.
 fn fail_taken<Request: Drop, F: Drop>(links: &mut Linked<Request, F>, id: usize) -> bool
     ensures unknown { result ≡ false → taken_at (get links.old.entries id) ≡ None }
     ensures kept { result ≡ false → (links.new.order ≡ links.old.order) × (links.new.entries ≡ links.old.entries) }

@@ -1,22 +1,22 @@
-//! Where a `Buffer` and its responses are with the mail.
+//! The states of a `Buffer` and of its responses at the mail.
 
-/// Where a `Buffer` sits.
+/// The state of a `Buffer` at the mail.
 #[derive(Clone, Copy, Debug, PartialEq, Eq)]
 pub enum Seat {
-    /// It has asked for nothing.
+    /// It has no place and waits for none.
     Away,
     /// It waits under this key.
     Asking(u64),
-    /// It has a place.
+    /// It has reserved a place.
     Reserved,
 }
 
-/// What a response has.
+/// The state of a response.
 #[derive(Drop)]
 pub enum ResponseState<L, F, E> {
-    /// What the call was told, until it is answered.
+    /// The call failed with this error, which is kept until it is returned.
     Told(Option<E>),
-    /// The message of this id was sent at this share.
+    /// The message of this id was sent at this share of the latch.
     Sent(L, u64),
     /// The inner future.
     Polls(F),

@@ -7,45 +7,40 @@ ghost use Rattle.tower_pool.specs.declared.buffer.seat.Seat.TheVariants.{Away, R
 use crate::buffer::error::{Error, ServiceError};
 use crate::buffer::future::ResponseFuture;
 use crate::buffer::mail::{MailReply, MailStep};
-use crate::buffer::mail_core::MailCore;
+use crate::buffer::mail_core::{Mail, waited};
 use crate::buffer::seat::{ResponseState, Seat};
 use futures::task::{Context, Poll};
 use std::alloc::AllocError;
 use std::marker::{Model, PhantomData};
-use tower_base::latch::Latch;
-use tower_base::latch::held::Pollable;
 use tower_base::service::{Service, Steps};
+use tower_latch::Latch;
 
-/// Sends its requests to a worker, through a bounded queue that its clones share: the Rust's
-/// `tower::buffer::Buffer`.
+/// A service that sends its requests to a worker, through a bounded queue that its clones share: the
+/// Rust's `tower::buffer::Buffer`.
 ///
-/// A poll of readiness reserves a place, after it has made the share of the mail that the response takes
-/// along; with a place it is `Ok` without a step. A call uses the place, and takes no memory while the
-/// worker is there. One that goes away gives up its place or its wait.
-pub struct Buffer<
-    Request: Drop,
-    F: Steps + Drop,
-    E: Clone,
-    L: Latch<MailCore<Request, Pollable<F>, E>>,
-> {
+/// A poll of readiness creates the share of the mail that the response takes along, and then reserves a
+/// place. If a place is reserved already, it returns `Ok` without a step. A call uses the place, and
+/// doesn't allocate while the worker is there. A `Buffer` that is dropped gives its place back or
+/// cancels its wait.
+pub struct Buffer<Request: Drop, F: Steps + Drop, E: Clone, L: Latch<Mail<Request, F, E>>> {
     latch: L,
     seat: Seat,
     share: Option<L>,
     of: PhantomData<(Request, F, E)>,
 }
 
-impl<Request: Drop, F: Steps + Drop, E: Clone, L: Latch<MailCore<Request, Pollable<F>, E>>> Model
+impl<Request: Drop, F: Steps + Drop, E: Clone, L: Latch<Mail<Request, F, E>>> Model
     for Buffer<Request, F, E, L> {
     ghost Value = { BufferView L };
 
     ghost view = { λ b. record { latch = b.latch; seat = b.seat; share = b.share } };
 
-    // With a place reserved, the response's share is there.
+    // If a place is reserved, the response's share is there.
     ghost invariant = { λ b. b.seat ≡ Reserved → IsSome b.share };
 }
 
-/// It gives up its place or its wait, and is one less.
-impl<Request: Drop, F: Steps + Drop, E: Clone, L: Latch<MailCore<Request, Pollable<F>, E>>> Drop
+/// Dropping a `Buffer` gives its place back or cancels its wait, and counts one `Buffer` less.
+impl<Request: Drop, F: Steps + Drop, E: Clone, L: Latch<Mail<Request, F, E>>> Drop
     for Buffer<Request, F, E, L> {
     fn drop(self)
         ensures gives_up { GivesUp L.gave self.latch self.seat }
@@ -76,7 +71,7 @@ where
     T: Drop,
     E: Clone,
     F: Steps<Output = Result<T, E>> + Drop,
-    L: Latch<MailCore<Request, Pollable<F>, E>>,
+    L: Latch<Mail<Request, F, E>>,
 {
     type Response = T;
 
@@ -106,7 +101,7 @@ where
             Seat::Asking(key) => MailStep::Look(key),
             _ => MailStep::Reserve,
         };
-        match self.latch.wait(step, cx) {
+        match waited(&self.latch, step, cx) {
             MailReply::Place => {
                 self.seat = Seat::Reserved;
                 Poll::Ready(Ok(()))
@@ -149,9 +144,9 @@ where
     }
 }
 
-/// A clone shares the mail. It has no place, and waits for none. It is refused if the latch refuses its
+/// A clone shares the mail. It has no place and waits for none. Cloning fails if the latch refuses its
 /// share, or if the mail can't count another `Buffer`.
-impl<Request: Drop, F: Steps + Drop, E: Clone, L: Latch<MailCore<Request, Pollable<F>, E>>> Clone
+impl<Request: Drop, F: Steps + Drop, E: Clone, L: Latch<Mail<Request, F, E>>> Clone
     for Buffer<Request, F, E, L> {
     ghost is_clone = { IsClone L.gave L.shares };
 
@@ -168,13 +163,13 @@ impl<Request: Drop, F: Steps + Drop, E: Clone, L: Latch<MailCore<Request, Pollab
     }
 }
 
-impl<Request: Drop, F: Steps + Drop, E: Clone, L: Latch<MailCore<Request, Pollable<F>, E>>> Buffer<
+impl<Request: Drop, F: Steps + Drop, E: Clone, L: Latch<Mail<Request, F, E>>> Buffer<
     Request,
     F,
     E,
     L,
 > {
-    // It has asked for nothing.
+    // Creates a `Buffer` that has no place and waits for none.
     pub(crate) fn away(latch: L) -> Self
         ensures { result ≡ record { latch = latch; seat = Away; share = None } }
     {

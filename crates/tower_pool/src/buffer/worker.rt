@@ -1,4 +1,4 @@
-//! What takes messages to the service.
+//! The worker of a `Buffer`.
 ghost use Rattle.std.specs.Prelude.{◌≡◌, Some, None, false};
 ghost use Rattle.futures.specs.Poll.{OnPending};
 ghost use Rattle.futures.specs.Task.{IsArmed, Keeps};
@@ -8,24 +8,22 @@ ghost use Rattle.tower_pool.specs.WorkerOrder.{Orderly};
 ghost use Rattle.tower_pool.specs.Worker.{HandsOn, Pass, Serves, Stepped, WorkerView};
 
 use crate::buffer::mail::{MailReply, MailStep};
-use crate::buffer::mail_core::MailCore;
+use crate::buffer::mail_core::{Mail, waited};
 use futures::future::Future;
 use futures::task::{Context, Poll};
 use std::marker::{Model, PhantomData};
-use tower_base::latch::Latch;
-use tower_base::latch::held::Pollable;
 use tower_base::passes::TURNS;
 use tower_base::service::{Service, Steps};
+use tower_latch::Latch;
+use tower_latch::held::Pollable;
 
-/// The core behind the latch of a worker.
-type Mail<Request, F, E> = MailCore<Request, Pollable<F>, E>;
-
-/// Takes one message after another, waits until the service is ready, and calls it: the Rust's
-/// `tower::buffer::Worker`. It is handed to an executor, and ends once no message will come any more.
+/// A future that takes one message after another, waits until the service is ready, and calls it: the
+/// Rust's `tower::buffer::Worker`. It is passed to an executor, and ends once no further message will
+/// come.
 ///
-/// After a failure of the service each message that it takes gets that error. A poll makes `TURNS` passes
-/// at most; then it is pending and has woken its own task. One that goes away loses the messages without
-/// an outcome.
+/// After a failure of the service each message that it takes gets that error. A poll makes at most
+/// `TURNS` passes; then it is pending and has woken its own task. If a worker is dropped, the messages
+/// without an outcome are lost.
 pub struct Worker<
     S: Drop,
     Request: Drop,
@@ -47,7 +45,7 @@ impl<S: Drop, Request: Drop, F: Steps + Drop, E: Clone, L: Latch<Mail<Request, F
     ghost view = { λ w. record { latch = w.latch; service = w.service; message = w.message; has_failed = w.has_failed } };
 }
 
-/// The mail is told that the worker is gone, by one step at the latch.
+/// Dropping a worker reports to the mail that it is gone, by one step at the latch.
 impl<S: Drop, Request: Drop, F: Steps + Drop, E: Clone, L: Latch<Mail<Request, F, E>>> Drop
     for Worker<S, Request, F, E, L> {
     fn drop(self)
@@ -72,7 +70,7 @@ where
     S: Service<Request, Error = E, Future = F>,
     L: Latch<Mail<Request, F, E>>,
 {
-    // It has taken nothing.
+    // Creates a worker that has taken no message.
     pub(crate) fn idle(latch: L, service: S) -> Self
         ensures { result ≡ record { latch = latch; service = service; message = None; has_failed = false } }
     {
@@ -85,7 +83,7 @@ where
         }
     }
 
-    // One pass: none where the next one follows.
+    // Makes one pass. Returns `None` if the next one follows.
     fn pass(&mut self, cx: &mut Context<'_>) -> Option<Poll<()>>
         requires { S.sound self.old.service }
         ensures pass { Pass L.gave S.Service self.old result self.new }
@@ -103,7 +101,7 @@ where
         }
     }
 
-    // No message is at hand.
+    // Makes one pass if no message is kept.
     fn take(&mut self, cx: &mut Context<'_>) -> Option<Poll<()>>
         requires sound { S.sound self.old.service }
         requires none { self.old.message ≡ None }
@@ -112,7 +110,7 @@ where
         ensures armed { result ≡ Some Pending → IsArmed cx.new }
         ensures kept { Keeps cx.old cx.new }
     {
-        match self.latch.wait(MailStep::Take, cx) {
+        match waited(&self.latch, MailStep::Take, cx) {
             MailReply::Message(id, request) => {
                 if self.has_failed {
                     self.latch.step(MailStep::FailStored(id));
@@ -127,7 +125,7 @@ where
         }
     }
 
-    // The service is asked, and called where it is ready.
+    // Polls the service, and calls it if it is ready.
     fn serve(&mut self, id: u64, request: Request, cx: &mut Context<'_>) -> Option<Poll<()>>
         requires sound { S.sound self.old.service }
         requires none { self.old.message ≡ None }
@@ -153,7 +151,7 @@ where
         }
     }
 
-    // The service is called, and the response gets the future.
+    // Calls the service, and gives the future to the mail.
     fn hand_on(&mut self, id: u64, request: Request)
         requires sound { S.sound self.old.service }
         requires ready { S.ready self.old.service }
@@ -164,7 +162,7 @@ where
         self.latch.step(MailStep::Answer(id, Pollable::new(future)));
     }
 
-    // Passes up to an answer.
+    // Makes passes until one returns a result, at most `TURNS`.
     fn passes(&mut self, cx: &mut Context<'_>) -> Poll<()>
         requires { S.sound self.old.service }
         ensures passes { Stepped L.gave S.Service self.old result self.new }

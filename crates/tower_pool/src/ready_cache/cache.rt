@@ -22,13 +22,14 @@ use std::hash::Hash;
 use std::marker::{Model, PhantomData};
 use tower_base::service::Service;
 
-/// Ready endpoints by key, and endpoints that wait to be ready: the Rust's `tower::ready_cache::ReadyCache`.
+/// A cache of ready endpoints by key, and of endpoints that wait to be ready: the Rust's
+/// `tower::ready_cache::ReadyCache`.
 ///
-/// An endpoint is pushed as pending. `poll_pending` asks the pending ones, and those that are ready join the ready
-/// ones. A call makes its endpoint pending again, and so does a check that finds it busy. Of one key there is at
-/// most one ready endpoint and one pending that isn't cancelled.
+/// An endpoint is pushed as pending. `poll_pending` polls the pending endpoints, and those that are
+/// ready join the ready ones. A call makes its endpoint pending again, and so does a check that finds it
+/// busy. Each key has at most one ready endpoint, and at most one pending endpoint that isn't cancelled.
 ///
-/// Keys are asked for clones that equal what was cloned.
+/// A clone of a key must equal the key.
 #[derive(Drop)]
 pub struct ReadyCache<K: Eq + Hash + Clone, S, Req> {
     ready: IndexMap<K, S>,
@@ -48,7 +49,7 @@ impl<K: Eq + Hash + Clone, S, Req> Model for ReadyCache<K, S, Req> {
 }
 
 impl<K: Eq + Hash + Clone + Drop, S: Service<Req>, Req> ReadyCache<K, S, Req> {
-    /// A cache without endpoints. It takes no memory. The Rust's `default`.
+    /// Creates a cache without endpoints: the Rust's `default`. It allocates nothing.
     pub fn new(alloc: Global) -> ReadyCache<K, S, Req>
         requires { (x y : K) → K.is_clone x y → y ≡ x }
         ensures empty { result.lists ≡ record { ready = []; pending = [] } }
@@ -61,21 +62,21 @@ impl<K: Eq + Hash + Clone + Drop, S: Service<Req>, Req> ReadyCache<K, S, Req> {
         }
     }
 
-    /// How many endpoints there are. Cancelled ones count until a poll removes them.
+    /// Returns how many endpoints there are. Cancelled ones are counted until a poll removes them.
     pub fn len(&self) -> usize
         ensures { result ≡ length self.now.lists.ready + length self.now.lists.pending }
     {
         self.ready.len() + self.pending.len()
     }
 
-    /// Whether there is none, not even a cancelled one.
+    /// Returns whether there are no endpoints, not even cancelled ones.
     pub fn is_empty(&self) -> bool
         ensures { IsTrue result ↔ (length self.now.lists.ready + length self.now.lists.pending ≡ 0) }
     {
         self.len() == 0
     }
 
-    /// How many are ready.
+    /// Returns how many endpoints are ready.
     pub fn ready_len(&self) -> usize
         ensures len { result ≡ length self.now.lists.ready }
         ensures distinct { IsDistinct K.eq (keys_of self.now.lists.ready) }
@@ -83,7 +84,7 @@ impl<K: Eq + Hash + Clone + Drop, S: Service<Req>, Req> ReadyCache<K, S, Req> {
         self.ready.len()
     }
 
-    /// How many are pending, cancelled ones among them.
+    /// Returns how many endpoints are pending, including cancelled ones.
     pub fn pending_len(&self) -> usize
         ensures len { result ≡ length self.now.lists.pending }
         ensures apart { Apart K.eq self.now.lists.pending }
@@ -91,14 +92,14 @@ impl<K: Eq + Hash + Clone + Drop, S: Service<Req>, Req> ReadyCache<K, S, Req> {
         self.pending.len()
     }
 
-    /// Whether an endpoint of the key is pending and isn't cancelled.
+    /// Returns whether an endpoint of the key is pending and isn't cancelled.
     pub fn pending_contains(&self, key: &K) -> bool
         ensures { result ≡ awaited K.eq key.now self.now.lists.pending }
     {
         self.pending.awaited(key)
     }
 
-    /// The key's ready endpoint: its index, its key as it was pushed, and its service.
+    /// Returns the key's ready endpoint: its index, the key that it stands under, and its service.
     pub fn get_ready(&self, key: &K) -> Option<(usize, &K, &S)>
         ensures index { option_map (λ p. p.0) result ≡ place K.eq key.now self.now.lists.ready }
         ensures entry { IfSome result (λ p. slice_get self.now.lists.ready p.0 ≡ Some (p.1.now, p.2.now)) }
@@ -106,23 +107,23 @@ impl<K: Eq + Hash + Clone + Drop, S: Service<Req>, Req> ReadyCache<K, S, Req> {
         self.ready.get_full(key)
     }
 
-    /// The ready endpoint at the index.
+    /// Returns the ready endpoint at the index.
     pub fn get_ready_index(&self, index: usize) -> Option<(&K, &S)>
         ensures { option_map deref_pair result ≡ slice_get self.now.lists.ready index }
     {
         self.ready.get_index(index)
     }
 
-    /// The ready endpoints in the order of their indexes.
+    /// Returns an iterator over the ready endpoints, in the order of their indexes.
     pub fn iter_ready(&self) -> IterReady<'_, K, S>
         ensures { result ≡ self.now.lists.ready }
     {
         IterReady::new(self.ready.iter())
     }
 
-    /// Adds a pending endpoint, in the place of an older pending one of its key, which is cancelled. Makes the room in
-    /// which endpoints come back from the ready ones. Where that is refused, it gives back what it was given, and the
-    /// cache stays as it was.
+    /// Adds a pending endpoint and cancels an older pending one of its key. Makes the room in which
+    /// ready endpoints become pending again. If that fails, returns the key and the service, and the
+    /// cache is unchanged.
     pub fn push(&mut self, key: K, service: S) -> Result<(), (K, S)>
         ensures ready { self.new.lists.ready ≡ self.old.lists.ready }
         ensures pending { OnOk result (self.new.lists.pending ≡ cancel K.eq key self.old.lists.pending ++ waiting key service ∷ []) }
@@ -134,8 +135,8 @@ impl<K: Eq + Hash + Clone + Drop, S: Service<Req>, Req> ReadyCache<K, S, Req> {
         self.pending.push(key, service, self.ready.len() + 1)
     }
 
-    /// Cancels the key's pending endpoint and removes its ready one, whose place the last one takes. Answers whether
-    /// there was one.
+    /// Cancels the key's pending endpoint and removes its ready one, whose index the last ready one
+    /// takes. Returns whether there was one of them.
     pub fn evict(&mut self, key: &K) -> bool
         ensures found { result ≡ (awaited K.eq key.now self.old.lists.pending || is_some (lookup (K.eq key.now) self.old.lists.ready)) }
         ensures ready { self.new.lists.ready ≡ swap_remove_entry (K.eq key.now) self.old.lists.ready }
@@ -148,8 +149,8 @@ impl<K: Eq + Hash + Clone + Drop, S: Service<Req>, Req> ReadyCache<K, S, Req> {
         was_pending || was_ready
     }
 
-    // Asks the pending endpoint that waits longest, unless it is cancelled, and puts it last where it waits still. Answers
-    // whether it does.
+    // Polls the pending endpoint that waits longest, unless it is cancelled, and puts it last if it is
+    // still pending. Returns whether it is.
     fn ask(
         ready: &mut IndexMap<K, S>,
         pending: &mut Pending<K, S>,
@@ -189,7 +190,8 @@ impl<K: Eq + Hash + Clone + Drop, S: Service<Req>, Req> ReadyCache<K, S, Req> {
         }
     }
 
-    // Asks each one so, by at most five touches for each one that was pending.
+    // Polls each pending endpoint in this way. It reaches at most five entries for each one that was
+    // pending.
     fn ask_each(
         ready: &mut IndexMap<K, S>,
         pending: &mut Pending<K, S>,
@@ -224,13 +226,15 @@ impl<K: Eq + Hash + Clone + Drop, S: Service<Req>, Req> ReadyCache<K, S, Req> {
         Poll::Ready(Ok(()))
     }
 
-    /// Asks each pending endpoint once, longest waiting first, but drops the cancelled ones unasked.
+    /// Polls each pending endpoint once, longest waiting first, and drops the cancelled ones without
+    /// polling them, until one fails or finds no room.
     ///
-    /// One that is ready goes last among the ready ones, or to the place of its key, whose older endpoint is dropped.
-    /// One that fails leaves, and the poll stops with its error. `Memory` comes before an endpoint is asked, where there
-    /// is no room for one more ready one; that endpoint is pending still. After `Ok` none is left, and after pending
-    /// each one left was asked in this poll. It reaches five entries of the pending ones' slab at most for each endpoint
-    /// that was pending as it began.
+    /// An endpoint that is ready goes to the end of the ready ones, or takes the index of an older one
+    /// of its key, which is dropped. An endpoint that fails leaves the cache, and the poll stops with
+    /// its error. If there is no room for one more ready endpoint, the poll stops with `Memory` before
+    /// it polls the next endpoint, which is still pending. After `Ok` no endpoint is pending. After
+    /// `Pending` each pending endpoint was polled in this poll. The poll reaches at most five entries of
+    /// the slab of pending endpoints for each endpoint that was pending when it began.
     pub fn poll_pending(&mut self, cx: &mut Context<'_>) -> Poll<Result<(), Error<K, S::Error>>>
         requires { Sound S.sound self.old.lists }
         ensures polled { PendingPolled K.eq S.Service self.old.lists result self.new.lists }
@@ -243,8 +247,9 @@ impl<K: Eq + Hash + Clone + Drop, S: Service<Req>, Req> ReadyCache<K, S, Req> {
         Self::ask_each(&mut self.ready, &mut self.pending, cx)
     }
 
-    /// Asks the key's ready endpoint whether it is still ready. `Ok(false)` where the key has none. One that isn't ready
-    /// any more becomes pending, unless a newer one of its key is, where it is dropped; a failed one leaves.
+    /// Polls the key's ready endpoint and returns whether it is still ready, or `Ok(false)` if the key
+    /// has none. An endpoint that isn't ready any more becomes pending, or is dropped if a newer one of
+    /// its key is pending. An endpoint that fails leaves the cache.
     pub fn check_ready(
         &mut self,
         cx: &mut Context<'_>,
@@ -263,9 +268,10 @@ impl<K: Eq + Hash + Clone + Drop, S: Service<Req>, Req> ReadyCache<K, S, Req> {
         }
     }
 
-    /// Asks the ready endpoint at the index whether it is still ready. `Ok(false)` past the end. One that isn't ready any
-    /// more becomes pending, unless a newer one of its key is, where it is dropped; a failed one leaves. The last one takes
-    /// the place of one that leaves.
+    /// Polls the ready endpoint at the index and returns whether it is still ready, or `Ok(false)` if
+    /// the index is past the end. An endpoint that isn't ready any more becomes pending, or is dropped
+    /// if a newer one of its key is pending. An endpoint that fails leaves the cache. The last ready
+    /// endpoint takes the index of one that leaves the ready ones.
     pub fn check_ready_index(
         &mut self,
         cx: &mut Context<'_>,
@@ -298,8 +304,8 @@ impl<K: Eq + Hash + Clone + Drop, S: Service<Req>, Req> ReadyCache<K, S, Req> {
         }
     }
 
-    /// Calls the key's ready endpoint, which then becomes pending, unless a newer one of its key is, where it is dropped.
-    /// `check_ready` answers whether the key has an endpoint that may be called.
+    /// Calls the key's ready endpoint, which then becomes pending, or is dropped if a newer one of its
+    /// key is pending. `check_ready` returns whether the key has an endpoint that may be called.
     pub fn call_ready(&mut self, key: &K, request: Req) -> S::Future
         requires sound { Sound S.sound self.old.lists }
         requires ready { AtKey K.eq key.now self.old.lists.ready (λ index. At self.old.lists.ready index (λ e. S.ready e.1)) }
@@ -312,8 +318,9 @@ impl<K: Eq + Hash + Clone + Drop, S: Service<Req>, Req> ReadyCache<K, S, Req> {
         self.call_ready_index(index, request)
     }
 
-    /// Calls the ready endpoint at the index, which then becomes pending, unless a newer one of its key is, where it is
-    /// dropped. The last one takes its place. `check_ready_index` answers whether an endpoint may be called.
+    /// Calls the ready endpoint at the index, which then becomes pending, or is dropped if a newer one
+    /// of its key is pending. The last ready endpoint takes its index. `check_ready_index` returns
+    /// whether an endpoint may be called.
     pub fn call_ready_index(&mut self, index: usize, request: Req) -> S::Future
         requires sound { Sound S.sound self.old.lists }
         requires ready { At self.old.lists.ready index (λ e. S.ready e.1) }
@@ -334,7 +341,7 @@ impl<K: Eq + Hash + Clone + Drop, S: Service<Req>, Req> ReadyCache<K, S, Req> {
     ghost use Rattle.std.specs.Option.{option_copied_mut};
     ghost use Rattle.tower_pool.specs.ReadyCacheLends.{LendsReady};
 
-    /// The service of the key's ready endpoint, to be changed.
+    /// Returns the service of the key's ready endpoint as a mutable reference.
     pub fn get_ready_mut(&mut self, key: &K) -> Option<&mut S>
         ensures* writes_back { sem 𝓛 (LendsReady K.row S.row Req.row K.Hash K.Clone self.entry (place K.eq key.now self.old.lists.ready) result) }
         ensures value { option_copied_mut result ≡ lookup (K.eq key.now) self.old.lists.ready }
@@ -343,7 +350,7 @@ impl<K: Eq + Hash + Clone + Drop, S: Service<Req>, Req> ReadyCache<K, S, Req> {
         self.ready.get_index_mut(index)
     }
 
-    /// The service of the ready endpoint at the index, to be changed.
+    /// Returns the service of the ready endpoint at the index as a mutable reference.
     pub fn get_ready_index_mut(&mut self, index: usize) -> Option<&mut S>
         ensures* writes_back { sem 𝓛 (LendsReady K.row S.row Req.row K.Hash K.Clone self.entry (Some index) result) }
         ensures value { option_copied_mut result ≡ option_map (λ e. e.1) (slice_get self.old.lists.ready index) }

@@ -1,4 +1,4 @@
-//! The ready endpoints, one after another.
+//! An iterator over the ready endpoints.
 ghost use Rattle.std.specs.Prelude.{◌≡◌, length};
 ghost use Rattle.std.specs.Iterator.{at_most};
 ghost use Rattle.std.specs.Map.Iter.{TakesFirst, deref_pair};
@@ -6,7 +6,8 @@ ghost use Rattle.std.specs.Map.Iter.{TakesFirst, deref_pair};
 use indexmap::map::Iter;
 use std::marker::Model;
 
-/// The ready endpoints of a cache in the order of their indexes. It ends after the last one.
+/// An iterator over the ready endpoints of a cache, in the order of their indexes. It ends after the
+/// last one.
 #[derive(Drop)]
 pub struct IterReady<'a, K, S> {
     entries: Iter<'a, K, S>,

@@ -15,9 +15,10 @@ use tower_base::links::Links;
 /// A pending endpoint: its key, its service, and whether it is cancelled.
 type Endpoint<K, S> = (K, S, bool);
 
-/// Pending endpoints, longest waiting first, and a place for each key. All but the last stand in a slab, and the place
-/// names the key's endpoint there that waits and isn't cancelled, if there is one. The last may stand beside the slab with
-/// whether it is cancelled. No call searches. A cancelled one is dropped at the next poll, and isn't asked.
+/// Pending endpoints, longest waiting first, and a place for each key. All but the last are stored in a
+/// slab. A key's place names the key's endpoint in the slab that isn't cancelled, if there is one. The
+/// last may be stored beside the slab, with whether it is cancelled. No call searches. A poll
+/// that comes to a cancelled endpoint drops it without polling it.
 #[derive(Drop)]
 pub(crate) struct Pending<K: Eq + Hash, S> {
     entries: Links<(K, S)>,
@@ -41,7 +42,7 @@ impl<K: Eq + Hash, S> Model for Pending<K, S> {
     ghost invariant = { λ w. Stands K.eq w.places.entries w.entries w.last };
 }
 
-// The key's place names no entry any more, where it names this one. Answers whether it does.
+// Clears the key's place if it names this entry. Returns whether it did.
 fn release<K: Eq + Hash>(places: &mut IndexMap<K, Option<usize>>, key: &K, entry: usize) -> bool
     ensures named { result ≡ names entry (lookup (K.eq key.now) places.old.entries) }
     ensures released { result ≡ true → (q : K) → lookup (K.eq q) places.new.entries ≡ cond (K.eq key.now q) (Some None) (lookup (K.eq q) places.old.entries) }
@@ -53,7 +54,7 @@ fn release<K: Eq + Hash>(places: &mut IndexMap<K, Option<usize>>, key: &K, entry
     }
 }
 
-// Cancels one that is the key's. Answers whether it wasn't cancelled yet.
+// Cancels the endpoint if it is the key's. Returns whether it was the key's and wasn't cancelled yet.
 fn cancel<K: Eq, S>(last: &mut Option<Endpoint<K, S>>, key: &K) -> bool
     ensures found { result ≡ awaited K.eq key.now (last_of last.old) }
     ensures marked { last.new ≡ marked K.eq key.now last.old }
@@ -79,7 +80,7 @@ impl<K: Eq + Hash + Clone + Drop, S: Drop> Pending<K, S> {
         }
     }
 
-    /// How many there are, cancelled ones among them.
+    /// Returns how many endpoints there are, including cancelled ones.
     pub(crate) fn len(&self) -> usize
         ensures len { result ≡ length self.now.items }
         ensures small { self.now.room < 2 ^ 64 }
@@ -87,7 +88,7 @@ impl<K: Eq + Hash + Clone + Drop, S: Drop> Pending<K, S> {
         self.entries.len() + usize::from(self.last.is_some())
     }
 
-    /// Whether an endpoint of the key is pending and isn't cancelled.
+    /// Returns whether an endpoint of the key is pending and isn't cancelled.
     pub(crate) fn awaited(&self, key: &K) -> bool
         ensures { result ≡ awaited K.eq key.now self.now.items }
     {
@@ -95,8 +96,8 @@ impl<K: Eq + Hash + Clone + Drop, S: Drop> Pending<K, S> {
             || self.entries.len() > 0 && matches!(self.places.get(key), Some(Some(_)))
     }
 
-    /// Puts one last, beside the slab. One that stood there goes into the slab, and the place of its key names it, unless it
-    /// is cancelled.
+    /// Puts an endpoint last, beside the slab. The one that was there moves into the slab, and the place
+    /// of its key names it, unless it is cancelled.
     #[inline(always)]
     pub(crate) fn append(&mut self, last: Endpoint<K, S>)
         requires room { length self.old.items < self.old.room }
@@ -117,7 +118,8 @@ impl<K: Eq + Hash + Clone + Drop, S: Drop> Pending<K, S> {
         }
     }
 
-    // Makes room for so many more, and then gives the key a place that names no endpoint. The key's endpoint is cancelled.
+    // Makes room for `more` endpoints, and then gives the key a place that names no endpoint, and
+    // cancels the key's endpoint.
     fn make_room(&mut self, key: &K, more: usize) -> Option<()>
         requires apart { Apart K.eq self.old.items }
         requires clones { (x y : K) → K.is_clone x y → y ≡ x }
@@ -135,7 +137,8 @@ impl<K: Eq + Hash + Clone + Drop, S: Drop> Pending<K, S> {
         Some(())
     }
 
-    /// Takes the first one out: its key, which keeps its place, its service, and whether it is cancelled.
+    /// Removes the first endpoint. Returns its key, which keeps its place, its service, and whether it
+    /// is cancelled.
     #[inline(always)]
     pub(crate) fn take_first(&mut self) -> Option<Endpoint<K, S>>
         ensures items { self.old.items ≡ option_map_or (λ e. entry_of e ∷ self.new.items) result [] }
@@ -153,7 +156,7 @@ impl<K: Eq + Hash + Clone + Drop, S: Drop> Pending<K, S> {
         Some((key, service, is_cancelled))
     }
 
-    /// So many times the first one goes last.
+    /// Moves the first endpoint to the end, `count` times.
     pub(crate) fn rotate(&mut self, count: usize)
         requires apart { Apart K.eq self.old.items }
         requires fits { length self.old.items ≤ self.old.room }
@@ -169,7 +172,8 @@ impl<K: Eq + Hash + Clone + Drop, S: Drop> Pending<K, S> {
         }
     }
 
-    /// Cancels the key's endpoint and ends the key's place. Answers whether there was one.
+    /// Cancels the key's endpoint and removes the key's place. Returns whether there was such an
+    /// endpoint.
     pub(crate) fn evict(&mut self, key: &K) -> bool
         requires apart { Apart K.eq self.old.items }
         ensures found { result ≡ awaited K.eq key.now self.old.items }
@@ -181,7 +185,7 @@ impl<K: Eq + Hash + Clone + Drop, S: Drop> Pending<K, S> {
         matches!(self.places.swap_remove(key), Some(Some(_))) | cancel(&mut self.last, key)
     }
 
-    /// Ends the key's place, unless it names an endpoint or the key is ready.
+    /// Removes the key's place, unless an endpoint of the key waits or the key is ready.
     pub(crate) fn let_go(&mut self, key: &K, is_ready: bool)
         ensures items { self.new.items ≡ self.old.items }
         ensures knows { (k : K) → knows K.eq self.new k ≡ (knows K.eq self.old k && not (K.eq key.now k && not (is_ready || awaited K.eq key.now self.old.items))) }
@@ -193,7 +197,7 @@ impl<K: Eq + Hash + Clone + Drop, S: Drop> Pending<K, S> {
         }
     }
 
-    /// An endpoint that was ready becomes pending, unless a newer one of its key is, where it is dropped.
+    /// Makes an endpoint that was ready pending again, or drops it if a newer one of its key is pending.
     pub(crate) fn put_back(&mut self, key: K, service: S)
         requires room { length self.old.items < self.old.room }
         requires known { knows K.eq self.old key ≡ true }
@@ -207,8 +211,8 @@ impl<K: Eq + Hash + Clone + Drop, S: Drop> Pending<K, S> {
         }
     }
 
-    /// Adds one, in the place of an older one of its key, which is cancelled. Makes room for so many in all. Where that is
-    /// refused, it gives back what it was given, and nothing else has changed.
+    /// Adds an endpoint and cancels an older one of its key. Makes room for `more` endpoints, this one
+    /// included. If that fails, returns the key and the service, and nothing else has changed.
     pub(crate) fn push(&mut self, key: K, service: S, more: usize) -> Result<(), (K, S)>
         requires apart { Apart K.eq self.old.items }
         requires some { 0 < more }

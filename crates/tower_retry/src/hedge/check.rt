@@ -14,13 +14,14 @@ use std::marker::Model;
 use std::mem;
 use tower_base::service::Steps;
 
-/// The request at once, or nothing ever.
+/// A future that returns the request at once, or is pending forever.
 #[derive(Drop)]
 pub struct CheckFuture<Request> {
     state: CheckState<Request, Pending<()>>,
 }
 
-/// The request until it is given away, or what is never ready.
+/// The state of a `CheckFuture`: the request, nothing once it was returned, or a future that is never
+/// ready.
 #[derive(Drop)]
 pub(crate) enum CheckState<Request, N> {
     Passed(Request),

@@ -1,4 +1,4 @@
-//! Calls that wait: the Rust's `tower::hedge::delay`.
+//! Delayed calls: the Rust's `tower::hedge::delay`.
 ghost use Rattle.std.specs.Prelude.{◌≡◌, ⊤, Ok};
 ghost use Rattle.futures.specs.declared.task.Poll.TheVariants.{Ready};
 ghost use Rattle.tower_retry.specs.Delay.{DelayView, Called};
@@ -17,9 +17,11 @@ use std::marker::Model;
 use tower_base::service::{Clock, Service, Sleep};
 use tower_util::util::Oneshot;
 
-/// Makes each call later, by a clone of its service: the Rust's `tower::hedge::delay::Delay`.
+/// A service that makes each call after a delay, with a clone of its service: the Rust's
+/// `tower::hedge::delay::Delay`.
 ///
-/// It is always ready: the clone's readiness is polled after the delay. The clock is handed in.
+/// It is always ready: the clone's readiness is polled after the delay. The clock is passed to the
+/// constructor.
 #[derive(Drop)]
 pub struct Delay<P, S, C> {
     policy: P,
@@ -34,7 +36,7 @@ impl<P, S, C> Model for Delay<P, S, C> {
 }
 
 impl<P, S, C> Delay<P, S, C> {
-    /// The policy says how long each call waits. Nothing is read of the clock here.
+    /// Creates a `Delay`. The policy decides how long each call waits. Doesn't read the clock.
     pub fn new(policy: P, service: S, clock: C) -> Delay<P, S, C>
         ensures { result ≡ record { policy = policy; service = service; clock = clock } }
     {
@@ -74,8 +76,8 @@ where
         Poll::Ready(Ok(()))
     }
 
-    /// The delay begins here. Where no clone of the service is had for want of memory, nothing is
-    /// called, and the answer is `Memory`.
+    /// Begins the delay. If allocating a clone of the service fails, nothing is called, and the returned
+    /// future resolves to `Memory`.
     fn call(&mut self, request: Request) -> Self::Future {
         let delay = self.policy.delay(&request);
         let sleep = Sleep::new(self.clock.share(), delay);

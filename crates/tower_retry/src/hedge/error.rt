@@ -1,4 +1,4 @@
-//! Why there is no response.
+//! The error of a `Hedge`.
 use std::fmt::Display;
 
 /// The error of a `Hedge`, in place of the Rust's boxed one.
@@ -8,7 +8,7 @@ pub enum Error<E> {
     /// The inner service's own error, of the first call or of the second.
     #[error(transparent)]
     Inner(E),
-    /// There was no memory for a clone of the service, which the second call needs.
+    /// A clone that the second call needs was refused.
     #[error("out of memory")]
     Memory,
 }

@@ -1,4 +1,4 @@
-//! The one error of a hedge.
+//! A service with the one error of a hedge.
 ghost use Rattle.std.specs.Prelude.{◌≡◌};
 ghost use Rattle.tower_base.specs.AnswersLemmas.{answered_ok};
 ghost use Rattle.tower_retry.specs.Hedge.{Polled, flat};
@@ -12,7 +12,7 @@ use tower_base::service::Service;
 use tower_ware::filter;
 
 /// A nest of services, with the one error of a hedge in place of its own: `Inner` for an error of the
-/// service itself, on either side, and `Memory` for a clone that was refused.
+/// service itself, on either side, and `Memory` if cloning failed.
 #[derive(Drop)]
 pub struct Flat<N> {
     inner: N,

@@ -1,4 +1,4 @@
-//! The response of a `Hedge`.
+//! The future of a `Hedge`.
 ghost use Rattle.std.specs.Prelude.{◌≡◌};
 ghost use Rattle.futures.specs.Poll.{OnPending, IfReady};
 ghost use Rattle.futures.specs.Task.{Covers, Keeps};
@@ -14,7 +14,8 @@ use std::marker::Model;
 use tower_base::service::Steps;
 use tower_ware::filter;
 
-/// The first answer of the first call and of the second: the Rust's `tower::hedge::Future`.
+/// The future of a `Hedge`, which resolves to the answer of the first call or of the second, whichever
+/// comes first: the Rust's `tower::hedge::Future`.
 #[derive(Drop)]
 pub struct Future<F> {
     inner: F,
@@ -72,7 +73,7 @@ where
     }
 }
 
-/// The nest's answer, with the one error of a `Hedge`.
+/// Returns the nest's answer with the one error of a `Hedge`.
 pub(crate) fn outer<T, E>(
     inner: Poll<Result<T, select::Error<E, delay::Error<filter::Error<E, Infallible>>>>>,
 ) -> Poll<Result<T, Error<E>>>

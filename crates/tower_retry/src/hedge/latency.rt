@@ -1,4 +1,4 @@
-//! How long responses take: the Rust's `tower::hedge::latency`.
+//! Records of how long responses take: the Rust's `tower::hedge::latency`.
 ghost use Rattle.std.specs.Prelude.{◌≡◌};
 ghost use Rattle.tower_base.specs.ProjectionLemmas.{composed_once};
 ghost use Rattle.tower_retry.specs.Latency.{LatencyView, Polled, Called, IsClone};
@@ -14,10 +14,10 @@ use tower_base::run::Contains;
 use tower_base::service::{Clock, Service};
 pub use tower_limit::hedge::Record;
 
-/// Records how long each response takes: the Rust's `tower::hedge::latency::Latency`.
+/// A service that records how long each response takes: the Rust's `tower::hedge::latency::Latency`.
 ///
 /// The time of a response begins before the inner call, and ends with its `Ok`. Responses that are
-/// errors aren't recorded. The clock is handed in.
+/// errors aren't recorded. The clock is passed to the constructor.
 #[derive(Drop)]
 pub struct Latency<R, S, C> {
     rec: R,
@@ -32,7 +32,7 @@ impl<R, S, C> Model for Latency<R, S, C> {
 }
 
 impl<R, S, C> Latency<R, S, C> {
-    /// Each call takes a clone of `rec`. Nothing is read of the clock here.
+    /// Creates a `Latency`. Each call clones `rec`. Doesn't read the clock.
     pub fn new(rec: R, service: S, clock: C) -> Latency<R, S, C>
         ensures { result ≡ record { rec = rec; service = service; clock = clock } }
     {
@@ -71,7 +71,7 @@ where
         self.service.poll_ready(cx)
     }
 
-    /// Where no clone of the recorder is had for want of memory, the response isn't recorded.
+    /// Calls the inner service. If allocating a clone of the recorder fails, the response isn't recorded.
     fn call(&mut self, request: Request) -> Self::Future {
         let start = self.clock.now();
         let rec = self.rec.clone().ok();
@@ -80,7 +80,7 @@ where
     }
 }
 
-/// What its service contains.
+/// A `Latency` contains what its service contains.
 impl<Q, P, R: Record + Clone, S: Contains<Q, P, L>, C: Clock, L: Service<P>> Contains<Q, P, L>
     for Latency<R, S, C> {
     ghost inside = { λ l. S.inside l.service };

@@ -1,4 +1,4 @@
-//! How hedges are made.
+//! The constructors of `Hedge`.
 ghost use Rattle.std.specs.Prelude.{◌≡◌, ◌≢◌, IfOk, []};
 ghost use Rattle.tower_retry.specs.HedgeMade.{Made, MadeAt, MadeFrom};
 
@@ -12,8 +12,8 @@ use crate::hedge::rotating_histogram::{HistoCore, RotatingHistogram};
 use crate::hedge::select::Select;
 use std::alloc::{AllocError, Global};
 use std::sync::Wait;
-use tower_base::latch::{Guarded, Latch};
 use tower_base::service::{Clock, Fraction};
+use tower_latch::{Guarded, Latch};
 use tower_ware::filter::AsyncFilter;
 
 impl<S, P, R, C> Hedge<S, P, Guarded<HistoCore, R>, C>
@@ -23,11 +23,12 @@ where
     R: Wait + Copy,
     C: Clock,
 {
-    /// A second request is made where `min_data_points` latencies at least are known, after the time
-    /// that the part `percentile` of them took. They are those of one period, in nanoseconds, which has
-    /// to be positive: `RotatingHistogram::fits` tests it. The clock is read once.
+    /// Creates a `Hedge`. A second request is made if at least `min_data_points` latencies are known,
+    /// after the quantile `percentile` of them. They are the latencies of one `period`, which is in
+    /// nanoseconds. Requires that `period` is positive, which `RotatingHistogram::fits` tests. Reads the
+    /// clock once.
     ///
-    /// For want of memory it answers an error, and drops what it was handed.
+    /// Returns an error and drops its arguments if allocation fails.
     pub fn new(
         rt: R,
         alloc: Global,
@@ -46,8 +47,8 @@ where
         Hedge::with_latch(latch, service, policy, min_data_points, percentile, clock)
     }
 
-    /// As `new`, with latencies in milliseconds that are read in the first period. The clock is read
-    /// once, and then once for each of them.
+    /// Creates a `Hedge` as `new` does, with latencies in milliseconds that are known in the first
+    /// period. Reads the clock once, and then once for each latency.
     pub fn new_with_mock_latencies(
         rt: R,
         alloc: Global,
@@ -83,7 +84,7 @@ where
     L: Latch<HistoCore>,
     C: Clock,
 {
-    /// As `new`, over a latch of the caller's. It makes no reading.
+    /// Creates a `Hedge` as `new` does, over the given latch. Doesn't read the clock.
     pub fn with_latch(
         latch: L,
         service: S,
@@ -105,7 +106,8 @@ where
         )
     }
 
-    /// As `new_with_mock_latencies`, over a latch of the caller's. It makes one reading for each latency.
+    /// Creates a `Hedge` as `new_with_mock_latencies` does, over the given latch. Reads the clock once
+    /// for each latency.
     pub fn with_latch_and_mock_latencies(
         latch: L,
         service: S,

@@ -1,4 +1,4 @@
-//! How long a second request waits, and whether there is one.
+//! The policies of a hedge: how long a second request waits, and whether there is one.
 ghost use Rattle.std.specs.Prelude.{◌≡◌};
 ghost use Rattle.tower_retry.specs.HedgePolicies.{DelayPolicyView, Delayed, SelectPolicyView, Copied};
 
@@ -6,10 +6,11 @@ use crate::hedge::policy::Policy;
 use crate::hedge::rotating_histogram::{HistoCore, RotatingHistogram};
 use crate::hedge::{delay, select};
 use std::marker::Model;
-use tower_base::latch::Latch;
 use tower_base::service::{Clock, Fraction};
+use tower_latch::Latch;
 
-/// The delay of a second request is a quantile of the latencies: the Rust's `tower::hedge::DelayPolicy`.
+/// A policy that delays a second request by a quantile of the latencies: the Rust's
+/// `tower::hedge::DelayPolicy`.
 #[derive(Drop)]
 pub struct DelayPolicy<L: Latch<HistoCore>, C> {
     histogram: RotatingHistogram<L, C>,
@@ -42,8 +43,8 @@ impl<Request, L: Latch<HistoCore>, C: Clock> delay::Policy<Request> for DelayPol
     }
 }
 
-/// There is a second request where its policy copies it and enough latencies are known: the Rust's
-/// `tower::hedge::SelectPolicy`.
+/// A policy that makes a second request if its own policy copies the request and enough latencies are
+/// known: the Rust's `tower::hedge::SelectPolicy`.
 #[derive(Drop)]
 pub struct SelectPolicy<P, L: Latch<HistoCore>, C> {
     policy: P,
@@ -84,7 +85,8 @@ where
 
     ghost cloned = { Copied P.Policy L.gave C.Clock };
 
-    /// Nothing is read of the clock where the policy gives no copy.
+    /// Returns the copy that its own policy makes, or `None` if too few latencies are known. Doesn't read
+    /// the clock if there is no copy.
     fn clone_request(&mut self, request: &Request) -> Option<Request> {
         let Some(copy) = self.policy.clone_request(request) else {
             return None;

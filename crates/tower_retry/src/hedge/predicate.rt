@@ -10,8 +10,8 @@ use std::convert::Infallible;
 use std::marker::Model;
 use tower_ware::filter::AsyncPredicate;
 
-/// Lets a request pass where its policy says that it may be made again, and else makes it wait for
-/// ever: the Rust's `tower::hedge::PolicyPredicate`.
+/// A predicate that accepts a request if its policy allows it to be made again, and otherwise makes it
+/// wait forever: the Rust's `tower::hedge::PolicyPredicate`.
 #[derive(Drop)]
 pub struct PolicyPredicate<P> {
     policy: P,

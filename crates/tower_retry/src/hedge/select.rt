@@ -14,10 +14,11 @@ pub use policy::Policy;
 use std::marker::Model;
 use tower_base::service::Service;
 
-/// Calls its first service, and also its second where the policy copies the request: the Rust's
-/// `tower::hedge::select::Select`.
+/// A service that calls its first service, and also its second if the policy copies the request: the
+/// Rust's `tower::hedge::select::Select`.
 ///
-/// It is ready where both are. The first is asked first, and its error goes before one of the second.
+/// It is ready if both are. The first is polled first, and its error takes precedence over one of the
+/// second.
 #[derive(Drop)]
 pub struct Select<P, A, B> {
     policy: P,
@@ -32,7 +33,7 @@ impl<P, A, B> Model for Select<P, A, B> {
 }
 
 impl<P, A, B> Select<P, A, B> {
-    /// Nothing is asked here.
+    /// Creates a `Select`. Calls neither the policy nor the services.
     pub fn new(policy: P, a: A, b: B) -> Select<P, A, B>
         ensures { result ≡ record { policy = policy; a = a; b = b } }
     {
@@ -64,7 +65,7 @@ where
         let both = both_ready p.first p.second p.answers in
         (A.readies old.a new.a (let e = both.0 in Prim.rw e at p.first_polled), B.readies old.b new.b (let e = both.1 in Prim.rw e at p.second_polled)) };
 
-    /// Both services are polled, whatever the first answers.
+    /// Polls both services, whatever the first returns.
     fn poll_ready(&mut self, cx: &mut Context<'_>) -> Poll<Result<(), Self::Error>> {
         let first = self.a.poll_ready(cx);
         let second = self.b.poll_ready(cx);
@@ -76,7 +77,7 @@ where
         }
     }
 
-    /// The second call is made before the first.
+    /// Makes the second call, if the policy copies the request, and then the first.
     fn call(&mut self, request: Request) -> Self::Future {
         let b_fut = match self.policy.clone_request(&request) {
             Some(copy) => Some(self.b.call(copy)),

@@ -13,19 +13,19 @@ mod invalid;
 
 pub use invalid::InvalidBackoff;
 
-/// Makes backoffs, one for each request that may be retried.
+/// A maker of backoffs, one for each request that may be retried.
 pub trait MakeBackoff: Drop {
-    /// What it makes.
+    /// The backoff that it creates.
     type Backoff: Backoff;
 
-    // What constructors make has it, and every call keeps it.
+    // Holds after construction and is preserved by every call.
     ghost sound: { Self → Type 0 } = { λ _. ⊤ };
 
-    // A call may give this answer and leave the second value. Left out, any backoff may come.
+    // A call may return this result and leave the second value. If left out, any backoff may be returned.
     ghost made: { Self → Result Self.Backoff AllocError → Self → Type 0 } = { λ _ _ _. ⊤ };
 
-    /// A backoff whose waits begin from the first. It is refused for want of memory alone, and the maker
-    /// stays as it was then.
+    /// Returns a backoff that begins with the first wait. Returns an error only if allocation fails;
+    /// then the maker is unchanged.
     fn make_backoff(&mut self) -> Result<Self::Backoff, AllocError>
         requires { sound self.old }
         ensures made { made self.old result self.new }
@@ -33,18 +33,18 @@ pub trait MakeBackoff: Drop {
         ensures sound { sound self.new };
 }
 
-/// Gives waits, one after another.
+/// A sequence of waits.
 pub trait Backoff: Drop {
     /// A wait.
     type Future: Steps<Output = ()>;
 
-    // What makers make has it, and every call keeps it.
+    // Holds of each backoff that a maker returns and is preserved by every call.
     ghost sound: { Self → Type 0 } = { λ _. ⊤ };
 
-    // A call may give this wait and leave the second value. Left out, any wait may come.
+    // A call may return this wait and leave the second value. If left out, any wait may be returned.
     ghost begins: { Self → Self.Future → Self → Type 0 } = { λ _ _ _. ⊤ };
 
-    /// The next wait.
+    /// Returns the next wait.
     fn next_backoff(&mut self) -> Self::Future
         requires { sound self.old }
         ensures begins { begins self.old result self.new }
@@ -52,11 +52,11 @@ pub trait Backoff: Drop {
         ensures sound { sound self.new };
 }
 
-/// Makes backoffs that double their wait each time: the Rust's
+/// A maker of backoffs that double their wait each time: the Rust's
 /// `tower::retry::backoff::ExponentialBackoffMaker`.
 ///
-/// A backoff has a clone of the generator, which draws the same words as the maker's, and a share of
-/// the clock.
+/// Each backoff has a clone of the random generator, which draws the same words as the maker's, and a
+/// share of the clock.
 #[derive(Drop)]
 pub struct ExponentialBackoffMaker<R, C> {
     min: u64,
@@ -66,7 +66,7 @@ pub struct ExponentialBackoffMaker<R, C> {
     clock: C,
 }
 
-/// Doubles its wait each time, up to a greatest one, and makes each longer by some jitter: the Rust's
+/// A backoff that doubles its wait each time, up to a maximum, and adds jitter to each wait: the Rust's
 /// `tower::retry::backoff::ExponentialBackoff`.
 #[derive(Drop)]
 pub struct ExponentialBackoff<R, C> {
@@ -87,10 +87,11 @@ impl<R, C> Model for ExponentialBackoff<R, C> {
 }
 
 impl<R: Rng, C: Clock> ExponentialBackoffMaker<R, C> {
-    /// `min` and `max` are in nanoseconds, and `jitter` is the greatest part of a wait that is added to it.
+    /// Creates a maker. `min` and `max` are in nanoseconds, and `jitter` is the greatest part of a wait
+    /// that is added to it.
     ///
-    /// It is refused where `max` is below `min`, else where `max` is 0, else where the jitter is above
-    /// 100, and the generator and the clock are dropped then.
+    /// Returns an error if `max` is below `min`, if `max` is 0, or if `jitter` is above 100, tested in
+    /// this order, and drops the generator and the clock.
     pub fn new(
         min: u64,
         max: u64,
@@ -120,7 +121,8 @@ impl<R: Rng, C: Clock> ExponentialBackoffMaker<R, C> {
 }
 
 impl<C: Clock> ExponentialBackoffMaker<HasherRng, C> {
-    /// From 50 milliseconds without an end, with a jitter of 99/100: the Rust's `default`.
+    /// Creates a maker of waits from 50 milliseconds up to `u64::MAX` nanoseconds, with a jitter of
+    /// 99/100: the Rust's `default`.
     pub fn with_clock(clock: C) -> ExponentialBackoffMaker<HasherRng, C>
         ensures least { result.least ≡ 50000000 }
         ensures most { result.most ≡ u64.MAX }
@@ -184,7 +186,8 @@ impl<R: Rng, C: Clock> Backoff for ExponentialBackoff<R, C> {
 
     ghost begins = { Begins R.Rng C.Clock };
 
-    /// Draws one word, and none where the jitter is 0. Then a share of the clock is read once.
+    /// Returns the next wait. Draws one word, or none if the jitter is 0, and then reads a share of the
+    /// clock once.
     fn next_backoff(&mut self) -> Sleep<C> {
         let base = self.base();
         let wait = base + self.jitter(base);

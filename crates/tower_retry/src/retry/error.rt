@@ -1,4 +1,4 @@
-//! Why there is no response.
+//! The error of a `Retry`.
 use std::fmt::Display;
 
 /// The error of a `Retry`, in place of the Rust's boxed one.
@@ -8,7 +8,7 @@ pub enum Error<E> {
     /// The inner service's own error.
     #[error(transparent)]
     Inner(E),
-    /// There was no memory for a clone at the call. The inner future was dropped.
+    /// Cloning the policy or the service failed at the call. The inner future was dropped.
     #[error("out of memory")]
     Memory,
 }

@@ -1,4 +1,4 @@
-//! The response of a `Retry`.
+//! The future of a `Retry`.
 ghost use Rattle.std.specs.Prelude.{◌≡◌, Some, None, Option, IfSome, IsSome};
 ghost use Rattle.futures.specs.Poll.{IfReady, OnPending};
 ghost use Rattle.futures.specs.Task.{Covers, Keeps};
@@ -17,12 +17,12 @@ use std::marker::Model;
 use tower_base::passes::TURNS;
 use tower_base::service::{Service, Steps};
 
-/// A response, after as many calls as the policy asks for.
+/// The future of a `Retry`, which resolves to a response after as many calls as the policy requires.
 ///
-/// An answer to the policy, the end of a wait and a call are one pass each. A poll makes `TURNS` of them at most.
+/// A result, the end of a wait and a call take one pass each. A poll makes at most `TURNS` passes.
 #[derive(Drop)]
 pub struct ResponseFuture<P, S, Request, F, W> {
-    // None where there was no memory for a clone
+    // `None` if cloning failed at the call
     attempts: Option<Attempts<P, S, Request, F, W>>,
 }
 
@@ -155,7 +155,7 @@ where
     }
 }
 
-// After a result. The finished inner future is dropped as a wait begins.
+// Decides what follows a result. The finished inner future is dropped when a wait begins.
 #[inline(always)]
 fn decide<P, S, Request>(
     attempts: &mut Attempts<P, S, Request, S::Future, P::Future>,

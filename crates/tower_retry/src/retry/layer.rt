@@ -6,7 +6,7 @@ use std::alloc::AllocError;
 use std::marker::Model;
 use tower_base::layer::Layer;
 
-/// Makes a `Retry` of a service, with a clone of its policy.
+/// A layer that wraps a service in a `Retry` with a clone of its policy.
 #[derive(Drop)]
 pub struct RetryLayer<P> {
     policy: P,
@@ -19,7 +19,9 @@ impl<P> Model for RetryLayer<P> {
 }
 
 impl<P> RetryLayer<P> {
-    /// `layer` answers an error where the clone of the policy is refused, and drops the service then.
+    /// Creates a layer with the policy.
+    ///
+    /// `layer` returns an error and drops the service if cloning the policy fails.
     pub fn new(policy: P) -> RetryLayer<P>
         ensures { result ≡ policy }
     {

@@ -1,7 +1,7 @@
-//! What a response keeps between its polls.
+//! The state of a `Retry`'s future between its polls.
 
-/// What a response keeps: clones of the policy and of the service, the request to be made again if
-/// there is one, and what is under way.
+/// The state of a `Retry`'s future: clones of the policy and of the service, the request to be made again
+/// if there is one, and what the future polls.
 #[derive(Drop)]
 pub(crate) struct Attempts<P, S, Request, F, W> {
     pub policy: P,
@@ -10,12 +10,12 @@ pub(crate) struct Attempts<P, S, Request, F, W> {
     pub state: State<F, W>,
 }
 
-/// What is under way.
+/// What a `Retry`'s future polls.
 #[derive(Drop)]
 pub(crate) enum State<F, W> {
     /// The inner future.
     InFlight(F),
-    /// The wait that the policy asked for.
+    /// The wait that the policy returned.
     Waiting(W),
     /// The readiness of the service.
     Retrying,

@@ -7,7 +7,7 @@ use std::marker::PhantomData;
 use tower_base::run::Contains;
 use tower_base::service::Service;
 
-/// A borrowed maker as a service: the Rust's `tower::make::AsService`.
+/// A borrowed maker as a service. It is the Rust's `tower::make::AsService`.
 #[derive(Drop)]
 pub struct AsService<'a, M, Request> {
     make: &'a mut M,
@@ -57,7 +57,7 @@ where
     }
 }
 
-/// What the borrowed maker contains.
+/// An `AsService` contains what the borrowed maker contains.
 impl<'a, M, S, Target, Request, Passed, L> Contains<Target, Passed, L> for AsService<'a, M, Request>
 where
     L: Service<Passed>,

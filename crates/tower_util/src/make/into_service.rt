@@ -7,7 +7,7 @@ use std::marker::{Model, PhantomData};
 use tower_base::run::Contains;
 use tower_base::service::Service;
 
-/// A maker as a service: the Rust's `tower::make::IntoService`.
+/// A maker as a service. It is the Rust's `tower::make::IntoService`.
 #[derive(Clone, Drop)]
 pub struct IntoService<M, Request> {
     make: M,
@@ -62,7 +62,7 @@ where
     }
 }
 
-/// What the maker contains.
+/// An `IntoService` contains what the maker contains.
 impl<M, S, Target, Request, Passed, L> Contains<Target, Passed, L> for IntoService<M, Request>
 where
     L: Service<Passed>,

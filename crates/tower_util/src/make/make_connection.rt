@@ -8,8 +8,8 @@ ghost use Rattle.futures.specs.declared.task.Poll.TheVariants.{Ready};
 use futures::task::{Context, Poll};
 use tower_base::service::{Service, Steps};
 
-/// A service whose responses are connections: the Rust's `tower::make::MakeConnection`, which
-/// each service has here, since nothing is asked of a connection.
+/// A service whose responses are connections. It is the Rust's `tower::make::MakeConnection`. Here each
+/// service implements it, since nothing is required of a connection.
 pub trait MakeConnection<Target>: Drop {
     type Connection: Drop;
 
@@ -17,7 +17,7 @@ pub trait MakeConnection<Target>: Drop {
 
     type Future: Steps<Output = Result<Self::Connection, Self::Error>>;
 
-    // As of `Service`.
+    // The same as in `Service`.
     ghost sound: { Self → Type 0 } = { λ _. ⊤ };
 
     ghost ready: { Self → Type 0 };
@@ -26,7 +26,7 @@ pub trait MakeConnection<Target>: Drop {
 
     ghost called: { Self → Target → Self.Future → Self → Type 0 };
 
-    /// Asks whether a connection may be made.
+    /// Polls the readiness to make a connection.
     fn poll_ready(&mut self, cx: &mut Context<'_>) -> Poll<Result<(), Self::Error>>
         requires { sound self.old }
         ensures polled { polled self.old result self.new }
@@ -34,7 +34,7 @@ pub trait MakeConnection<Target>: Drop {
         ensures armed { OnPending result (IsArmed cx.new) }
         ensures kept { Keeps cx.old cx.new };
 
-    /// Makes a connection.
+    /// Makes a connection to the target, and returns its future.
     fn make_connection(&mut self, target: Target) -> Self::Future
         requires sound { sound self.old }
         requires ready { ready self.old }
@@ -42,7 +42,7 @@ pub trait MakeConnection<Target>: Drop {
         ensures called { called self.old target result self.new }
         ensures fresh { Self.Future.can_poll result };
 
-    // An answer of `Ok` leaves a value that is ready.
+    // If `poll_ready` returns `Ok`, it leaves a value that is ready.
     ghost readies: { (old new : Self) → polled old (Ready (Ok tt)) new → ready new };
 }
 

@@ -9,8 +9,8 @@ use crate::make::{AsService, IntoService};
 use futures::task::{Context, Poll};
 use tower_base::service::{Service, Steps};
 
-/// A service whose responses are services: the Rust's `tower::make::MakeService`, which each
-/// such service has.
+/// A service whose responses are services. It is the Rust's `tower::make::MakeService`, and each such
+/// service implements it.
 pub trait MakeService<Target, Request>: Drop {
     type Response: Drop;
 
@@ -22,7 +22,7 @@ pub trait MakeService<Target, Request>: Drop {
 
     type Future: Steps<Output = Result<Self::Service, Self::MakeError>>;
 
-    // As of `Service`.
+    // The same as in `Service`.
     ghost sound: { Self → Type 0 } = { λ _. ⊤ };
 
     ghost ready: { Self → Type 0 };
@@ -31,7 +31,7 @@ pub trait MakeService<Target, Request>: Drop {
 
     ghost called: { Self → Target → Self.Future → Self → Type 0 };
 
-    /// Asks whether a service may be made.
+    /// Polls the maker's readiness to make a service.
     fn poll_ready(&mut self, cx: &mut Context<'_>) -> Poll<Result<(), Self::MakeError>>
         requires { sound self.old }
         ensures polled { polled self.old result self.new }
@@ -39,7 +39,7 @@ pub trait MakeService<Target, Request>: Drop {
         ensures armed { OnPending result (IsArmed cx.new) }
         ensures kept { Keeps cx.old cx.new };
 
-    /// Makes a service.
+    /// Makes a service for the target, and returns its future.
     fn make_service(&mut self, target: Target) -> Self::Future
         requires sound { sound self.old }
         requires ready { ready self.old }
@@ -47,7 +47,7 @@ pub trait MakeService<Target, Request>: Drop {
         ensures called { called self.old target result self.new }
         ensures fresh { Self.Future.can_poll result };
 
-    /// The maker as a service.
+    /// Turns the maker into a `Service`.
     final fn into_service(self) -> IntoService<Self, Request>
     where
         Self: Sized,
@@ -56,7 +56,7 @@ pub trait MakeService<Target, Request>: Drop {
         IntoService::new(self)
     }
 
-    /// The maker as a service, for as long as it is lent.
+    /// Borrows the maker as a `Service`.
     final fn as_service(&mut self) -> AsService<'_, Self, Request>
     where
         Self: Sized,
@@ -66,7 +66,7 @@ pub trait MakeService<Target, Request>: Drop {
         AsService::new(self)
     }
 
-    // An answer of `Ok` leaves a value that is ready.
+    // If `poll_ready` returns `Ok`, it leaves a value that is ready.
     ghost readies: { (old new : Self) → polled old (Ready (Ok tt)) new → ready new };
 }
 

@@ -1,4 +1,4 @@
-//! A maker that gives clones of one service.
+//! A maker that returns clones of one service.
 ghost use Rattle.std.specs.Prelude.{◌≡◌, Option, Some, None, IsSome, Ok, Result};
 ghost use Rattle.futures.specs.declared.task.Poll.TheVariants.{Ready};
 ghost use Rattle.tower_base.specs.Gives.{IsStep, MayGive};
@@ -12,7 +12,7 @@ use futures::task::{Context, Poll};
 use std::marker::Model;
 use tower_base::service::{Service, Steps};
 
-/// Answers each call with a clone of its service: the Rust's `tower::make::Shared`.
+/// A maker that returns a clone of its service for each call. It is the Rust's `tower::make::Shared`.
 #[derive(Clone, Copy, Drop)]
 pub struct Shared<S> {
     service: S,
@@ -26,16 +26,16 @@ impl<S> Model for Shared<S> {
     ghost inverse = { λ v. record { service = v } };
 }
 
-/// Why there is no clone, where the Rust's clones can't fail.
+/// The error of a `Shared`. The Rust has none, since its clones can't fail.
 #[derive(Clone, Copy, Debug, PartialEq, Eq, thiserror::Error)]
 pub enum Error {
-    /// The clone was refused at the call.
+    /// The service couldn't be cloned at the call.
     #[error("out of memory")]
     Memory,
 }
 
 impl<S> Shared<S> {
-    /// The service stays inside, and is cloned at each call.
+    /// Creates a maker that keeps the service, and clones it at each call.
     pub fn new(service: S) -> Shared<S>
         ensures { result ≡ service }
     {
@@ -73,7 +73,7 @@ impl<S: Clone + Drop, T: Drop> Service<T> for Shared<S> {
     }
 }
 
-/// Nothing goes inside: the service is only cloned.
+/// Nothing is passed inside: the service is only cloned.
 pub fn projection<S, T, Request>()
 where
     S: Service<Request> + Clone + Drop,
@@ -81,7 +81,8 @@ where
     ensures { Projects (relations ⟦<Shared<S> as Service<T>>⟧) (relations S.Service) (λ s. s) Never }
 {}
 
-/// The clone, or `Memory` where it was refused: the Rust's `tower::make::future::SharedFuture`.
+/// The response future of a `Shared`: the Rust's `tower::make::future::SharedFuture`. It returns the
+/// clone, or `Memory` if cloning failed.
 #[derive(Drop)]
 pub struct SharedFuture<S> {
     answer: Option<Result<S, Error>>,

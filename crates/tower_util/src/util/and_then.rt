@@ -1,4 +1,4 @@
-//! A second future for each response.
+//! A service that continues with a second future after each response.
 ghost use Rattle.std.specs.Prelude.{◌≡◌};
 ghost use Rattle.tower_base.specs.Gives.{IsStep, MayGive};
 ghost use Rattle.tower_util.specs.Chain.{Called, AndThenStepped};
@@ -16,7 +16,8 @@ use std::marker::Model;
 use tower_base::layer::Layer;
 use tower_base::service::{Service, Steps};
 
-/// Goes on from each response with a future that a closure makes of it. An error is only converted: the Rust's `tower::util::AndThen`.
+/// A service that continues from each response with a future that a closure makes of it: the Rust's
+/// `tower::util::AndThen`. An error is only converted.
 #[derive(Clone, Drop)]
 pub struct AndThen<S, F> {
     inner: S,
@@ -30,14 +31,14 @@ impl<S, F> Model for AndThen<S, F> {
 }
 
 impl<S, F> AndThen<S, F> {
-    /// The closure isn't called here.
+    /// Wraps the service. Doesn't call the closure.
     pub fn new(inner: S, f: F) -> AndThen<S, F>
         ensures { result ≡ record { inner = inner; f = f } }
     {
         AndThen { inner, f }
     }
 
-    /// Its layer.
+    /// Returns a layer that makes an `AndThen` with this closure.
     pub fn layer(f: F) -> AndThenLayer<F>
         ensures { result ≡ record { f = f } }
     {
@@ -59,7 +60,7 @@ where
 
     type Future = AndThenFuture<S::Future, Fut, F>;
 
-    // What the closure gives may be polled.
+    // The futures that the closure returns may be polled.
     ghost sound = { λ m. S.sound m.inner × F.IsAlwaysCallable m.f × ((x : _) (future : Fut) → F.post m.f x future → Fut.can_poll future) };
 
     ghost ready = { λ m. S.ready m.inner };
@@ -84,7 +85,7 @@ where
     }
 }
 
-/// The response of an `AndThen`: the Rust's `tower::util::future::AndThenFuture`.
+/// The response future of an `AndThen`. It is the Rust's `tower::util::future::AndThenFuture`.
 #[derive(Drop)]
 pub struct AndThenFuture<F1, F2, N> {
     state: Chain<F1, F2, N>,
@@ -164,7 +165,7 @@ where
     }
 }
 
-/// Makes an `AndThen` of a service: the Rust's `tower::util::AndThenLayer`.
+/// A layer that wraps a service in an `AndThen`. It is the Rust's `tower::util::AndThenLayer`.
 #[derive(Clone, Drop)]
 pub struct AndThenLayer<F> {
     f: F,
@@ -177,7 +178,7 @@ impl<F> Model for AndThenLayer<F> {
 }
 
 impl<F> AndThenLayer<F> {
-    /// Each service that it wraps gets a copy of the closure.
+    /// Creates a layer that gives each service a copy of the closure.
     pub fn new(f: F) -> AndThenLayer<F>
         ensures { result ≡ record { f = f } }
     {

@@ -1,4 +1,5 @@
-//! A service that a future gives: the Rust's `util/future_service.rs`, a name that the kit refuses beside the function's.
+//! A service that a future returns. It is the Rust's `util/future_service.rs`; the kit doesn't accept
+//! that name beside the function of the same name.
 ghost use Rattle.std.specs.Prelude.{◌≡◌, Ok, ⊤};
 ghost use Rattle.futures.specs.Poll.{OnPending};
 ghost use Rattle.futures.specs.Task.{IsArmed, Keeps};
@@ -17,10 +18,10 @@ use futures::task::{Context, Poll};
 use std::marker::Model;
 use tower_base::service::{Service, Steps};
 
-/// A service that a future gives: the Rust's `tower::util::FutureService`.
+/// A service that a future returns. It is the Rust's `tower::util::FutureService`.
 ///
-/// It is ready once the future gave the service and that is ready. An error of the future is
-/// answered once, and later polls answer `Gone`, where the Rust polls the finished future.
+/// It is ready once the future has returned the service and that service is ready. An error of the
+/// future is returned once. Later polls return `Gone`, while the Rust polls the finished future again.
 #[derive(Clone, Drop)]
 pub struct FutureService<F, S> {
     state: State<F, S>,
@@ -40,7 +41,7 @@ impl<F, S> Model for FutureService<F, S> {
 }
 
 impl<F, S> FutureService<F, S> {
-    /// The future isn't polled here.
+    /// Creates the service. Doesn't poll the future.
     pub fn new(future: F) -> FutureService<F, S>
         ensures { result ≡ Coming future }
     {
@@ -50,7 +51,7 @@ impl<F, S> FutureService<F, S> {
     }
 }
 
-/// The Rust's `tower::util::future_service`.
+/// Creates a `FutureService`. It is the Rust's `tower::util::future_service`.
 pub fn future_service<F, S>(future: F) -> FutureService<F, S>
     ensures { result ≡ Coming future }
 {
@@ -68,7 +69,7 @@ where
 
     type Future = FutureServiceFuture<S::Future>;
 
-    // The future may be polled, and a service that it may give is sound.
+    // The future may be polled, and any service that it may return is sound.
     ghost sound = { elim [
       | Coming future ↦ F.can_poll future × ((service : S) → MayGive F.stepped future (Ok service) → S.sound service)
       | There service ↦ S.sound service
@@ -113,7 +114,7 @@ where
     }
 }
 
-// Polls the service, and marks its error as its own.
+// Polls the service, and wraps its error in `Inner`.
 fn serve<R, S: Service<R>>(
     service: &mut S,
     cx: &mut Context<'_>,
@@ -130,7 +131,7 @@ fn serve<R, S: Service<R>>(
     }
 }
 
-/// The response of a `FutureService`.
+/// The response future of a `FutureService`.
 #[derive(Drop)]
 pub struct FutureServiceFuture<N> {
     inner: N,

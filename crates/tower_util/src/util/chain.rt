@@ -1,6 +1,7 @@
 //! Two futures, one after the other.
 
-/// A future and a closure, then the future that the closure gave, and nothing once there is an answer.
+/// A future and a closure, then the future that the closure returned, and nothing once that has returned
+/// its output.
 #[derive(Drop)]
 pub enum Chain<F1, F2, N> {
     First(F1, N),

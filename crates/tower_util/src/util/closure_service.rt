@@ -1,4 +1,5 @@
-//! A service by a closure: the Rust's `util/service_fn.rs`, a name that the kit refuses beside the function's.
+//! A service that calls a closure. It is the Rust's `util/service_fn.rs`; the kit doesn't accept that
+//! name beside the function of the same name.
 ghost use Rattle.std.specs.Prelude.{◌≡◌, Ok, Result};
 ghost use Rattle.futures.specs.declared.task.Poll.TheVariants.{Ready};
 ghost use Rattle.tower_util.specs.ServiceFn.{ServiceFnView};
@@ -7,7 +8,7 @@ use futures::task::{Context, Poll};
 use std::marker::Model;
 use tower_base::service::{Service, Steps};
 
-/// A service that is always ready, and calls a closure: the Rust's `tower::util::ServiceFn`.
+/// A service that is always ready and calls a closure. It is the Rust's `tower::util::ServiceFn`.
 #[derive(Clone, Copy, Drop)]
 pub struct ServiceFn<T> {
     f: T,
@@ -21,7 +22,7 @@ impl<T> Model for ServiceFn<T> {
     ghost inverse = { λ v. record { f = v.f } };
 }
 
-/// The Rust's `tower::util::service_fn`.
+/// Creates a `ServiceFn`. It is the Rust's `tower::util::service_fn`.
 pub fn service_fn<T>(f: T) -> ServiceFn<T>
     ensures { result ≡ record { f = f } }
 {
@@ -41,7 +42,7 @@ where
 
     type Future = F;
 
-    // The closure may be called on and on, and what it gives may be polled.
+    // The closure may always be called again, and the futures that it returns may be polled.
     ghost sound = { λ s. T.IsAlwaysCallable s.f
         × ((old : T) (request : Request) (future : F) (new : T) → T.step old request future new → F.can_poll future) };
 

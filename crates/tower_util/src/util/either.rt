@@ -14,7 +14,7 @@ use tower_base::layer::{Identity, Layer};
 use tower_base::run::Contains;
 use tower_base::service::{Service, Steps};
 
-/// One of two services or layers: the Rust's `tower::util::Either`.
+/// One of two services or layers. It is the Rust's `tower::util::Either`.
 #[derive(Clone, Copy, Drop)]
 pub enum Either<A, B> {
     Left(A),
@@ -36,13 +36,13 @@ where
 
     ghost ready = { elim [ Left a ↦ A.ready a | Right b ↦ B.ready b ] };
 
-    // a poll of the side that is there
+    // A poll polls the side that is present.
     ghost polled = { λ old answer new. elim old [
       | Left a ↦ (left : A) × A.polled a answer left × (new ≡ Left left)
       | Right b ↦ (left : B) × B.polled b answer left × (new ≡ Right left)
     ] };
 
-    // a call of the side that is there
+    // A call calls the side that is present.
     ghost called = { λ old request future new. elim old [
       | Left a ↦ (left : A) × (inner : _) × A.ready a × A.called a request inner left × (future ≡ First inner) × (new ≡ Left left)
       | Right b ↦ (left : B) × (inner : _) × B.ready b × B.called b request inner left × (future ≡ Second inner) × (new ≡ Right left)
@@ -68,7 +68,7 @@ where
     }
 }
 
-/// What both sides contain.
+/// An `Either` contains what both sides contain.
 impl<R, A, B, Passed, L> Contains<R, Passed, L> for Either<A, B>
 where
     L: Service<Passed>,
@@ -87,7 +87,7 @@ impl<S, A: Layer<S>, B: Layer<S>> Layer<S> for Either<A, B> {
 
     ghost can_layer = { λ layer service. elim layer [ Left a ↦ A.can_layer a service | Right b ↦ B.can_layer b service ] };
 
-    // what the side that is there makes
+    // The layer makes what the side that is present makes.
     ghost made = { λ layer service made. elim layer [
       | Left a ↦ (inner : A.Service) × A.made a service inner × (made ≡ Left inner)
       | Right b ↦ (inner : B.Service) × B.made b service inner × (made ≡ Right inner)
@@ -101,7 +101,7 @@ impl<S, A: Layer<S>, B: Layer<S>> Layer<S> for Either<A, B> {
     }
 }
 
-/// The layer, or one that gives the service itself: the Rust's `tower::util::option_layer`.
+/// Returns the layer, or `Identity` if there is none. It is the Rust's `tower::util::option_layer`.
 pub fn option_layer<L>(layer: Option<L>) -> Either<L, Identity>
     ensures { result ≡ elim layer [ Some l ↦ Left l | None ↦ Right (record {}) ] }
 {
@@ -111,7 +111,7 @@ pub fn option_layer<L>(layer: Option<L>) -> Either<L, Identity>
     }
 }
 
-/// The response of an `Either`: the Rust's `tower::util::future::EitherResponseFuture`.
+/// The response future of an `Either`. It is the Rust's `tower::util::future::EitherResponseFuture`.
 #[derive(Drop)]
 pub enum EitherResponseFuture<A, B> {
     First(A),

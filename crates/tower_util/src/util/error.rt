@@ -1,4 +1,4 @@
-//! The errors of these services: the Rust's `tower::util::error`.
+//! The errors of these services. The Rust's `tower::util::error`.
 
 pub mod future_service;
 

@@ -1,4 +1,4 @@
-//! A future that is dropped as it answers.
+//! A future that is dropped when it returns its output.
 ghost use Rattle.std.specs.Prelude.{◌≡◌, Option, Some};
 ghost use Rattle.tower_util.specs.Fuse.{CanPoll, Stepped, needs_of};
 
@@ -6,8 +6,8 @@ use futures::task::{Context, Poll};
 use std::marker::Model;
 use tower_base::service::Steps;
 
-/// A future that is dropped in the poll that answers: the `Fuse` of the Rust's `futures`, without
-/// polls after the answer.
+/// A future that is dropped in the poll that returns its output. It is the `Fuse` of the Rust's
+/// `futures`, but may not be polled after the output.
 #[derive(Drop)]
 pub struct Fuse<F> {
     future: Option<F>,
@@ -20,7 +20,7 @@ impl<F> Model for Fuse<F> {
 }
 
 impl<F> Fuse<F> {
-    /// Nothing is polled here.
+    /// Wraps the future. Polls nothing.
     pub fn new(future: F) -> Fuse<F>
         ensures { result ≡ Some future }
     {

@@ -1,4 +1,4 @@
-//! The futures of these services: the Rust's `tower::util::future`.
+//! The futures of these services. The Rust's `tower::util::future`.
 
 pub use crate::util::and_then::AndThenFuture;
 pub use crate::util::awaited::FutureServiceFuture;

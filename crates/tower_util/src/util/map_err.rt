@@ -1,4 +1,4 @@
-//! A closure over the errors, those of readiness too.
+//! A service that changes the errors of another by a closure, including errors of readiness.
 ghost use Rattle.std.specs.Prelude.{◌≡◌, Option};
 ghost use Rattle.tower_base.specs.Gives.{IsStep, MayGive};
 ghost use Rattle.tower_util.specs.Fuse.{CanPoll, needs_of};
@@ -14,7 +14,8 @@ use std::marker::Model;
 use tower_base::layer::Layer;
 use tower_base::service::{Service, Steps};
 
-/// Changes each error by a closure, that of readiness too: the Rust's `tower::util::MapErr`.
+/// A service that changes each error by a closure, including errors of readiness. It is the Rust's
+/// `tower::util::MapErr`.
 #[derive(Clone, Drop)]
 pub struct MapErr<S, F> {
     inner: S,
@@ -28,14 +29,14 @@ impl<S, F> Model for MapErr<S, F> {
 }
 
 impl<S, F> MapErr<S, F> {
-    /// The closure isn't called here.
+    /// Wraps the service. Doesn't call the closure.
     pub fn new(inner: S, f: F) -> MapErr<S, F>
         ensures { result ≡ record { inner = inner; f = f } }
     {
         MapErr { inner, f }
     }
 
-    /// Its layer.
+    /// Returns a layer that makes a `MapErr` with this closure.
     pub fn layer(f: F) -> MapErrLayer<F>
         ensures { result ≡ record { f = f } }
     {
@@ -80,7 +81,7 @@ where
     }
 }
 
-/// The response of a `MapErr`: the Rust's `tower::util::future::MapErrFuture`.
+/// The response future of a `MapErr`. It is the Rust's `tower::util::future::MapErrFuture`.
 #[derive(Drop)]
 pub struct MapErrFuture<F, N> {
     inner: Fuse<F>,
@@ -128,7 +129,7 @@ impl<F: Steps<Output = Result<A, E>>, N: Fn(E) -> U + Copy, A, E, U> Steps for M
     }
 }
 
-/// Makes a `MapErr` of a service: the Rust's `tower::util::MapErrLayer`.
+/// A layer that wraps a service in a `MapErr`. It is the Rust's `tower::util::MapErrLayer`.
 #[derive(Clone, Drop)]
 pub struct MapErrLayer<F> {
     f: F,
@@ -141,7 +142,7 @@ impl<F> Model for MapErrLayer<F> {
 }
 
 impl<F> MapErrLayer<F> {
-    /// Each service that it wraps gets a copy of the closure.
+    /// Creates a layer that gives each service a copy of the closure.
     pub fn new(f: F) -> MapErrLayer<F>
         ensures { result ≡ record { f = f } }
     {

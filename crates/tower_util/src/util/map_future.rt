@@ -1,4 +1,4 @@
-//! A closure over the futures.
+//! A service that changes the futures of another by a closure.
 ghost use Rattle.std.specs.Prelude.{◌≡◌};
 ghost use Rattle.tower_util.specs.Maps.{MapView, MapLayerView, Polled};
 ghost use Rattle.tower_util.specs.MapsReady.{polled_ready};
@@ -10,7 +10,8 @@ use std::marker::Model;
 use tower_base::layer::Layer;
 use tower_base::service::{Service, Steps};
 
-/// Changes each future by a closure. An error of readiness is only converted: the Rust's `tower::util::MapFuture`.
+/// A service that changes each future by a closure: the Rust's `tower::util::MapFuture`. An error of
+/// readiness is only converted.
 #[derive(Clone, Drop)]
 pub struct MapFuture<S, F> {
     inner: S,
@@ -24,14 +25,14 @@ impl<S, F> Model for MapFuture<S, F> {
 }
 
 impl<S, F> MapFuture<S, F> {
-    /// The closure isn't called here.
+    /// Wraps the service. Doesn't call the closure.
     pub fn new(inner: S, f: F) -> MapFuture<S, F>
         ensures { result ≡ record { inner = inner; f = f } }
     {
         MapFuture { inner, f }
     }
 
-    /// Its layer.
+    /// Returns a layer that makes a `MapFuture` with this closure.
     pub fn layer(f: F) -> MapFutureLayer<F>
         ensures { result ≡ record { f = f } }
     {
@@ -53,7 +54,7 @@ where
 
     type Future = Fut;
 
-    // What the closure makes of a future that may be polled may be polled.
+    // From a future that may be polled, the closure makes one that may be polled.
     ghost sound = { λ m. S.sound m.inner × F.IsAlwaysCallable m.f
         × ((f g : F) (inner : _) (future : Fut) → S.Future.can_poll inner → F.step f inner future g → Fut.can_poll future) };
 
@@ -61,7 +62,7 @@ where
 
     ghost polled = { Polled S.polled (λ _. E.from_gives) };
 
-    // one call of the inner service, and one of the closure, at the future that it gave
+    // A call calls the inner service once, and the closure once with the future that this returned.
     ghost called = { λ old request future new. (inner : _) × S.ready old.inner × S.called old.inner request inner new.inner × F.step old.f inner future new.f };
 
     ghost readies = { polled_ready S.polled (λ _. E.from_gives) S.ready S.readies };
@@ -83,14 +84,14 @@ impl<S, F> MapFuture<S, F> {
     ghost use Rattle.std.specs.Borrow.{sem};
     ghost use Rattle.tower_util.specs.MapFutureLends.{LendsInner};
 
-    /// The inner service.
+    /// Returns the inner service by reference.
     pub fn get_ref(&self) -> &S
         ensures { result.now ≡ self.now.inner }
     {
         &self.inner
     }
 
-    /// The inner service, to be changed.
+    /// Returns the inner service by mutable reference.
     pub fn get_mut(&mut self) -> &mut S
         ensures* writes_back { sem 𝓛 (LendsInner S.row F.row self.entry result) }
         ensures value { result.now ≡ self.old.inner }
@@ -98,7 +99,7 @@ impl<S, F> MapFuture<S, F> {
         &mut self.inner
     }
 
-    /// The inner service. The closure is dropped.
+    /// Returns the inner service, and drops the closure.
     pub fn into_inner(self) -> S
     where
         F: Drop,
@@ -108,7 +109,7 @@ impl<S, F> MapFuture<S, F> {
     }
 }
 
-/// Makes a `MapFuture` of a service: the Rust's `tower::util::MapFutureLayer`.
+/// A layer that wraps a service in a `MapFuture`. It is the Rust's `tower::util::MapFutureLayer`.
 #[derive(Clone, Drop)]
 pub struct MapFutureLayer<F> {
     f: F,
@@ -121,7 +122,8 @@ impl<F> Model for MapFutureLayer<F> {
 }
 
 impl<F> MapFutureLayer<F> {
-    /// Each service that it wraps gets a clone of the closure. Where that is refused, the service is dropped.
+    /// Creates a layer that gives each service a clone of the closure. If cloning fails, the service is
+    /// dropped.
     pub fn new(f: F) -> MapFutureLayer<F>
         ensures { result ≡ record { f = f } }
     {

@@ -1,4 +1,4 @@
-//! A closure over the requests.
+//! A service that changes the requests for another by a closure.
 ghost use Rattle.std.specs.Prelude.{◌≡◌};
 ghost use Rattle.tower_util.specs.Maps.{MapView, MapLayerView};
 
@@ -8,7 +8,7 @@ use std::marker::Model;
 use tower_base::layer::Layer;
 use tower_base::service::Service;
 
-/// Changes each request by a closure: the Rust's `tower::util::MapRequest`.
+/// A service that changes each request by a closure. It is the Rust's `tower::util::MapRequest`.
 #[derive(Clone, Drop)]
 pub struct MapRequest<S, F> {
     inner: S,
@@ -22,14 +22,14 @@ impl<S, F> Model for MapRequest<S, F> {
 }
 
 impl<S, F> MapRequest<S, F> {
-    /// The closure isn't called here.
+    /// Wraps the service. Doesn't call the closure.
     pub fn new(inner: S, f: F) -> MapRequest<S, F>
         ensures { result ≡ record { inner = inner; f = f } }
     {
         MapRequest { inner, f }
     }
 
-    /// Its layer.
+    /// Returns a layer that makes a `MapRequest` with this closure.
     pub fn layer(f: F) -> MapRequestLayer<F>
         ensures { result ≡ record { f = f } }
     {
@@ -50,7 +50,7 @@ impl<S: Service<R2>, F: FnMut(R1) -> R2 + Drop, R1, R2> Service<R1> for MapReque
 
     ghost polled = { λ old answer new. S.polled old.inner answer new.inner × (new.f ≡ old.f) };
 
-    // one call of the closure, and one of the inner service, at what it answered
+    // A call calls the closure once, and the inner service once with the request that the closure returned.
     ghost called = { λ old request future new. (inner : _) × F.step old.f request inner new.f × S.ready old.inner × S.called old.inner inner future new.inner };
 
     ghost readies = { λ old new polled. S.readies old.inner new.inner polled.0 };
@@ -65,7 +65,7 @@ impl<S: Service<R2>, F: FnMut(R1) -> R2 + Drop, R1, R2> Service<R1> for MapReque
     }
 }
 
-/// Makes a `MapRequest` of a service: the Rust's `tower::util::MapRequestLayer`.
+/// A layer that wraps a service in a `MapRequest`. It is the Rust's `tower::util::MapRequestLayer`.
 #[derive(Clone, Drop)]
 pub struct MapRequestLayer<F> {
     f: F,
@@ -78,7 +78,8 @@ impl<F> Model for MapRequestLayer<F> {
 }
 
 impl<F> MapRequestLayer<F> {
-    /// Each service that it wraps gets a clone of the closure. Where that is refused, the service is dropped.
+    /// Creates a layer that gives each service a clone of the closure. If cloning fails, the service is
+    /// dropped.
     pub fn new(f: F) -> MapRequestLayer<F>
         ensures { result ≡ record { f = f } }
     {

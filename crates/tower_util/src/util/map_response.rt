@@ -1,4 +1,4 @@
-//! A closure over the responses.
+//! A service that changes the responses of another by a closure.
 ghost use Rattle.std.specs.Prelude.{◌≡◌, Option};
 ghost use Rattle.tower_base.specs.Gives.{IsStep, MayGive};
 ghost use Rattle.tower_util.specs.Fuse.{CanPoll, needs_of};
@@ -13,7 +13,7 @@ use std::marker::Model;
 use tower_base::layer::Layer;
 use tower_base::service::{Service, Steps};
 
-/// Changes each response by a closure: the Rust's `tower::util::MapResponse`.
+/// A service that changes each response by a closure. It is the Rust's `tower::util::MapResponse`.
 #[derive(Clone, Drop)]
 pub struct MapResponse<S, F> {
     inner: S,
@@ -27,14 +27,14 @@ impl<S, F> Model for MapResponse<S, F> {
 }
 
 impl<S, F> MapResponse<S, F> {
-    /// The closure isn't called here.
+    /// Wraps the service. Doesn't call the closure.
     pub fn new(inner: S, f: F) -> MapResponse<S, F>
         ensures { result ≡ record { inner = inner; f = f } }
     {
         MapResponse { inner, f }
     }
 
-    /// Its layer.
+    /// Returns a layer that makes a `MapResponse` with this closure.
     pub fn layer(f: F) -> MapResponseLayer<F>
         ensures { result ≡ record { f = f } }
     {
@@ -76,7 +76,7 @@ where
     }
 }
 
-/// The response of a `MapResponse`: the Rust's `tower::util::future::MapResponseFuture`.
+/// The response future of a `MapResponse`. It is the Rust's `tower::util::future::MapResponseFuture`.
 #[derive(Drop)]
 pub struct MapResponseFuture<F, N> {
     inner: Fuse<F>,
@@ -126,7 +126,7 @@ impl<F: Steps<Output = Result<A, E>>, N: Fn(A) -> B + Copy, A, B, E> Steps
     }
 }
 
-/// Makes a `MapResponse` of a service: the Rust's `tower::util::MapResponseLayer`.
+/// A layer that wraps a service in a `MapResponse`. It is the Rust's `tower::util::MapResponseLayer`.
 #[derive(Clone, Drop)]
 pub struct MapResponseLayer<F> {
     f: F,
@@ -139,7 +139,7 @@ impl<F> Model for MapResponseLayer<F> {
 }
 
 impl<F> MapResponseLayer<F> {
-    /// Each service that it wraps gets a copy of the closure.
+    /// Creates a layer that gives each service a copy of the closure.
     pub fn new(f: F) -> MapResponseLayer<F>
         ensures { result ≡ record { f = f } }
     {

@@ -1,4 +1,4 @@
-//! A closure over the whole results.
+//! A service that changes the results of another by a closure.
 ghost use Rattle.std.specs.Prelude.{◌≡◌, Option};
 ghost use Rattle.tower_base.specs.Gives.{IsStep, MayGive};
 ghost use Rattle.tower_util.specs.Fuse.{CanPoll, needs_of};
@@ -14,7 +14,8 @@ use std::marker::Model;
 use tower_base::layer::Layer;
 use tower_base::service::{Service, Steps};
 
-/// Changes each result by a closure. An error of readiness is only converted: the Rust's `tower::util::MapResult`.
+/// A service that changes each result by a closure: the Rust's `tower::util::MapResult`. An error of
+/// readiness is only converted.
 #[derive(Clone, Drop)]
 pub struct MapResult<S, F> {
     inner: S,
@@ -28,14 +29,14 @@ impl<S, F> Model for MapResult<S, F> {
 }
 
 impl<S, F> MapResult<S, F> {
-    /// The closure isn't called here.
+    /// Wraps the service. Doesn't call the closure.
     pub fn new(inner: S, f: F) -> MapResult<S, F>
         ensures { result ≡ record { inner = inner; f = f } }
     {
         MapResult { inner, f }
     }
 
-    /// Its layer.
+    /// Returns a layer that makes a `MapResult` with this closure.
     pub fn layer(f: F) -> MapResultLayer<F>
         ensures { result ≡ record { f = f } }
     {
@@ -81,7 +82,7 @@ where
     }
 }
 
-/// The response of a `MapResult`: the Rust's `tower::util::future::MapResultFuture`.
+/// The response future of a `MapResult`. It is the Rust's `tower::util::future::MapResultFuture`.
 #[derive(Drop)]
 pub struct MapResultFuture<F, N> {
     inner: Fuse<F>,
@@ -127,7 +128,7 @@ impl<F: Steps<Output = A>, N: Fn(A) -> B + Copy, A, B> Steps for MapResultFuture
     }
 }
 
-/// Makes a `MapResult` of a service: the Rust's `tower::util::MapResultLayer`.
+/// A layer that wraps a service in a `MapResult`. It is the Rust's `tower::util::MapResultLayer`.
 #[derive(Clone, Drop)]
 pub struct MapResultLayer<F> {
     f: F,
@@ -140,7 +141,7 @@ impl<F> Model for MapResultLayer<F> {
 }
 
 impl<F> MapResultLayer<F> {
-    /// Each service that it wraps gets a copy of the closure.
+    /// Creates a layer that gives each service a copy of the closure.
     pub fn new(f: F) -> MapResultLayer<F>
         ensures { result ≡ record { f = f } }
     {

@@ -9,8 +9,8 @@ use futures::task::{Context, Poll};
 use std::mem;
 use tower_base::service::{Service, Steps};
 
-/// Polls a service until it is ready, calls it once, and polls the response: the Rust's
-/// `tower::util::Oneshot`.
+/// A future that polls a service until it is ready, calls it once, and polls the response. It is the
+/// Rust's `tower::util::Oneshot`.
 #[derive(Drop)]
 // (A `Model` over the bound couldn't be used at a closure's type, so clauses name the field.)
 pub struct Oneshot<S: Service<Request>, Request> {
@@ -25,7 +25,7 @@ pub enum State<S, Request, F> {
 }
 
 impl<S: Service<Request>, Request> Oneshot<S, Request> {
-    /// Nothing is polled here. The request is called once the service is ready.
+    /// Creates the future. Polls nothing. The service is called with the request as soon as it is ready.
     pub fn new(service: S, request: Request) -> Oneshot<S, Request>
         ensures { result.state ≡ NotReady service request }
     {

@@ -13,8 +13,8 @@ use futures::task::{Context, Poll};
 use std::marker::Model;
 use tower_base::service::Service;
 
-/// A service, or none, which is always ready and answers each call with an error: the Rust's
-/// `tower::util::Optional`.
+/// A service or none: the Rust's `tower::util::Optional`. Without a service it is always ready, and each
+/// call returns an error.
 #[derive(Drop)]
 pub struct Optional<T> {
     inner: Option<T>,
@@ -27,7 +27,7 @@ impl<T> Model for Optional<T> {
 }
 
 impl<T> Optional<T> {
-    /// With `None` it is always ready, and each call answers `None`.
+    /// Creates an `Optional`. With `None` it is always ready, and each call returns the error `None`.
     pub fn new(inner: Option<T>) -> Optional<T>
         ensures { result ≡ inner }
     {

@@ -1,4 +1,4 @@
-//! What goes inside of what each service here is asked: laws. The Rust has no such module.
+//! Laws on which requests each service here passes to the services inside it. The Rust has no such module.
 ghost use Rattle.tower_base.specs.ServiceRun.{Takes, relations};
 ghost use Rattle.tower_base.specs.Projection.{Mapped, Once, Projects};
 ghost use Rattle.tower_util.specs.Projections.{ClosureMakes, RunsInOneshot, RunsOfOptional, RunsOfSide, RunsOnceThere};
@@ -9,14 +9,14 @@ use crate::util::{
 };
 use tower_base::service::{Service, Steps};
 
-/// Of each call what the closure makes of its request goes inside.
+/// Each call is passed inside once, with the request that the closure makes of its request.
 pub fn map_request<S: Service<R2>, F, R1, R2>()
 where
     F: FnMut(R1) -> R2 + Drop,
     ensures { Projects (relations ⟦<MapRequest<S, F> as Service<R1>>⟧) (relations S.Service) (λ m. m.inner) (Mapped (ClosureMakes F.step)) }
 {}
 
-/// Each call goes inside, once.
+/// Each call is passed inside, once.
 pub fn map_response<S: Service<Request>, F, Request, T>()
 where
     F: Fn(S::Response) -> T + Copy,
@@ -24,7 +24,7 @@ where
     ensures { Projects (relations ⟦<MapResponse<S, F> as Service<Request>>⟧) (relations S.Service) (λ m. m.inner) Once }
 {}
 
-/// Each call goes inside, once.
+/// Each call is passed inside, once.
 pub fn map_err<S: Service<Request>, F, Request, U>()
 where
     F: Fn(S::Error) -> U + Copy,
@@ -32,7 +32,7 @@ where
     ensures { Projects (relations ⟦<MapErr<S, F> as Service<Request>>⟧) (relations S.Service) (λ m. m.inner) Once }
 {}
 
-/// Each call goes inside, once.
+/// Each call is passed inside, once.
 pub fn map_result<S: Service<Request>, F, Request, T, U>()
 where
     F: Fn(Result<S::Response, S::Error>) -> Result<T, U> + Copy,
@@ -41,7 +41,7 @@ where
     ensures { Projects (relations ⟦<MapResult<S, F> as Service<Request>>⟧) (relations S.Service) (λ m. m.inner) Once }
 {}
 
-/// Each call goes inside, once.
+/// Each call is passed inside, once.
 pub fn map_future<R, S: Service<R>, F, T, E, Fut>()
 where
     F: FnMut(S::Future) -> Fut + Drop,
@@ -51,7 +51,7 @@ where
     ensures { Projects (relations ⟦<MapFuture<S, F> as Service<R>>⟧) (relations S.Service) (λ m. m.inner) Once }
 {}
 
-/// Each call goes inside, once.
+/// Each call is passed inside, once.
 pub fn then<S: Service<Request>, F, Request, Fut, T, U>()
 where
     F: Fn(Result<S::Response, S::Error>) -> Fut + Copy,
@@ -61,7 +61,7 @@ where
     ensures { Projects (relations ⟦<Then<S, F> as Service<Request>>⟧) (relations S.Service) (λ m. m.inner) Once }
 {}
 
-/// Each call goes inside, once.
+/// Each call is passed inside, once.
 pub fn and_then<S: Service<Request>, F, Request, Fut, T, U>()
 where
     F: Fn(S::Response) -> Fut + Copy,
@@ -71,7 +71,7 @@ where
     ensures { Projects (relations ⟦<AndThen<S, F> as Service<Request>>⟧) (relations S.Service) (λ m. m.inner) Once }
 {}
 
-/// The side that is there gets each poll and each call, and it stays that side.
+/// The side that is present gets each poll and each call, and the side never changes.
 pub fn either<R, A, B>()
 where
     A: Service<R>,
@@ -79,12 +79,13 @@ where
     ensures { (old : _) (action : _) (new : _) → Takes (relations ⟦<Either<A, B> as Service<R>>⟧) old action new → RunsOfSide (relations A.Service) (relations B.Service) old action new }
 {}
 
-/// If there is a service, it gets each poll and each call. There is one later if and only if there is one now.
+/// If there is a service, it gets each poll and each call. Afterwards there is a service if and only if
+/// there was one before.
 pub fn optional<T: Service<Request>, Request: Drop>()
     ensures { (old : _) (action : _) (new : _) → Takes (relations ⟦<Optional<T> as Service<Request>>⟧) old action new → RunsOfOptional T.Service old action new }
 {}
 
-/// Each call goes to the service, once, from the moment on at which the future gave it.
+/// From the moment at which the future returned the service, each call is passed to it, once.
 pub fn future_service<R, F, S>()
 where
     F: Steps<Output = Result<S, S::Error>>,
@@ -92,12 +93,12 @@ where
     ensures { (old : _) (action : _) (new : _) → Takes (relations ⟦<FutureService<F, S> as Service<R>>⟧) old action new → RunsOnceThere S.Service F.stepped old action new }
 {}
 
-/// Each poll of the future polls its service, until that is called with the request, once, or fails.
+/// Each poll of the future polls its service, until the service is called once with the request, or fails.
 pub fn oneshot<S: Service<Request>, Request: Drop>()
     ensures { (old : _) (answer : _) (new : _) → ⟦<Oneshot<S, Request> as Steps>⟧.stepped old answer new → RunsInOneshot S.Service old.state new.state }
 {}
 
-/// Each call goes inside, once.
+/// Each call is passed inside, once.
 pub fn sealed<S: Service<Request>, Request>()
     ensures { Projects (relations ⟦<Sealed<S, Request> as Service<Request>>⟧) (relations S.Service) (λ s. s) Once }
 {}

@@ -1,4 +1,4 @@
-//! Waiting for a service to be ready.
+//! Futures that wait until a service is ready.
 ghost use Rattle.std.specs.Prelude.{◌≡◌, Option, Some, IsSomeAnd, Ok, Err};
 ghost use Rattle.futures.specs.Poll.{IfReady, OnPending};
 ghost use Rattle.futures.specs.Task.{Covers, Keeps};
@@ -10,7 +10,8 @@ use futures::task::{Context, Poll};
 use std::marker::{Model, PhantomData};
 use tower_base::service::{Service, Steps};
 
-/// Waits until a service is ready, and gives it back: the Rust's `tower::util::ReadyOneshot`.
+/// A future that waits until a service is ready, and returns the service. It is the Rust's
+/// `tower::util::ReadyOneshot`.
 #[derive(Drop)]
 pub struct ReadyOneshot<T, Request> {
     inner: Option<T>,
@@ -24,7 +25,7 @@ impl<T, Request> Model for ReadyOneshot<T, Request> {
 }
 
 impl<T: Service<Request>, Request> ReadyOneshot<T, Request> {
-    /// Nothing is polled here.
+    /// Creates the future. Polls nothing.
     pub fn new(service: T) -> ReadyOneshot<T, Request>
         ensures { result ≡ Some service }
     {
@@ -40,7 +41,7 @@ impl<T: Service<Request>, Request: Drop> Future for ReadyOneshot<T, Request> {
 
     ghost can_poll = { λ r. IsSomeAnd r T.sound };
 
-    // The service that it gives is sound and ready.
+    // The service that the future returns is sound and ready.
     ghost gives = { MayGiveBack T.sound T.ready T.polled };
 
     #[tactic(auto, using(crate::proofs::ReadyLemmas::gives_back_step))]
@@ -77,8 +78,8 @@ impl<T: Service<Request>, Request: Drop> Steps for ReadyOneshot<T, Request> {
     }
 }
 
-/// Waits until a borrowed service is ready, and gives the borrow back: the Rust's
-/// `tower::util::Ready`. After an error nothing is known of the service by this way.
+/// A future that waits until a borrowed service is ready, and returns the borrow. It is the Rust's
+/// `tower::util::Ready`. After an error, nothing is known of the service through this future.
 #[derive(Drop)]
 pub struct Ready<'a, T, Request> {
     service: Option<&'a mut T>,
@@ -86,7 +87,7 @@ pub struct Ready<'a, T, Request> {
 }
 
 impl<'a, T: Service<Request>, Request> Ready<'a, T, Request> {
-    /// Nothing is polled here.
+    /// Creates the future. Polls nothing.
     pub fn new(service: &'a mut T) -> Ready<'a, T, Request>
         ensures { IsSomeAnd result.service (λ lent. (lent.now ≡ service.old) × (lent.ghost_name ≡ service.entry.ghost_name)) }
     {
@@ -102,7 +103,7 @@ impl<'a, T: Service<Request>, Request: Drop> Future for Ready<'a, T, Request> {
 
     ghost can_poll = { λ r. IsSomeAnd r.service (λ lent. T.sound lent.now) };
 
-    // The borrow that it gives is the same, of a service that is sound and ready.
+    // The future returns the same borrow, of a service that is sound and ready.
     ghost gives = { λ r out. MayGive (λ old answer new. ReadyStepped T.sound T.ready T.polled old.service answer new.service) r out
         × HandsBack T.sound T.ready r.service out };
 

@@ -1,13 +1,13 @@
-//! A service of which no more is to be shown. Own: contracts alone need it.
+//! A service whose soundness needs no further proof. The Rust has no such module; only contracts need it.
 ghost use Rattle.std.specs.Prelude.{◌≡◌};
 
 use futures::task::{Context, Poll};
 use std::marker::{Model, PhantomData};
-use tower_base::latch::held::{Fact, IsSound, open};
 use tower_base::run::Contains;
 use tower_base::service::Service;
+use tower_latch::held::{Fact, IsSound, open};
 
-// What is lent is sound.
+// The fact that the borrowed service is sound.
 struct IsSoundBehind<Request> {
     request: PhantomData<Request>,
 }
@@ -16,9 +16,10 @@ impl<'a, S: Service<Request>, Request> Fact<&'a S> for IsSoundBehind<Request> {
     ghost holds = { λ lent. S.sound lent.now };
 }
 
-/// A service that is sound, as its type says: whoever has one may poll it, and call it where it is ready.
+/// A service that is sound by its type. Whoever has one may poll it, and may call it if it is ready.
 ///
-/// Contracts see the service. It has no bytes of its own, and each of its calls is the service's.
+/// Contracts see the wrapped service. The wrapper adds no bytes, and each call of it is a call of the
+/// service.
 #[derive(Drop)]
 pub struct Sealed<S: Service<Request>, Request> {
     service: S,
@@ -34,7 +35,7 @@ impl<S: Service<Request>, Request> Model for Sealed<S, Request> {
 }
 
 impl<S: Service<Request>, Request> Sealed<S, Request> {
-    /// Asks once for what no later call asks for again.
+    /// Wraps a sound service. It requires soundness once, and no later call requires it again.
     pub fn new(service: S) -> Sealed<S, Request>
         requires { S.sound service }
         ensures { result ≡ service }
@@ -45,7 +46,7 @@ impl<S: Service<Request>, Request> Sealed<S, Request> {
         }
     }
 
-    /// The service, which is sound still.
+    /// Returns the service, which is still sound.
     pub fn into_inner(self) -> S
         ensures sound { S.sound result }
         ensures same { result ≡ self }
@@ -84,7 +85,7 @@ impl<S: Service<Request>, Request> Service<Request> for Sealed<S, Request> {
     }
 }
 
-/// What its service contains.
+/// A `Sealed` contains what its service contains.
 impl<S: Contains<Request, Passed, L>, Request, Passed, L: Service<Passed>> Contains<
     Request,
     Passed,

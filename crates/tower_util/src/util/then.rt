@@ -1,4 +1,4 @@
-//! A second future for each result.
+//! A service that continues with a second future after each result.
 ghost use Rattle.std.specs.Prelude.{◌≡◌, Result};
 ghost use Rattle.tower_base.specs.Gives.{IsStep, MayGive};
 ghost use Rattle.tower_util.specs.Chain.{Called, ThenStepped};
@@ -16,7 +16,8 @@ use std::marker::Model;
 use tower_base::layer::Layer;
 use tower_base::service::{Service, Steps};
 
-/// Goes on from each result with a future that a closure makes of it. An error of readiness is only converted: the Rust's `tower::util::Then`.
+/// A service that continues from each result with a future that a closure makes of it: the Rust's
+/// `tower::util::Then`. An error of readiness is only converted.
 #[derive(Clone, Drop)]
 pub struct Then<S, F> {
     inner: S,
@@ -30,14 +31,14 @@ impl<S, F> Model for Then<S, F> {
 }
 
 impl<S, F> Then<S, F> {
-    /// The closure isn't called here.
+    /// Wraps the service. Doesn't call the closure.
     pub fn new(inner: S, f: F) -> Then<S, F>
         ensures { result ≡ record { inner = inner; f = f } }
     {
         Then { inner, f }
     }
 
-    /// Its layer.
+    /// Returns a layer that makes a `Then` with this closure.
     pub fn layer(f: F) -> ThenLayer<F>
         ensures { result ≡ record { f = f } }
     {
@@ -59,7 +60,7 @@ where
 
     type Future = ThenFuture<S::Future, Fut, F>;
 
-    // What the closure gives may be polled.
+    // The futures that the closure returns may be polled.
     ghost sound = { λ m. S.sound m.inner × F.IsAlwaysCallable m.f × ((x : _) (future : Fut) → F.post m.f x future → Fut.can_poll future) };
 
     ghost ready = { λ m. S.ready m.inner };
@@ -84,7 +85,7 @@ where
     }
 }
 
-/// The response of a `Then`: the Rust's `tower::util::future::ThenFuture`.
+/// The response future of a `Then`. It is the Rust's `tower::util::future::ThenFuture`.
 #[derive(Drop)]
 pub struct ThenFuture<F1, F2, N> {
     state: Chain<F1, F2, N>,
@@ -159,7 +160,7 @@ where
     }
 }
 
-/// Makes a `Then` of a service: the Rust's `tower::util::ThenLayer`.
+/// A layer that wraps a service in a `Then`. It is the Rust's `tower::util::ThenLayer`.
 #[derive(Clone, Drop)]
 pub struct ThenLayer<F> {
     f: F,
@@ -172,7 +173,7 @@ impl<F> Model for ThenLayer<F> {
 }
 
 impl<F> ThenLayer<F> {
-    /// Each service that it wraps gets a copy of the closure.
+    /// Creates a layer that gives each service a copy of the closure.
     pub fn new(f: F) -> ThenLayer<F>
         ensures { result ≡ record { f = f } }
     {

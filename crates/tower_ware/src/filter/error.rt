@@ -1,4 +1,4 @@
-//! Why there is no response.
+//! The error of the filters.
 
 use std::fmt::Display;
 
@@ -9,10 +9,10 @@ pub enum Error<E, P> {
     /// The inner service's own error.
     #[error(transparent)]
     Inner(E),
-    /// The predicate's error: the request didn't go inside.
+    /// The predicate's error. The inner service wasn't called with the request.
     #[error(transparent)]
     Rejected(P),
-    /// The inner service couldn't be cloned at the call. Of `AsyncFilter` alone.
+    /// The inner service couldn't be cloned at the call. Only `AsyncFilter` returns it.
     #[error("out of memory")]
     Memory,
 }

@@ -16,7 +16,9 @@ use std::marker::Model;
 use std::mem;
 use tower_base::service::{Service, Steps};
 
-/// The response of a `Filter`, which is dropped as it answers, or the predicate's error.
+/// The future of a `Filter`, which resolves to the inner response or to the predicate's error.
+///
+/// The inner future is dropped once it is ready.
 #[derive(Drop)]
 pub struct ResponseFuture<F, P> {
     state: State<F, P>,
@@ -79,9 +81,9 @@ impl<A, E, P: Drop, F: Steps<Output = Result<A, E>>> Steps for ResponseFuture<F,
     }
 }
 
-/// The response of an `AsyncFilter`, or the predicate's error.
+/// The future of an `AsyncFilter`, which resolves to the inner response or to the predicate's error.
 ///
-/// It has the service that was polled, and calls it once the check answers `Ok`.
+/// It holds the service that was polled, and calls it once the check returns `Ok`.
 #[derive(Drop)]
 pub struct AsyncResponseFuture<C, S, F> {
     state: AsyncState<C, S, F>,

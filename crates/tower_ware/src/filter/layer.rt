@@ -7,7 +7,7 @@ use std::alloc::AllocError;
 use std::marker::Model;
 use tower_base::layer::Layer;
 
-/// Makes a `Filter` of a service, with a clone of the predicate.
+/// A layer that wraps a service in a `Filter` with a clone of the predicate.
 #[derive(Drop)]
 pub struct FilterLayer<U> {
     predicate: U,
@@ -20,7 +20,9 @@ impl<U> Model for FilterLayer<U> {
 }
 
 impl<U> FilterLayer<U> {
-    /// `layer` answers an error where the clone of the predicate is refused, and drops the service then.
+    /// Creates a layer with the predicate.
+    ///
+    /// `layer` returns an error and drops the service if cloning the predicate fails.
     pub fn new(predicate: U) -> FilterLayer<U>
         ensures { result ≡ predicate }
     {
@@ -47,7 +49,7 @@ impl<U: Clone> Clone for FilterLayer<U> {
     }
 }
 
-/// Makes an `AsyncFilter` of a service, with a clone of the predicate.
+/// A layer that wraps a service in an `AsyncFilter` with a clone of the predicate.
 #[derive(Drop)]
 pub struct AsyncFilterLayer<U> {
     predicate: U,
@@ -60,7 +62,9 @@ impl<U> Model for AsyncFilterLayer<U> {
 }
 
 impl<U> AsyncFilterLayer<U> {
-    /// `layer` answers an error where the clone of the predicate is refused, and drops the service then.
+    /// Creates a layer with the predicate.
+    ///
+    /// `layer` returns an error and drops the service if cloning the predicate fails.
     pub fn new(predicate: U) -> AsyncFilterLayer<U>
         ensures { result ≡ predicate }
     {

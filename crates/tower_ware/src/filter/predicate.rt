@@ -1,30 +1,30 @@
-//! What checks requests.
+//! The predicates of the filters.
 ghost use Rattle.std.specs.Prelude.{◌≡◌, ⊤, Result};
 
 use std::marker::Model;
 use tower_base::service::Steps;
 
-/// Checks a request, and may make another of it.
+/// A predicate, which checks a request and may turn it into another one.
 pub trait Predicate<Request>: Drop {
     type Request;
 
     type Error: Drop;
 
-    // What constructors make has it, and every check keeps it.
+    // Holds after construction and is preserved by every check.
     ghost sound: { Self → Type 0 } = { λ _. ⊤ };
 
-    // A check of the request may have this outcome and leave the second value. Left out, it isn't known
-    // which requests go inside, nor as what.
+    // A check of the request may return this result and leave the second value. If left out, it isn't
+    // known which requests are accepted, nor what the inner service is called with.
     ghost checked: { Self → Request → Result Self.Request Self.Error → Self → Type 0 } = { λ _ _ _ _. ⊤ };
 
-    /// The request that goes inside, or why none does.
+    /// Returns the request for the inner service, or an error if it rejects the request.
     fn check(&mut self, request: Request) -> Result<Self::Request, Self::Error>
         requires { sound self.old }
         ensures checked { checked self.old request result self.new }
         ensures sound { sound self.new };
 }
 
-/// Checks a request by a future.
+/// A predicate that checks a request with a future.
 pub trait AsyncPredicate<Request>: Drop {
     type Request;
 
@@ -32,14 +32,14 @@ pub trait AsyncPredicate<Request>: Drop {
 
     type Future: Steps<Output = Result<Self::Request, Self::Error>>;
 
-    // What constructors make has it, and every check keeps it.
+    // Holds after construction and is preserved by every check.
     ghost sound: { Self → Type 0 } = { λ _. ⊤ };
 
-    // A check of the request may give this future and leave the second value. Left out, it isn't known
-    // which requests go inside, nor as what.
+    // A check of the request may return this future and leave the second value. If left out, it isn't
+    // known which requests are accepted, nor what the inner service is called with.
     ghost asked: { Self → Request → Self.Future → Self → Type 0 } = { λ _ _ _ _. ⊤ };
 
-    /// A future of the request that goes inside, or of why none does.
+    /// Returns a future of the request for the inner service, or of an error if it rejects the request.
     fn check(&mut self, request: Request) -> Self::Future
         requires { sound self.old }
         ensures asked { asked self.old request result self.new }
@@ -47,7 +47,7 @@ pub trait AsyncPredicate<Request>: Drop {
         ensures fresh { Self.Future.can_poll result };
 }
 
-/// A predicate by a closure. In the Rust the closure itself is one.
+/// A predicate that calls a closure. In the Rust the closure itself is a predicate.
 #[derive(Clone, Copy, Drop)]
 pub struct PredicateFn<F> {
     f: F,
@@ -62,7 +62,7 @@ impl<F> Model for PredicateFn<F> {
 }
 
 impl<F> PredicateFn<F> {
-    /// The closure gives the request that goes inside, or the error.
+    /// Creates a predicate from a closure that returns the request for the inner service, or the error.
     pub fn new(f: F) -> PredicateFn<F>
         ensures { result ≡ f }
     {
@@ -88,7 +88,7 @@ where
     }
 }
 
-/// A predicate by a closure that gives a future. In the Rust the closure itself is one.
+/// A predicate that calls a closure for a future. In the Rust the closure itself is a predicate.
 #[derive(Clone, Copy, Drop)]
 pub struct AsyncPredicateFn<F> {
     f: F,
@@ -103,7 +103,8 @@ impl<F> Model for AsyncPredicateFn<F> {
 }
 
 impl<F> AsyncPredicateFn<F> {
-    /// The closure gives a future of the request that goes inside, or of the error.
+    /// Creates a predicate from a closure that returns a future of the request for the inner service, or
+    /// of the error.
     pub fn new(f: F) -> AsyncPredicateFn<F>
         ensures { result ≡ f }
     {
@@ -123,7 +124,7 @@ where
 
     type Future = U;
 
-    // The closure may be called on and on, and what it gives may be polled.
+    // The closure may be called any number of times, and each future that it returns may be polled.
     ghost sound = { λ p. F.IsAlwaysCallable p
         × ((f : F) (request : T) (future : U) (g : F) → F.step f request future g → U.can_poll future) };
 

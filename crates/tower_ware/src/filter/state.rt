@@ -1,6 +1,6 @@
-//! What the futures of the filters wait for.
+//! The states of the filters' futures.
 
-/// The response or the refusal, until it is answered.
+/// The state of a `Filter`'s future: the response, the refusal, or nothing once it has returned either.
 #[derive(Drop)]
 pub(crate) enum State<F, P> {
     Response(F),
@@ -8,7 +8,8 @@ pub(crate) enum State<F, P> {
     Answered,
 }
 
-/// The check beside the service that was polled, or the response, or nothing since there is no clone.
+/// The state of an `AsyncFilter`'s future: the check and the service that was polled, the response, or
+/// nothing if cloning failed.
 #[derive(Drop)]
 pub(crate) enum AsyncState<C, S, F> {
     Check(C, S),

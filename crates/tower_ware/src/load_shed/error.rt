@@ -1,14 +1,14 @@
-//! Why there is no response.
+//! The errors of a `LoadShed`.
 
 use std::fmt::Display;
 
-/// The inner service wasn't ready.
+/// The error of a call that is refused because the inner service wasn't ready.
 #[derive(Clone, Copy, Debug, Default, PartialEq, Eq, thiserror::Error)]
 #[error("service overloaded")]
 pub struct Overloaded;
 
 impl Overloaded {
-    /// It has no parts.
+    /// Creates an `Overloaded`.
     pub fn new() -> Overloaded {
         Overloaded
     }

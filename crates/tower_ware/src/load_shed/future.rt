@@ -9,7 +9,8 @@ use futures::task::{Context, Poll};
 use std::marker::Model;
 use tower_base::service::Steps;
 
-/// The response, or the refusal: the Rust's `tower::load_shed::future::ResponseFuture`.
+/// The future of a `LoadShed`, which resolves to the inner response or to `Overloaded`: the Rust's
+/// `tower::load_shed::future::ResponseFuture`.
 #[derive(Drop)]
 pub struct ResponseFuture<F> {
     response: Option<F>,

@@ -6,12 +6,12 @@ use crate::load_shed::LoadShed;
 use std::alloc::AllocError;
 use tower_base::layer::Layer;
 
-/// Makes a `LoadShed` of a service. It takes no memory.
+/// A layer that wraps a service in a `LoadShed`. It allocates nothing.
 #[derive(Clone, Copy, Debug, Default, PartialEq, Eq)]
 pub struct LoadShedLayer;
 
 impl LoadShedLayer {
-    /// It has no parts.
+    /// Creates a `LoadShedLayer`.
     pub fn new() -> LoadShedLayer {
         LoadShedLayer
     }

@@ -1,4 +1,4 @@
-//! Why there is no response, and no readiness.
+//! The error of a `Reconnect`.
 
 use std::fmt::Display;
 
@@ -6,13 +6,13 @@ use std::fmt::Display;
 #[derive(Clone, Debug, Drop, PartialEq, Eq, thiserror::Error)]
 #[error_bound(E: Display, M: Display)]
 pub enum Error<E, M> {
-    /// The connection's own error: of a response alone.
+    /// The connection's own error. Only a response returns it.
     #[error(transparent)]
     Inner(E),
-    /// The maker's error: of its readiness as the answer to a poll, of a connect as that to a call.
+    /// The maker's error. A poll returns that of the maker's readiness, and a response that of a connect.
     #[error(transparent)]
     Make(M),
-    /// The target could not be cloned. It is the answer to a poll alone.
+    /// The target couldn't be cloned. Only a poll returns it.
     #[error("out of memory")]
     Memory,
 }

@@ -1,4 +1,4 @@
-//! The response of a `Reconnect`.
+//! The future of a `Reconnect`.
 ghost use Rattle.std.specs.Prelude.{◌≡◌, ⊤};
 ghost use Rattle.tower_base.specs.Gives.{IsStep, MayGive};
 ghost use Rattle.tower_ware.specs.Reconnect.{CanPoll, Stepped, needs_of};
@@ -11,8 +11,8 @@ use futures::task::{Context, Poll};
 use std::marker::Model;
 use tower_base::service::Steps;
 
-/// The connection's response, or the error of a connect: the Rust's
-/// `tower::reconnect::future::ResponseFuture`.
+/// The future of a `Reconnect`, which resolves to the connection's response or to the error of a connect:
+/// the Rust's `tower::reconnect::future::ResponseFuture`.
 #[derive(Drop)]
 pub struct ResponseFuture<F, E> {
     reply: Reply<F, E>,

@@ -1,4 +1,4 @@
-//! How far a connection has come.
+//! The states of a `Reconnect` and of its future.
 
 #[derive(Drop)]
 pub enum State<F, S> {
@@ -7,7 +7,7 @@ pub enum State<F, S> {
     Connected(S),
 }
 
-/// A response, or an error in place of it, which is given once.
+/// The future of a response, or an error in its place, which is returned once.
 #[derive(Drop)]
 pub enum Reply<F, E> {
     InFlight(F),

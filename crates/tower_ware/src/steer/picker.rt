@@ -1,16 +1,16 @@
-//! What chooses among services.
+//! The pickers of `Steer`.
 ghost use Rattle.std.specs.Prelude.{◌≡◌, ◌<◌, ⊤, ℕ, List, length};
 
-/// Chooses a service for a request. The index is inside the list.
+/// A picker, which chooses a service for a request. The index that it returns is inside the list.
 pub trait Picker<S, Req>: Drop {
-    // What constructors make has it, and every pick keeps it.
+    // Holds after construction and is preserved by every pick.
     ghost sound: { Self → Type 0 } = { λ _. ⊤ };
 
-    // A pick for the request among the services may be the index, and leave the last value. Left out,
-    // any service of the list may be picked.
+    // A pick for the request among the services may return the index and leave the last value. If left
+    // out, any service of the list may be picked.
     ghost picked: { Self → Req → List S → ℕ → Self → Type 0 } = { λ _ _ _ _ _. ⊤ };
 
-    /// The index of the service that is to be called.
+    /// Returns the index of the service to call.
     fn pick(&mut self, request: &Req, services: &[S]) -> usize
         requires sound { sound self.old }
         requires some { 0 < length services.now }
@@ -19,14 +19,16 @@ pub trait Picker<S, Req>: Drop {
         ensures picked { picked self.old request.now services.now result self.new };
 }
 
-/// A picker by a closure. In the Rust the closure itself is one. It may be called with any list that isn't empty, and its answers are inside.
+/// A picker that calls a closure. In the Rust the closure itself is a picker.
+///
+/// The closure may be called with any list that isn't empty, and returns an index inside the list.
 #[derive(Clone, Copy, Drop)]
 pub struct PickerFn<F> {
     pub f: F,
 }
 
 impl<F> PickerFn<F> {
-    /// The closure gives the index of a service in the list.
+    /// Creates a picker from a closure that returns the index of a service in the list.
     pub fn new(f: F) -> PickerFn<F>
         ensures { result.f ≡ f }
     {

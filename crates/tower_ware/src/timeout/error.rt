@@ -1,14 +1,14 @@
-//! Why there is no response.
+//! The errors of a `Timeout`.
 
 use std::fmt::Display;
 use std::{error, fmt};
 
-/// The time of a response is over: the Rust's `tower::timeout::error::Elapsed`.
+/// The error of a response that takes too long: the Rust's `tower::timeout::error::Elapsed`.
 #[derive(Clone, Copy, Debug, PartialEq, Eq)]
 pub struct Elapsed;
 
 impl Elapsed {
-    /// It has no parts.
+    /// Creates an `Elapsed`.
     pub fn new() -> Elapsed {
         Elapsed
     }

@@ -1,4 +1,4 @@
-//! The response of a `Timeout`.
+//! The future of a `Timeout`.
 ghost use Rattle.std.specs.Prelude.{◌≡◌, ⊤};
 ghost use Rattle.futures.specs.Poll.{IfReady, OnPending};
 ghost use Rattle.futures.specs.Task.{Covers, Keeps};
@@ -11,9 +11,10 @@ use futures::task::{Context, Poll};
 use std::marker::Model;
 use tower_base::service::{Clock, Steps};
 
-/// A response, or the end of its time: the Rust's `tower::timeout::future::ResponseFuture`.
+/// The future of a `Timeout`, which resolves to the inner response or to `Elapsed`: the Rust's
+/// `tower::timeout::future::ResponseFuture`.
 ///
-/// The response is polled first. Only where it is pending is the clock read.
+/// The response is polled first. The clock is read only if the response is pending.
 #[derive(Drop)]
 pub struct ResponseFuture<F, C> {
     response: F,
@@ -50,7 +51,7 @@ where
 
     ghost gives = { MayGive (Stepped F.Steps.own C.Clock) };
 
-    // A pending poll wakes its own waker, whatever source is meant.
+    // A pending poll wakes its own waker, whatever the source.
     ghost needs = { λ _ _. ⊤ };
 
     #[tactic(auto, using(tower_base::specs::GivesLemmas::one_step))]
@@ -71,7 +72,7 @@ where
 
     ghost can_poll = { λ v. F.can_poll v.response };
 
-    // A pending poll wakes its own waker, whatever source is meant.
+    // A pending poll wakes its own waker, whatever the source.
     ghost needs = { λ _ _. ⊤ };
 
     ghost stepped = { Stepped F.Steps.own C.Clock };

@@ -8,7 +8,8 @@ use std::marker::Model;
 use tower_base::layer::Layer;
 use tower_base::service::Clock;
 
-/// Makes a `Timeout` of a service, with a share of its clock: the Rust's `tower::timeout::TimeoutLayer`.
+/// A layer that wraps a service in a `Timeout` with a share of its clock: the Rust's
+/// `tower::timeout::TimeoutLayer`.
 #[derive(Drop)]
 pub struct TimeoutLayer<C> {
     duration: u64,
@@ -22,7 +23,7 @@ impl<C> Model for TimeoutLayer<C> {
 }
 
 impl<C> TimeoutLayer<C> {
-    /// The duration is in nanoseconds.
+    /// Creates a `TimeoutLayer`. The duration is in nanoseconds.
     pub fn new(duration: u64, clock: C) -> TimeoutLayer<C>
         ensures { result ≡ record { duration = duration; clock = clock } }
     {

@@ -16,11 +16,14 @@ pub use ordered::CallAll;
 use tower_base::service::{Flow, Service};
 pub use unordered::CallAllUnordered;
 
-/// The order of calls. Where a stream comes to its end and no readiness answered an error, its items but for
-/// `Memory` are one answer for each request: of a `CallAll` in the order of the requests, of a `CallAllUnordered` in
-/// any order. The service ran through these calls one after another, each at a ready value, in the order of the
-/// requests, that of the kept request first. This holds of streams from `new` and from `unordered`. Where no readiness
-/// of the service can answer an error, each run is of this kind.
+/// States the order of calls.
+///
+/// If a stream ends and no poll of the service's readiness returned an error, its items other than
+/// `Memory` are one answer for each request. A `CallAll` yields them in the order of the requests, and a
+/// `CallAllUnordered` in any order. The service was called with one request after another, each at a
+/// ready value, in the order of the requests, the kept request first. This holds of the streams that
+/// `new` and `unordered` return. If the service's readiness can't return an error, every run is of this
+/// kind.
 pub fn law<Svc: Service<S::Item>, S: Flow>()
     ensures ordered { (service : _) (requests : S) (kept : _) → InOrder Svc.Service S.Flow.own Svc.Future.Steps.own Svc.Future.can_poll service requests kept }
     ensures unordered { (service : _) (requests : S) (kept : _) → InAnyOrder Svc.Service S.Flow.own Svc.Future.Steps.own Svc.Future.can_poll service requests kept }

@@ -1,4 +1,4 @@
-//! The parts of a balancer's poll that concern its endpoints alone.
+//! The parts of a balancer's poll that concern only its endpoints.
 ghost use Rattle.std.specs.Prelude.{◌≡◌, ◌<◌, length};
 ghost use Rattle.futures.specs.Task.{Keeps};
 ghost use Rattle.tower.specs.Balance.{IsLighter, Picked, Promotes};
@@ -13,7 +13,7 @@ use tower_limit::load::Load;
 use tower_pool::ready_cache::ReadyCache;
 use tower_pool::ready_cache::error::Error as CacheError;
 
-/// Polls the pending endpoints, again after each that failed, which is dropped.
+/// Polls the pending endpoints. An endpoint that fails is dropped, and the others are polled again.
 pub(crate) fn promote<K, S, X, Req>(
     services: &mut ReadyCache<K, S, Req>,
     cx: &mut Context<'_>,
@@ -36,7 +36,7 @@ where
     }
 }
 
-// The load of the endpoint at the index.
+// Returns the load of the endpoint at the index.
 fn load_at<K, S, Req>(services: &ReadyCache<K, S, Req>, index: usize) -> S::Metric
 where
     K: Eq + Hash + Clone + Drop,
@@ -48,7 +48,7 @@ where
     service.load()
 }
 
-// Whether the load of the first is at most the second's.
+// Returns whether the load of the first is at most the second's.
 fn is_lighter<K, S, Req>(services: &ReadyCache<K, S, Req>, first: usize, second: usize) -> bool
 where
     K: Eq + Hash + Clone + Drop,
@@ -60,8 +60,8 @@ where
     load_at(services, first) <= load_at(services, second)
 }
 
-/// The index of the endpoint to be called next: of two that are drawn the first, where its load is at most the
-/// second's.
+/// Returns the index of the endpoint to be called next: of two that are drawn, the first if its load is at
+/// most the second's, and else the second.
 pub(crate) fn pick<K, S, R, Req>(services: &ReadyCache<K, S, Req>, rng: &mut R) -> Option<usize>
 where
     K: Eq + Hash + Clone + Drop,

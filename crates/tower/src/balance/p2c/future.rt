@@ -11,7 +11,7 @@ use std::marker::{Model, PhantomData};
 use tower_base::service::Steps;
 use tower_util::util::Fuse;
 
-/// The response of an endpoint, which is dropped as it answers. Its error is `Inner`.
+/// The response of an endpoint, whose error is `Inner`. The inner future is dropped once it is ready.
 #[derive(Drop)]
 pub struct ResponseFuture<F, X> {
     response: Fuse<F>,

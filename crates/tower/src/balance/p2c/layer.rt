@@ -6,8 +6,8 @@ use std::alloc::{AllocError, Global};
 use std::marker::{Model, PhantomData};
 use tower_base::layer::Layer;
 
-/// Makes a `MakeBalance` of a maker of discoveries, with a clone of the generator: the Rust's
-/// `tower::balance::p2c::MakeBalanceLayer`.
+/// A layer that makes a `MakeBalance` from a maker of discoveries, with a clone of the generator: the
+/// Rust's `tower::balance::p2c::MakeBalanceLayer`.
 #[derive(Drop)]
 pub struct MakeBalanceLayer<M, R, Req, K: Clone> {
     rng: R,
@@ -21,13 +21,13 @@ impl<M, R, Req, K: Clone> Model for MakeBalanceLayer<M, R, Req, K> {
 
     ghost view = { λ l. l.rng };
 
-    // `MakeBalance::new` asks for it.
+    // `MakeBalance::new` requires it.
     ghost invariant = { λ _. (x y : K) → K.is_clone x y → y ≡ x };
 }
 
 impl<M, R, Req, K: Clone> MakeBalanceLayer<M, R, Req, K> {
-    /// `layer` answers an error if the clone of the generator is refused, and drops the maker then. It asks for keys
-    /// whose clones equal what was cloned.
+    /// Creates the layer. Its `layer` returns an error, and drops the maker, if the generator can't be
+    /// cloned. Requires that a clone of a key equals the key.
     pub fn new(alloc: Global, rng: R) -> MakeBalanceLayer<M, R, Req, K>
         requires { (x y : K) → K.is_clone x y → y ≡ x }
         ensures { result ≡ rng }

@@ -16,10 +16,11 @@ use std::marker::{Model, PhantomData};
 use tower_base::service::{Service, Steps};
 use tower_limit::discover::Discover;
 
-/// Makes a balancer over each discovery that its maker gives: the Rust's `tower::balance::p2c::MakeBalance`.
+/// A service that makes a balancer over each discovery that its maker returns: the Rust's
+/// `tower::balance::p2c::MakeBalance`.
 ///
-/// Each balancer draws by a clone of the generator. Where that is refused the maker isn't called, and the response is
-/// `Memory`. `K` is the type of the keys.
+/// Each balancer draws by a clone of the generator. If that can't be cloned, the maker isn't called, and
+/// the response is the error `Memory`. `K` is the type of the keys.
 #[derive(Drop)]
 pub struct MakeBalance<M, R, Req, K: Clone> {
     maker: M,
@@ -33,12 +34,12 @@ impl<M, R, Req, K: Clone> Model for MakeBalance<M, R, Req, K> {
 
     ghost view = { λ m. record { maker = m.maker; rng = m.rng } };
 
-    // `Balance::from_rng` asks for it.
+    // `Balance::from_rng` requires it.
     ghost invariant = { λ _. (x y : K) → K.is_clone x y → y ≡ x };
 }
 
 impl<M, R, Req, K: Clone> MakeBalance<M, R, Req, K> {
-    /// It takes no memory yet, and asks for keys whose clones equal what was cloned.
+    /// Creates a maker of balancers, without allocating. Requires that a clone of a key equals the key.
     pub fn new(alloc: Global, maker: M, rng: R) -> MakeBalance<M, R, Req, K>
         requires { (x y : K) → K.is_clone x y → y ≡ x }
         ensures { result ≡ record { maker = maker; rng = rng } }
@@ -100,7 +101,7 @@ where
     }
 }
 
-/// A clone has clones of both parts.
+/// Clones the maker and the generator.
 impl<M: Clone + Drop, R: Clone, Req, K: Clone> Clone for MakeBalance<M, R, Req, K> {
     ghost is_clone = { IsClone M.is_clone R.is_clone };
 
@@ -111,14 +112,14 @@ impl<M: Clone + Drop, R: Clone, Req, K: Clone> Clone for MakeBalance<M, R, Req, 
     }
 }
 
-// A discovery that was asked for, with the generator of its balancer, until that is made.
+// A discovery that was requested, with the generator of its balancer until the balancer is made.
 #[derive(Drop)]
 enum State<F, R> {
     Asked(F, Option<R>),
     Refused,
 }
 
-/// A balancer that is being made: the Rust's `tower::balance::p2c::MakeFuture`.
+/// The future of a balancer that is being made: the Rust's `tower::balance::p2c::MakeFuture`.
 #[derive(Drop)]
 pub struct MakeFuture<F, R, Req, K: Clone> {
     state: State<F, R>,
@@ -131,7 +132,7 @@ impl<F, R, Req, K: Clone> Model for MakeFuture<F, R, Req, K> {
 
     ghost view = { λ f. f.state };
 
-    // `Balance::from_rng` asks for it.
+    // `Balance::from_rng` requires it.
     ghost invariant = { λ _. (x y : K) → K.is_clone x y → y ≡ x };
 }
 

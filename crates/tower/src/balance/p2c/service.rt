@@ -21,14 +21,15 @@ use tower_limit::discover::{Change, Discover};
 use tower_limit::load::Load;
 use tower_pool::ready_cache::ReadyCache;
 
-/// Calls the lighter of two ready endpoints that are drawn at random, among those that its discovery has inserted:
-/// the Rust's `tower::balance::p2c::Balance`.
+/// A service that calls the lighter of two ready endpoints, which are drawn at random among those that its
+/// discovery has inserted: the Rust's `tower::balance::p2c::Balance`.
 ///
-/// A poll takes the discovery's changes, 64 at most, polls the pending endpoints, and chooses one that is ready. An
-/// endpoint that fails is dropped. An error of the discovery answers the poll, and the next one goes on. Where there
-/// is no room the poll answers `Memory`, and no endpoint is lost. Once the discovery has ended it isn't asked again.
+/// A poll takes the discovery's changes, 64 at most, polls the pending endpoints, and chooses one that is
+/// ready. An endpoint that fails is dropped. If the discovery fails, the poll returns its error, and the
+/// next poll goes on. If allocation fails, the poll returns `Memory`, and no endpoint is lost. Once the
+/// discovery has ended it isn't polled again.
 ///
-/// Keys are asked for clones that equal what was cloned.
+/// A clone of a key must equal the key.
 #[derive(Drop)]
 pub struct Balance<D: Discover, R, Req>
 where
@@ -51,7 +52,8 @@ where
     S: Service<Req>,
     D: Discover<Key = K, Service = S, Error = X>,
 {
-    /// Draws by a generator whose words are always the same. It takes no memory yet.
+    /// Creates a balancer that draws by a `HasherRng`, whose sequence of words is always the same. It
+    /// doesn't allocate yet.
     pub fn new(alloc: Global, discover: D) -> Balance<D, HasherRng, Req>
         requires { (x y : K) → K.is_clone x y → y ≡ x }
         ensures parts { (rng : _) × New rng × (view_of result ≡ fresh discover rng) }
@@ -67,7 +69,7 @@ where
     S: Service<Req>,
     D: Discover<Key = K, Service = S, Error = X>,
 {
-    /// Draws by this generator. It takes no memory yet.
+    /// Creates a balancer that draws by `rng`. It doesn't allocate yet.
     pub fn from_rng(alloc: Global, discover: D, rng: R) -> Balance<D, R, Req>
         requires { (x y : K) → K.is_clone x y → y ≡ x }
         ensures parts { view_of result ≡ fresh discover rng }
@@ -91,22 +93,22 @@ where
     S: Service<Req>,
     D: Discover<Key = K, Service = S, Error = X>,
 {
-    /// How many endpoints there are, ready or pending. Cancelled ones count until a poll drops them, and an insert for
-    /// which there was no room yet doesn't.
+    /// Returns the number of endpoints, ready or pending. Cancelled ones count until a poll drops them. An
+    /// insert for which there was no room yet doesn't count.
     pub fn len(&self) -> usize
         ensures { result ≡ count_of (view_of self.now) }
     {
         self.services.len()
     }
 
-    /// Whether there is none.
+    /// Returns whether there are no endpoints.
     pub fn is_empty(&self) -> bool
         ensures { IsTrue result ↔ (count_of (view_of self.now) ≡ 0) }
     {
         self.services.is_empty()
     }
 
-    // Pushes an endpoint. Where there is no room it is kept for the next poll.
+    // Pushes an endpoint. If there is no room, it is kept for the next poll.
     fn insert(&mut self, key: K, service: S) -> Option<Answer<S::Error, X>>
         requires sound { Sound D.sound D.discovered S.sound (view_of self.old) }
         requires inserted { S.sound service }
@@ -122,7 +124,7 @@ where
         }
     }
 
-    // One pass of reading the discovery: an answer, or on with the next pass.
+    // Makes one pass of reading the discovery. Returns an answer, or `None` to go on with the next pass.
     fn read(&mut self, cx: &mut Context<'_>) -> Option<Answer<S::Error, X>>
         requires { Sound D.sound D.discovered S.sound (view_of self.old) }
         ensures read { Reads D.discovered K.eq (view_of self.old) result (view_of self.new) }
@@ -145,7 +147,7 @@ where
         }
     }
 
-    // Reads the discovery, unless that has ended. After the last pass the task is woken.
+    // Reads the discovery, unless it has ended. After the last pass the task is woken.
     fn read_all(&mut self, cx: &mut Context<'_>) -> Answer<S::Error, X>
         requires { Sound D.sound D.discovered S.sound (view_of self.old) }
         ensures read { ReadsAll D.discovered K.eq (view_of self.old) result (view_of self.new) }
@@ -165,7 +167,7 @@ where
         Ok(())
     }
 
-    // The changes of a poll: an insert that was kept, and then what the discovery tells.
+    // Makes the changes of a poll: an insert that was kept, and then what the discovery reports.
     fn update(&mut self, cx: &mut Context<'_>) -> Answer<S::Error, X>
         requires { Sound D.sound D.discovered S.sound (view_of self.old) }
         ensures changed { Changed D.discovered K.eq (view_of self.old) result (view_of self.new) }
@@ -193,7 +195,7 @@ where
     D: Discover<Key = K, Service = S, Error = X>,
     R: Rng,
 {
-    // Keeps the index that is picked. Where there is none, the poll is pending.
+    // Keeps the index that is picked. If none is, the poll is pending.
     fn choose(&mut self, cx: &mut Context<'_>) -> Option<Poll<Answer<S::Error, X>>>
         requires { Sound D.sound D.discovered S.sound (view_of self.old) }
         ensures chosen { Chooses K.eq S.Service S.loaded S.Metric.partial_cmp R.drew (view_of self.old) result (view_of self.new) }
@@ -211,7 +213,7 @@ where
         }
     }
 
-    // One pass of the choosing: an answer, or on with the next pass.
+    // Makes one pass of choosing. Returns an answer, or `None` to go on with the next pass.
     fn pass(&mut self, cx: &mut Context<'_>) -> Option<Poll<Answer<S::Error, X>>>
         requires { Sound D.sound D.discovered S.sound (view_of self.old) }
         ensures pass { Pass K.eq S.Service S.loaded S.Metric.partial_cmp R.drew (view_of self.old) result (view_of self.new) }
@@ -252,7 +254,7 @@ where
     D: Discover<Key = K, Service = S, Error = X>,
     R: Rng,
 {
-    // What comes after the changes: the promotion, and then the choosing.
+    // Does what follows the changes: the promotion, and then the choosing.
     fn serve(&mut self, cx: &mut Context<'_>) -> Poll<Answer<S::Error, X>>
         requires { Sound D.sound D.discovered S.sound (view_of self.old) }
         ensures served { AfterChanges K.eq S.Service S.loaded S.Metric.partial_cmp R.drew (Ok tt) (view_of self.old) result (view_of self.new) }

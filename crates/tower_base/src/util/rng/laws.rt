@@ -1,8 +1,8 @@
-//! What holds of every draw.
+//! Laws of every draw.
 ghost use Rattle.tower_base.specs.Draw.{Draws, IsOneToOne, IsOnto};
 
-/// `sample_floyd2` brings two words to a number below `n - 1` and one below `n`. The draw maps the pairs of
-/// such numbers one to one onto the ordered pairs of distinct indexes below `n`.
+/// `sample_floyd2` reduces one word to a number below `n - 1` and another to one below `n`. It maps the
+/// pairs of such numbers one to one onto the ordered pairs of distinct indexes below `n`.
 pub fn law()
     ensures draws { Draws }
     ensures one_to_one { IsOneToOne }

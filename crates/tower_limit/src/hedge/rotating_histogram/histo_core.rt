@@ -5,8 +5,8 @@ use crate::hedge::rotating_histogram::steps::{HistoReply, HistoStep};
 use crate::hedge::rotating_histogram::tally::Tally;
 use std::alloc::Global;
 use std::mem;
-use tower_base::latch::Core;
 use tower_base::service::Fraction;
+use tower_latch::Core;
 
 /// The latencies that are read in the present period, and those that are read in the next one.
 #[derive(Drop)]
@@ -21,14 +21,14 @@ pub struct HistoCore {
 
 impl HistoCore {
     ghost use Rattle.std.specs.Prelude.{◌≡◌, ◌<◌, IsTrue, ◌↔◌};
-    ghost use Rattle.tower_base.specs.Latch.{FollowsMachine};
+    ghost use Rattle.tower_latch.specs.Latch.{FollowsMachine};
     ghost use Rattle.tower_limit.specs.Histogram.{Steps, blank, rotated};
     ghost use Rattle.tower_limit.specs.declared.hedge.rotating_histogram.steps.HistoStep.TheVariants.{Record, Seed, Points, Quantile};
     ghost use Rattle.tower_limit.specs.declared.hedge.rotating_histogram.steps.HistoReply.TheVariants.{Count, Millis};
     ghost use Rattle.tower_limit.specs.HistoCore.{Changes, Opens, StandsFor};
 
-    /// A histogram at the moment of its making, which has no latencies. Times are in nanoseconds. It
-    /// asks for a positive period, which `fits` tests.
+    /// Creates a histogram without latencies at the given moment. Times are in nanoseconds. Requires a
+    /// positive period, which `fits` tests.
     pub fn new(alloc: Global, period: u64, moment: u64) -> HistoCore
         requires { period ≢ 0 }
         ensures made { StandsFor result (blank moment period) }
@@ -43,7 +43,7 @@ impl HistoCore {
         }
     }
 
-    /// The period that `new` asks for: a positive one.
+    /// Returns whether the period is positive, as `new` requires.
     pub fn fits(period: u64) -> bool
         ensures { IsTrue result ↔ (period ≢ 0) }
     {
@@ -60,7 +60,7 @@ impl HistoCore {
         }
     }
 
-    // What was written in the period before is read now.
+    // What was written in the period before this one is read now.
     #[inline(never)]
     fn move_to(&mut self, period: u64)
         requires { self.old.present < period }
@@ -113,15 +113,20 @@ impl Core for HistoCore {
     type Reply = HistoReply;
 
     ghost use Rattle.std.specs.Prelude.{false};
-    ghost use Rattle.tower_base.specs.Latch.{StepsAs};
+    ghost use Rattle.tower_latch.specs.Latch.{StepsAs};
     ghost use Rattle.tower_limit.specs.Histogram.{Steps};
     ghost use Rattle.tower_limit.specs.HistoCore.{Opens, StandsFor};
+    ghost use Rattle.tower_latch.specs.LatchLemmas.{none_held, no_places};
 
     ghost opens = { Opens };
 
     ghost steps = { StepsAs StandsFor Steps };
 
     ghost is_wait = { λ _. false };
+
+    ghost starts = { none_held _ };
+
+    ghost counts = { no_places _ };
 
     #[inline(always)]
     fn step(&mut self, step: HistoStep) -> HistoReply {
@@ -135,5 +140,9 @@ impl Core for HistoCore {
 
     fn waits(_reply: &HistoReply) -> bool {
         false
+    }
+
+    fn capacity(&self) -> usize {
+        0
     }
 }

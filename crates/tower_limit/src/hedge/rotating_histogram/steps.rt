@@ -1,30 +1,30 @@
-//! What may be asked of a histogram, and what it answers.
+//! The steps of a `HistoCore`, and its replies.
 use tower_base::service::Fraction;
 
-/// What may be asked of a histogram, each with its moment first.
+/// A step of a `HistoCore`. Its first field is its moment.
 #[derive(Clone, Copy, Debug, PartialEq, Eq)]
 pub enum HistoStep {
-    /// A latency in milliseconds, which is read in the next period.
+    /// Adds a latency in milliseconds, which is read in the next period.
     Record(u64, u64),
-    /// A latency in milliseconds, which is read in the present period.
+    /// Adds a latency in milliseconds, which is read in the present period.
     Seed(u64, u64),
-    /// How many latencies are read in the present period.
+    /// Counts the latencies that are read in the present period.
     Points(u64),
-    /// The latency that so many of those are at or below.
+    /// Finds the latency that the given fraction of those is at or below.
     Quantile(u64, Fraction),
 }
 
-/// What a histogram answers.
+/// The reply of a `HistoCore` to a step.
 #[derive(Clone, Copy, Debug, PartialEq, Eq)]
 pub enum HistoReply {
-    /// The latency is taken.
+    /// The latency was added.
     Done,
-    /// There was no memory for the latency, which is left out.
+    /// Allocation failed for the latency, which is left out.
     Memory,
     /// The period has 2^64 - 1 latencies, and this one is left out.
     Full,
-    /// To a question for how many there are.
+    /// The number of latencies, in reply to `Points`.
     Count(u64),
-    /// To a question for a quantile: milliseconds, 0 where there are none.
+    /// A latency in milliseconds, in reply to `Quantile`. It is 0 if there are no latencies.
     Millis(u64),
 }

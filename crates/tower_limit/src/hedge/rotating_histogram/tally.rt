@@ -10,7 +10,7 @@ use std::alloc::Global;
 use std::collections::BTreeMap;
 use tower_base::service::Fraction;
 
-/// How often each number of milliseconds came, and how many there are in all.
+/// How often each number of milliseconds was added, and how many latencies there are in all.
 #[derive(Drop)]
 pub(crate) struct Tally {
     counts: BTreeMap<u64, u64>,
@@ -46,7 +46,7 @@ impl Tally {
         self.total = 0;
     }
 
-    /// One more latency, unless there is no room to count it.
+    /// Adds a latency, unless there is no room to count it.
     pub(crate) fn add(&mut self, millis: u64) -> HistoReply
         ensures { Adds self.old millis result self.new }
     {
@@ -65,7 +65,8 @@ impl Tally {
         HistoReply::Done
     }
 
-    /// The latency with that rank, by its milliseconds. It is 0 where there are none.
+    /// Returns the latency at the rank that `part` gives, in milliseconds, or 0 if there are no
+    /// latencies.
     pub(crate) fn quantile(&self, part: Fraction) -> u64
         ensures { result ≡ slice_index_or (flat self.now.counts.entries) (rank self.now.total part - 1) 0 }
     {

@@ -1,4 +1,4 @@
-//! Why there is no response.
+//! The error of a `ConcurrencyLimit`.
 ghost use Rattle.std.specs.Prelude.{◌≡◌};
 ghost use Rattle.tower_base.specs.Answers.{answered};
 
@@ -12,7 +12,7 @@ pub enum Error<E> {
     /// The inner service's error.
     #[error(transparent)]
     Inner(E),
-    /// There was no memory to ask for a permit. The line is as it was, and nothing is held.
+    /// Allocation failed in a poll for a permit. The line is unchanged, and no permit is held.
     #[error("out of memory")]
     Memory,
 }

@@ -11,10 +11,10 @@ use crate::limit::concurrency::semaphore::Permit;
 use futures::future::Future;
 use futures::task::{Context, Poll};
 use std::marker::Model;
-use tower_base::latch::Latch;
 use tower_base::service::Steps;
+use tower_latch::Latch;
 
-/// The inner response. It holds the permit of its call until it is dropped: the Rust's
+/// The future of a response, which holds the permit of its call until it is dropped: the Rust's
 /// `tower::limit::concurrency::future::ResponseFuture`.
 #[derive(Drop)]
 pub struct ResponseFuture<F, L: Latch<LineCore>> {
@@ -33,6 +33,19 @@ impl<F, L: Latch<LineCore>> ResponseFuture<F, L> {
         ensures { result ≡ record { response = response; permit = permit } }
     {
         ResponseFuture { response, permit }
+    }
+}
+
+impl<F: Drop, L: Latch<LineCore>> ResponseFuture<F, L> {
+    /// Returns the permit of its call and drops the response.
+    pub fn into_permit(self) -> Option<Permit<L>>
+        ensures { result ≡ self.permit }
+    {
+        let ResponseFuture {
+            response: _,
+            permit,
+        } = self;
+        permit
     }
 }
 

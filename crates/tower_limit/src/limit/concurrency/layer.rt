@@ -1,4 +1,4 @@
-//! What makes a `ConcurrencyLimit` of a service.
+//! The layers that wrap a service in a `ConcurrencyLimit`.
 ghost use Rattle.std.specs.Prelude.{◌≡◌, ℕ, IfOk};
 ghost use Rattle.tower_limit.specs.Concurrency.{SemaphoreView, New, Made, SharesPermits};
 
@@ -8,8 +8,8 @@ use crate::limit::concurrency::service::ConcurrencyLimit;
 use std::alloc::{AllocError, Global};
 use std::marker::Model;
 use std::sync::Wait;
-use tower_base::latch::{Guarded, Latch};
 use tower_base::layer::Layer;
+use tower_latch::{Guarded, Latch};
 
 /// Gives each service a limit of its own: the Rust's `tower::limit::ConcurrencyLimitLayer`.
 #[derive(Drop)]
@@ -26,7 +26,7 @@ impl<R> Model for ConcurrencyLimitLayer<R> {
 }
 
 impl<R> ConcurrencyLimitLayer<R> {
-    /// At most `max` calls of each service in flight.
+    /// Creates a layer that allows at most `max` calls in flight for each service.
     pub fn new(rt: R, alloc: Global, max: usize) -> ConcurrencyLimitLayer<R>
         ensures { result ≡ max }
     {
@@ -37,7 +37,7 @@ impl<R> ConcurrencyLimitLayer<R> {
 impl<S: Drop, R: Wait + Copy> Layer<S> for ConcurrencyLimitLayer<R> {
     type Service = ConcurrencyLimit<S, Guarded<LineCore, R>>;
 
-    ghost made = { λ max service made. New service max made };
+    ghost made = { λ max service made. New ⟦<Guarded<LineCore, R> as Latch<LineCore>>⟧.size service max made };
 
     fn layer(&self, service: S) -> Result<Self::Service, AllocError> {
         ConcurrencyLimit::new(self.rt, self.alloc, service, self.max)
@@ -65,9 +65,11 @@ impl<L: Latch<LineCore>> Model for GlobalConcurrencyLimitLayer<L> {
 }
 
 impl<R: Wait + Copy> GlobalConcurrencyLimitLayer<Guarded<LineCore, R>> {
-    /// At most `max` calls of all services in flight. It is refused where there is no memory for the line.
+    /// Creates a layer that allows at most `max` calls in flight for all services together. Returns
+    /// `AllocError` if allocation fails.
     pub fn new(rt: R, alloc: Global, max: usize) -> Result<Self, AllocError>
-        ensures { IfOk result (λ made. made.max ≡ max) }
+        ensures max { IfOk result (λ made. made.max ≡ max) }
+        ensures size { IfOk result (λ made. ⟦<Guarded<LineCore, R> as Latch<LineCore>>⟧.size made.latch ≡ max) }
     {
         let semaphore = Semaphore::new(rt, alloc, max)?;
         Ok(GlobalConcurrencyLimitLayer::with_semaphore(semaphore))

@@ -1,44 +1,44 @@
-//! Who holds a permit, and who waits for one.
+//! The core of a semaphore: who holds a permit, and who waits for one.
 ghost use Rattle.std.specs.Prelude.{◌≡◌, ◌<◌, ◌≤◌, ◌+◌, ◌^◌};
-ghost use Rattle.tower_limit.specs.WaitQueue.{granted, waiting};
+ghost use Rattle.tower_latch.specs.WaitQueue.{granted, waiting};
 
-use crate::wait_queue::{Turn, WaitQueue};
 use std::alloc::{AllocError, Global};
-use tower_base::latch::Core;
+use tower_latch::Core;
+use tower_latch::wait_queue::{Turn, WaitQueue};
 
-/// What may be asked of the line of permits.
+/// A step of a `LineCore`.
 #[derive(Clone, Copy, Debug, PartialEq, Eq)]
 pub enum LineStep {
-    /// Asks for a permit, or for a place in the line.
+    /// Takes a permit, or a place in the line.
     Join,
-    /// Asks whether the permit of this key is there. The key ends once it was granted.
+    /// Checks whether this key has got its permit. The key ends once the reply is `Granted`.
     Look(u64),
-    /// Gives the place of this key up, granted or not.
+    /// Cancels the wait of this key, granted or not.
     Cancel(u64),
     /// Gives a permit back.
     Release,
-    /// Asks how many permits are free.
+    /// Counts the free permits.
     Free,
 }
 
-/// What the line answers.
+/// The reply of a `LineCore` to a step.
 #[derive(Clone, Copy, Debug, PartialEq, Eq)]
 pub enum LineReply {
-    /// The asker holds a permit.
+    /// The caller holds a permit.
     Granted,
-    /// The asker waits under this key, which no other waiter has.
+    /// The caller waits under this key, which no other waiter has.
     Waiting(u64),
     /// The holder or the waiter has left the line.
     Left,
-    /// So many permits are free.
+    /// The number of free permits.
     Count(usize),
-    /// No waiter has this key, or nobody holds a permit. The line is as it was.
+    /// No waiter has this key, or nobody holds a permit. The line is unchanged.
     Unknown,
-    /// There is no room for a further waiter, or no further key. The line is as it was.
+    /// There is no room for a further waiter, or no further key. The line is unchanged.
     Memory,
 }
 
-/// The line of permits: the number of holders, and the queue of those who wait.
+/// The line of permits: the number of holders, and the queue of waiters.
 #[derive(Drop)]
 pub struct LineCore {
     max: usize,
@@ -54,7 +54,7 @@ impl LineCore {
     ghost use Rattle.tower_limit.specs.Line.{blank};
     ghost use Rattle.tower_limit.specs.LineCore.{Follows, StandsFor};
 
-    /// A line of so many permits, all free. Any number will do, 0 too.
+    /// Creates a line of `max` permits, all free. Any number is allowed, including 0.
     pub fn new(alloc: Global, max: usize) -> LineCore
         ensures { StandsFor result (blank max) }
     {
@@ -127,17 +127,32 @@ impl Core for LineCore {
 
     type Reply = LineReply;
 
-    ghost use Rattle.tower_base.specs.Latch.{StepsAs};
+    ghost use Rattle.tower_latch.specs.Latch.{StepsAs};
     ghost use Rattle.tower_limit.specs.Line.{LineSteps, is_waiting};
     ghost use Rattle.tower_limit.specs.LineCore.{Opens, StandsFor, touches};
+    ghost use Rattle.tower_limit.specs.LineTokens.{paid, gained};
+    ghost use Rattle.tower_limit.specs.LineTokensLemmas.{starts, counts};
 
     ghost opens = { Opens };
+
+    // A token shows that its holder holds a permit.
+    ghost size = { λ core. core.max };
+
+    ghost out = { λ core. core.held };
+
+    ghost paid = { paid };
+
+    ghost gained = { gained };
+
+    ghost starts = { starts };
+
+    ghost counts = { counts };
 
     ghost steps = { StepsAs StandsFor LineSteps };
 
     ghost is_wait = { is_waiting };
 
-    /// It reaches at most six entries.
+    /// Makes a step, which reaches at most six entries of the queue.
     #[inline(always)]
     fn step(&mut self, step: LineStep) -> LineReply
         ensures steps { StepsAs StandsFor LineSteps self.old step result self.new }
@@ -154,5 +169,9 @@ impl Core for LineCore {
 
     fn waits(reply: &LineReply) -> bool {
         matches!(reply, LineReply::Waiting(_))
+    }
+
+    fn capacity(&self) -> usize {
+        self.max
     }
 }

@@ -1,6 +1,7 @@
-//! Permits, and those who ask for them.
-ghost use Rattle.std.specs.Prelude.{◌≡◌, IfOk, IfErr, IfSome, None, Err};
-ghost use Rattle.tower_limit.specs.Concurrency.{SemaphoreView, PermitView, PollSemaphoreView, SharesPermits, Acquired};
+//! Semaphores, their permits, and those who wait for permits.
+ghost use Rattle.std.specs.Prelude.{◌≡◌, ◌<◌, ◌≤◌, All, IfOk, IfErr, IfSome, None, Err, vec_len};
+ghost use Rattle.tower_limit.specs.Concurrency.{SemaphoreView, PermitView, PollSemaphoreView, SharesPermits, IsOf, Acquired};
+ghost use Rattle.tower_latch.specs.CoreTable.{places};
 ghost use Rattle.futures.specs.Task.{IsArmed, Keeps};
 ghost use Rattle.futures.specs.Poll.{OnPending};
 
@@ -9,9 +10,10 @@ use futures::task::{Context, Poll};
 use std::alloc::{AllocError, Global};
 use std::marker::Model;
 use std::sync::Wait;
-use tower_base::latch::{Guarded, Latch};
+use tower_latch::held::{Fact, open};
+use tower_latch::{Guarded, Latch, Token};
 
-/// A share of a line of permits: what the Rust has `tokio::sync::Semaphore` for.
+/// A share of a line of permits. The Rust has `tokio::sync::Semaphore` for it.
 #[derive(Drop)]
 pub struct Semaphore<L: Latch<LineCore>> {
     latch: L,
@@ -25,10 +27,11 @@ impl<L: Latch<LineCore>> Model for Semaphore<L> {
 }
 
 impl<R: Wait + Copy> Semaphore<Guarded<LineCore, R>> {
-    /// So many permits, all free, behind a lock. Any number will do, 0 too. It is refused where there is
-    /// no memory for the line.
+    /// Creates a semaphore of `max` permits, all free, behind a lock. Any number is allowed, including
+    /// 0. Returns `AllocError` if allocation fails.
     pub fn new(rt: R, alloc: Global, max: usize) -> Result<Self, AllocError>
-        ensures { IfOk result (λ made. made.max ≡ max) }
+        ensures max { IfOk result (λ made. made.max ≡ max) }
+        ensures size { IfOk result (λ made. ⟦<Guarded<LineCore, R> as Latch<LineCore>>⟧.size made.latch ≡ max) }
     {
         let core = LineCore::new(alloc, max);
         let latch = Guarded::new(rt, alloc, core)?;
@@ -37,21 +40,21 @@ impl<R: Wait + Copy> Semaphore<Guarded<LineCore, R>> {
 }
 
 impl<L: Latch<LineCore>> Semaphore<L> {
-    /// A semaphore over a latch of the caller's, of so many permits.
+    /// Creates a semaphore of `max` permits over the caller's latch.
     pub fn with_latch(latch: L, max: usize) -> Semaphore<L>
         ensures { result ≡ record { latch = latch; max = max } }
     {
         Semaphore { latch, max }
     }
 
-    /// The number that it was made with.
+    /// Returns the `max` that it was created with.
     pub fn max(&self) -> usize
         ensures { result ≡ self.now.max }
     {
         self.max
     }
 
-    /// How many permits are free, by one step at the latch.
+    /// Returns how many permits are free, by one step at the latch.
     pub fn available_permits(&self) -> usize
         ensures { L.gave self.now.latch LineStep.Free (LineReply.Count result) }
     {
@@ -61,7 +64,27 @@ impl<L: Latch<LineCore>> Semaphore<L> {
         }
     }
 
-    /// Another share of the same permits. It is refused where the latch refuses its share.
+    /// Gives back permits of this semaphore, of its shares, and of the limits over these. Returns how
+    /// many they were, whoever has gathered them: never more than the latch has, which is `max` if
+    /// `new` created it.
+    pub fn release_all(&self, mut permits: Vec<Permit<L>>) -> usize
+        requires { All (IsOf L.Latch self.now) permits.items }
+        ensures count { result ≡ vec_len permits }
+        ensures bound { result ≤ L.size self.now.latch }
+        ensures released { 0 < result → (reply : _) × L.gave self.now.latch LineStep.Release reply }
+    {
+        let count = permits.len();
+        let mut token = self.latch.empty();
+        while let Some(permit) = permits.pop() {
+            token = self.latch.merge(token, permit.into_token());
+        }
+        for _ in 0..count {
+            (_, token) = self.latch.give(LineStep::Release, token);
+        }
+        count
+    }
+
+    /// Returns another share of the same permits. Fails if the latch refuses its share.
     pub fn share(&self) -> Result<Semaphore<L>, AllocError>
         ensures shares { IfOk result (λ other. SharesPermits L.Latch self.now other) }
         ensures refused { IfErr result (λ e. L.shares self.now.latch (Err e)) }
@@ -76,27 +99,55 @@ impl<L: Latch<LineCore>> Semaphore<L> {
 
 /// A permit, which is held until it is dropped.
 pub struct Permit<L: Latch<LineCore>> {
+    place: Placed<L>,
+    ghost its: { ∥ L.its place.latch place.token ∥₁ },
+    ghost one: { places place.token ≡ 1 },
+}
+
+// A share of the latch, and a token of it.
+struct Placed<L: Latch<LineCore>> {
     latch: L,
+    token: Token,
+}
+
+// The token is one of the latch's core.
+struct IsIts;
+
+impl<L: Latch<LineCore>> Fact<Placed<L>> for IsIts {
+    ghost holds = { λ place. L.its place.latch place.token };
 }
 
 impl<L: Latch<LineCore>> Model for Permit<L> {
     ghost Value = { PermitView L };
 
-    ghost view = { λ p. record { latch = p.latch } };
+    ghost view = { λ p. record { latch = p.place.latch } };
 }
 
-/// The permit goes back by one step at its latch.
+impl<L: Latch<LineCore>> Permit<L> {
+    // Returns the token that shows that it is held.
+    fn into_token(self) -> Token
+        ensures its { L.its self.latch result }
+        ensures one { places result ≡ 1 }
+    {
+        let Permit { place } = self;
+        let Placed { latch: _, token } = open::<Placed<L>, IsIts>(place);
+        token
+    }
+}
+
+/// Dropping a permit gives it back by one step at its latch.
 impl<L: Latch<LineCore>> Drop for Permit<L> {
     #[inline(always)]
     fn drop(self)
         ensures { (reply : _) × L.gave self.latch LineStep.Release reply }
     {
-        self.latch.step(LineStep::Release);
-        let Permit { latch: _ } = self;
+        let Permit { place } = self;
+        let Placed { latch, token } = open::<Placed<L>, IsIts>(place);
+        latch.give(LineStep::Release, token);
     }
 }
 
-/// Asks a semaphore for permits, one at a time: the Rust's `tokio_util::sync::PollSemaphore`.
+/// Acquires permits of a semaphore, one at a time: the Rust's `tokio_util::sync::PollSemaphore`.
 pub struct PollSemaphore<L: Latch<LineCore>> {
     semaphore: Semaphore<L>,
     key: Option<u64>,
@@ -109,7 +160,7 @@ impl<L: Latch<LineCore>> Model for PollSemaphore<L> {
 }
 
 impl<L: Latch<LineCore>> PollSemaphore<L> {
-    /// It has no place in the line yet.
+    /// Creates a `PollSemaphore` that has no place in the line yet.
     pub fn new(semaphore: Semaphore<L>) -> PollSemaphore<L>
         ensures { result ≡ record { semaphore = semaphore; key = None } }
     {
@@ -119,7 +170,7 @@ impl<L: Latch<LineCore>> PollSemaphore<L> {
         }
     }
 
-    /// Another share of the permits that it asks for. It is refused where the latch refuses its share.
+    /// Returns another share of its semaphore. Fails if the latch refuses its share.
     pub fn share(&self) -> Result<Semaphore<L>, AllocError>
         ensures shares { IfOk result (λ other. SharesPermits L.Latch self.now.semaphore other) }
         ensures refused { IfErr result (λ e. L.shares self.now.semaphore.latch (Err e)) }
@@ -127,10 +178,10 @@ impl<L: Latch<LineCore>> PollSemaphore<L> {
         self.semaphore.share()
     }
 
-    /// A permit, or a place in the line, which is kept until the permit is there.
+    /// Acquires a permit, or takes a place in the line, which is kept until the permit is obtained.
     ///
-    /// The permit's share of the latch is made before the step. For want of memory it answers an
-    /// error, and the place, if there was one, is kept.
+    /// The permit's share of the latch is created before the step. Returns `AllocError` if allocation
+    /// fails; a place in the line is kept then.
     #[inline(always)]
     pub fn poll_acquire(&mut self, cx: &mut Context<'_>) -> Poll<Result<Permit<L>, AllocError>>
         ensures acquired { Acquired L.Latch self.old result self.new }
@@ -144,10 +195,12 @@ impl<L: Latch<LineCore>> PollSemaphore<L> {
             None => LineStep::Join,
             Some(key) => LineStep::Look(key),
         };
-        match self.semaphore.latch.wait(step, cx) {
+        let (reply, token) = self.semaphore.latch.wait(step, cx);
+        match reply {
             LineReply::Granted => {
                 self.key = None;
-                Poll::Ready(Ok(Permit { latch }))
+                let place = Placed { latch, token };
+                Poll::Ready(Ok(Permit { place }))
             }
             LineReply::Waiting(key) => {
                 self.key = Some(key);
@@ -160,7 +213,7 @@ impl<L: Latch<LineCore>> PollSemaphore<L> {
     }
 }
 
-/// One that still waits leaves the line by one step at the latch.
+/// Dropping one that still waits cancels its wait by one step at the latch.
 impl<L: Latch<LineCore>> Drop for PollSemaphore<L> {
     fn drop(self)
         ensures { IfSome self.key (λ key. (reply : _) × L.gave self.semaphore.latch (LineStep.Cancel key) reply) }

@@ -16,15 +16,15 @@ use futures::task::{Context, Poll};
 use std::alloc::{AllocError, Global};
 use std::marker::Model;
 use std::sync::Wait;
-use tower_base::latch::{Guarded, Latch};
 use tower_base::run::Contains;
 use tower_base::service::Service;
+use tower_latch::{Guarded, Latch};
 
-/// Makes a call only with a permit of its semaphore.
+/// A service that makes a call only with a permit of its semaphore.
 ///
-/// The permit is asked for by `poll_ready`, goes into the response future at the call, and goes back
-/// when that future is dropped. One that waits and is dropped leaves the line, and so passes on a
-/// permit that it hasn't seen.
+/// `poll_ready` acquires the permit. The call moves it into the response future, which gives it back
+/// when it is dropped. A `ConcurrencyLimit` that is dropped while it waits leaves the line, and so
+/// passes on a permit that it hasn't seen.
 #[derive(Drop)]
 pub struct ConcurrencyLimit<S, L: Latch<LineCore>> {
     inner: S,
@@ -39,9 +39,10 @@ impl<S, L: Latch<LineCore>> Model for ConcurrencyLimit<S, L> {
 }
 
 impl<S: Drop, R: Wait + Copy> ConcurrencyLimit<S, Guarded<LineCore, R>> {
-    /// At most `max` calls in flight. For want of memory the service is dropped.
+    /// Creates a service with at most `max` calls in flight. Returns `AllocError` and drops `inner` if
+    /// allocation fails.
     pub fn new(rt: R, alloc: Global, inner: S, max: usize) -> Result<Self, AllocError>
-        ensures { IfOk result (λ made. New inner max made) }
+        ensures { IfOk result (λ made. New ⟦<Guarded<LineCore, R> as Latch<LineCore>>⟧.size inner max made) }
     {
         let semaphore = Semaphore::new(rt, alloc, max)?;
         Ok(ConcurrencyLimit::with_semaphore(inner, semaphore))
@@ -49,7 +50,8 @@ impl<S: Drop, R: Wait + Copy> ConcurrencyLimit<S, Guarded<LineCore, R>> {
 }
 
 impl<S, L: Latch<LineCore>> ConcurrencyLimit<S, L> {
-    /// The calls in flight count together with those of the semaphore's other shares.
+    /// Creates a service over the caller's semaphore. Its calls in flight are counted together with
+    /// those of the semaphore's other shares.
     pub fn with_semaphore(inner: S, semaphore: Semaphore<L>) -> ConcurrencyLimit<S, L>
         ensures { result ≡ idle inner semaphore }
     {
@@ -98,12 +100,12 @@ impl<Request, S: Service<Request>, L: Latch<LineCore>> Service<Request> for Conc
     }
 }
 
-/// Each call goes inside, once.
+/// States that each call makes one call of the inner service, with the same request.
 pub fn projection<Request, S: Service<Request>, L: Latch<LineCore>>()
     ensures { Projects (relations ⟦<ConcurrencyLimit<S, L> as Service<Request>>⟧) (relations S.Service) (λ l. l.inner) Once }
 {}
 
-/// What its inner service contains.
+/// A `ConcurrencyLimit` contains what its inner service contains.
 impl<Request, Passed, I, S, L> Contains<Request, Passed, I> for ConcurrencyLimit<S, L>
 where
     I: Service<Passed>,
@@ -143,14 +145,14 @@ impl<S, L: Latch<LineCore>> ConcurrencyLimit<S, L> {
     ghost use Rattle.tower_limit.specs.ConcurrencyLends.{LendsInner};
     ghost use Rattle.std.specs.Borrow.{sem};
 
-    /// The inner service.
+    /// Returns the inner service.
     pub fn get_ref(&self) -> &S
         ensures { result.now ≡ self.now.inner }
     {
         &self.inner
     }
 
-    /// The inner service, to be changed.
+    /// Returns the inner service as a mutable reference.
     pub fn get_mut(&mut self) -> &mut S
         ensures* writes_back { sem 𝓛 (LendsInner S.row L.row L.Latch self.entry result) }
         ensures value { result.now ≡ self.old.inner }
@@ -158,7 +160,7 @@ impl<S, L: Latch<LineCore>> ConcurrencyLimit<S, L> {
         &mut self.inner
     }
 
-    /// The inner service. A permit goes back, and one that waits leaves the line.
+    /// Returns the inner service. A permit that is held is given back, and a wait is cancelled.
     pub fn into_inner(self) -> S
         ensures { result ≡ self.inner }
     {

@@ -8,8 +8,8 @@ use std::marker::Model;
 use tower_base::layer::Layer;
 use tower_base::service::Clock;
 
-/// Makes a `RateLimit` of a service, with a share of the clock: the Rust's
-/// `tower::limit::RateLimitLayer`. `layer` is refused as `RateLimit::new` is.
+/// Wraps a service in a `RateLimit`, with a share of the clock: the Rust's
+/// `tower::limit::RateLimitLayer`. `layer` fails if `RateLimit::new` does.
 #[derive(Drop)]
 pub struct RateLimitLayer<C> {
     alloc: Global,
@@ -24,7 +24,8 @@ impl<C> Model for RateLimitLayer<C> {
 }
 
 impl<C> RateLimitLayer<C> {
-    /// So many calls in so many nanoseconds. It asks for what `Rate::fits` tests.
+    /// Creates a layer whose limits allow at most `num` calls in `per` nanoseconds. Requires what
+    /// `Rate::fits` tests.
     pub fn new(alloc: Global, num: u64, per: u64, clock: C) -> RateLimitLayer<C>
         requires num { num ≢ 0 }
         requires per { per ≢ 0 }

@@ -1,7 +1,8 @@
-//! How many calls, and in which time. The Rust has it in a file `rate`, which may not stand beside `Rate` here.
+//! A rate: how many calls, and in which time. The Rust has it in a file `rate`, which isn't allowed
+//! beside `Rate` here.
 ghost use Rattle.std.specs.Prelude.{◌≡◌, ◌≢◌, ◌↔◌, IsTrue};
 
-/// So many calls in so many nanoseconds.
+/// A rate of `num` calls in `per` nanoseconds.
 #[derive(Clone, Copy, Debug, PartialEq, Eq)]
 pub struct Rate {
     pub num: u64,
@@ -11,7 +12,7 @@ pub struct Rate {
 }
 
 impl Rate {
-    /// It asks for two positive numbers, which `fits` tests.
+    /// Creates a rate. Requires two positive numbers, which `fits` tests.
     pub fn new(num: u64, per: u64) -> Rate
         requires num { num ≢ 0 }
         requires per { per ≢ 0 }
@@ -21,7 +22,7 @@ impl Rate {
         Rate { num, per }
     }
 
-    /// Both numbers are positive.
+    /// Returns whether both numbers are positive.
     pub fn fits(num: u64, per: u64) -> bool
         ensures { IsTrue result ↔ (num ≢ 0) × (per ≢ 0) }
     {

@@ -7,11 +7,11 @@ use circular_buffer::HeapCircularBuffer;
 use std::alloc::{AllocError, Global};
 use std::marker::Model;
 
-/// The most moments that memory may hold: 8 bytes each, and `2^63 - 1` bytes in all.
+/// The greatest number of moments that may be allocated: 8 bytes each, and `2^63 - 1` bytes in all.
 const MOST_KEPT: u64 = 1_152_921_504_606_846_975;
 
-/// The moments of the last `num` calls, in nanoseconds, and whether a pass is open. It takes memory
-/// when it is made, and none later.
+/// The moments of the last `num` calls, in nanoseconds, and whether a pass is open. It allocates when it
+/// is created, and never later.
 #[derive(Drop)]
 pub struct RateCore {
     rate: Rate,
@@ -30,8 +30,8 @@ impl Model for RateCore {
 }
 
 impl RateCore {
-    /// No calls. It is refused if there is no memory for `num` moments of 8 bytes, and without asking
-    /// for it if those are more than `2^63 - 1` bytes.
+    /// Creates a core without calls. Returns `AllocError` if allocation of `num` moments of 8 bytes
+    /// fails, and also, without trying it, if these are more than `2^63 - 1` bytes.
     pub fn new(alloc: Global, rate: Rate) -> Result<RateCore, AllocError>
         ensures made { IfOk result (λ core. StandsFor core (opening rate.num rate.per)) }
         ensures refused { 1152921504606846975 < rate.num → IsErr result }
@@ -47,7 +47,8 @@ impl RateCore {
         })
     }
 
-    /// Whether `num` or more calls were made. Then each further one needs a poll that returns true.
+    /// Returns whether `num` or more calls were made. If so, each further call needs a poll that returns
+    /// `true`.
     pub fn limited(&self) -> bool
         ensures limited { (plain : Calls) → StandsFor self.now plain → result ≡ is_limited plain }
         ensures stands { Stands self.now (λ plain. Unit {0}) }
@@ -56,7 +57,7 @@ impl RateCore {
         self.moments.len() as u64 == self.rate.num
     }
 
-    // Whether the `num`-th last call, if there is one, is a period ago at this moment.
+    // Returns whether the `num`-th last call, if there is one, was at least a period before this moment.
     fn is_free_at(&self, moment: u64) -> bool
         ensures { (plain : Calls) → StandsFor self.now plain → result ≡ passes plain moment }
     {
@@ -66,8 +67,8 @@ impl RateCore {
         }
     }
 
-    /// Whether a call may be made after this moment's poll: fewer than `num` were made, or the `num`-th
-    /// last is a period ago.
+    /// Returns whether a call may be made after a poll at this moment: if fewer than `num` calls were
+    /// made, or if the `num`-th last one was at least a period ago.
     #[tactic(auto, using(crate::proofs::RateStands::open_may))]
     pub fn poll(&mut self, moment: u64) -> bool
         ensures passes { (plain : Calls) → StandsFor self.old plain → result ≡ passes plain moment }
@@ -78,7 +79,7 @@ impl RateCore {
         self.passed
     }
 
-    /// Counts a call, and closes the pass.
+    /// Counts a call and closes the pass.
     pub fn call(&mut self, moment: u64)
         requires { Stands self.old (λ plain. may_call plain ≡ true) }
         ensures { (plain : Calls) → StandsFor self.old plain → StandsFor self.new (after_call plain moment) }

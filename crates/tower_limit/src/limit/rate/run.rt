@@ -1,4 +1,4 @@
-//! Rate limits over whole runs of the stacks that they stand in. The Rust has no such module.
+//! Rate limits over whole runs of the stacks that contain them. The Rust has no such module.
 ghost use Rattle.std.specs.Prelude.{IfOk};
 ghost use Rattle.futures.specs.Task.{Keeps};
 ghost use Rattle.tower_base.specs.Drive.{Run, opening};
@@ -14,16 +14,17 @@ use tower_base::drive::{Event, Transcript, drive};
 use tower_base::run::{self, Contains};
 use tower_base::service::{Clock, Monotonic, Service};
 
-/// Of every run of a rate limit of which no call was made before: while the readings of the clock don't go back,
-/// any half-open interval of length `per` has at most `num` of the moments of its calls. With a monotonic clock
-/// they don't. Each call goes inside, once.
+/// States the rate bound of every run of a rate limit of which no call was made before: if the readings
+/// of the clock don't go back, any half-open interval of length `per` has at most `num` of the moments
+/// of its calls. The readings of a monotonic clock don't go back. Each call makes one call of the inner
+/// service, with the same request.
 pub fn law<Request, S: Service<Request>, C: Clock>()
     ensures bounded { RunsBounded S.Service C.Clock }
     ensures forward { RunsForward S.Service C.Clock }
     ensures inside { Projects (relations ⟦<RateLimit<S, C> as Service<Request>>⟧) (relations S.Service) (λ l. l.inner) Once }
 {}
 
-/// A rate limit is inside of itself.
+/// A rate limit contains itself.
 impl<Request, S: Service<Request>, C: Clock> Contains<Request, Request, RateLimit<S, C>>
     for RateLimit<S, C> {
     ghost inside = { λ l. l };
@@ -33,8 +34,8 @@ impl<Request, S: Service<Request>, C: Clock> Contains<Request, Request, RateLimi
     ghost projects = { itself _ };
 }
 
-/// As `drive`, of a stack that contains a rate limit over a monotonic clock. The calls that reach the service below
-/// the limit are those that went through it, and they keep to its rate.
+/// Drives a stack that contains a rate limit over a monotonic clock, as `drive` does. The calls that
+/// reach the service below the limit are those that went through the limit, and they keep to its rate.
 pub fn drive_within_rate<Request, Passed, W, S, C, T, U, O>(
     alloc: Global,
     cx: &mut Context<'_>,

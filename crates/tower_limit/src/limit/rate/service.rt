@@ -10,11 +10,13 @@ use std::alloc::{AllocError, Global};
 use std::marker::Model;
 use tower_base::service::{Clock, Service};
 
-/// Lets at most `num` calls through in any half-open interval of length `per`: the Rust's
-/// `tower::limit::RateLimit`, whose windows slide here. A pending poll of its own wakes its own task.
+/// Accepts at most `num` calls in any half-open interval of length `per`: the Rust's
+/// `tower::limit::RateLimit`, but its windows slide. If a poll is pending because of the limit itself,
+/// it wakes its own task.
 ///
-/// The clock is handed in. It is read once by a poll after `num` or more calls, and once by a call, before
-/// the inner one. Neither takes memory: the room for the last `num` call moments is made by `new`.
+/// The clock is passed in. A poll after `num` or more calls reads it once, and a call reads it once,
+/// before the inner poll or call. Neither allocates: `new` allocates the room for the last `num` call
+/// moments.
 #[derive(Drop)]
 pub struct RateLimit<S, C> {
     inner: S,
@@ -29,7 +31,8 @@ impl<S, C> Model for RateLimit<S, C> {
 }
 
 impl<S: Drop, C: Clock> RateLimit<S, C> {
-    /// Reads no clock. It is refused as `RateCore::new` is, and then the service and the clock are dropped.
+    /// Creates a rate limit. It doesn't read the clock. It fails if `RateCore::new` does, and then drops
+    /// the service and the clock.
     pub fn new(alloc: Global, inner: S, rate: Rate, clock: C) -> Result<RateLimit<S, C>, AllocError>
         ensures made { IfOk result (λ made. New rate.num rate.per inner clock made) }
         ensures refused { 1152921504606846975 < rate.num → IsErr result }
@@ -89,14 +92,14 @@ impl<S, C> RateLimit<S, C> {
     ghost use Rattle.tower_limit.specs.RateLends.{LendsInner};
     ghost use Rattle.std.specs.Borrow.{sem};
 
-    /// The inner service.
+    /// Returns the inner service.
     pub fn get_ref(&self) -> &S
         ensures { result.now ≡ self.now.inner }
     {
         &self.inner
     }
 
-    /// The inner service, to be changed.
+    /// Returns the inner service as a mutable reference.
     pub fn get_mut(&mut self) -> &mut S
         ensures* writes_back { sem 𝓛 (LendsInner S.row C.row self.entry result) }
         ensures value { result.now ≡ self.old.inner }
@@ -104,7 +107,7 @@ impl<S, C> RateLimit<S, C> {
         &mut self.inner
     }
 
-    /// The inner service. The clock is dropped.
+    /// Returns the inner service and drops the clock.
     pub fn into_inner(self) -> S
     where
         C: Drop,

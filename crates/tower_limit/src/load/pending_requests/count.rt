@@ -1,9 +1,9 @@
-//! A load in requests.
+//! A load measured in pending requests.
 ghost use Rattle.std.specs.Prelude.{◌≡◌, ℕ};
 
 use std::marker::Model;
 
-/// How many requests are pending: the Rust's `tower::load::pending_requests::Count`.
+/// The number of pending requests: the Rust's `tower::load::pending_requests::Count`.
 #[derive(Clone, Copy, Debug, PartialEq, Eq, PartialOrd, Ord)]
 pub struct Count(usize);
 

@@ -1,23 +1,23 @@
-//! The core of a count.
+//! The core that counts pending requests.
 ghost use Rattle.std.specs.Prelude.{false};
-ghost use Rattle.tower_base.specs.Latch.{FollowsMachine, StepsAs};
+ghost use Rattle.tower_latch.specs.Latch.{FollowsMachine, StepsAs};
 ghost use Rattle.tower_limit.specs.Holders.{HolderSteps};
 ghost use Rattle.tower_limit.specs.CountCore.{Opens, StandsFor};
 
-use tower_base::latch::Core;
+use tower_latch::Core;
 
-/// What may be asked of a count.
+/// A step of a `CountCore`.
 #[derive(Clone, Copy, Debug, PartialEq, Eq)]
 pub enum CountStep {
-    /// There is one more holder.
+    /// Counts one more holder.
     Take,
-    /// A holder is gone.
+    /// Stops counting a holder, which is gone.
     Give,
-    /// Asks how many there are.
+    /// Reads the number of holders.
     Load,
 }
 
-/// What a count answers.
+/// The reply of a `CountCore` to a step.
 #[derive(Clone, Copy, Debug, PartialEq, Eq)]
 pub enum CountReply {
     /// The holder is counted.
@@ -26,20 +26,20 @@ pub enum CountReply {
     Full,
     /// The holder isn't counted any more.
     Done,
-    /// So many holders there are.
+    /// The number of holders.
     Count(usize),
-    /// There is no holder. The count is as it was.
+    /// There is no holder. The count is unchanged.
     Unknown,
 }
 
-/// How many live holders there are.
+/// The number of live holders.
 #[derive(Drop)]
 pub struct CountCore {
     count: usize,
 }
 
 impl CountCore {
-    /// Nobody is counted.
+    /// Creates a count without holders.
     pub fn new() -> CountCore
         ensures { Opens result }
     {
@@ -74,11 +74,17 @@ impl Core for CountCore {
 
     type Reply = CountReply;
 
+    ghost use Rattle.tower_latch.specs.LatchLemmas.{none_held, no_places};
+
     ghost opens = { Opens };
 
     ghost steps = { StepsAs StandsFor HolderSteps };
 
     ghost is_wait = { λ _. false };
+
+    ghost starts = { none_held _ };
+
+    ghost counts = { no_places _ };
 
     #[inline(always)]
     fn step(&mut self, step: CountStep) -> CountReply {
@@ -92,5 +98,9 @@ impl Core for CountCore {
     #[inline(always)]
     fn waits(_reply: &CountReply) -> bool {
         false
+    }
+
+    fn capacity(&self) -> usize {
+        0
     }
 }

@@ -11,7 +11,7 @@ use futures::task::{Context, Poll};
 use std::alloc::{AllocError, Global};
 use std::marker::Model;
 use std::sync::Wait;
-use tower_base::latch::{Guarded, Latch};
+use tower_latch::{Guarded, Latch};
 
 /// Counts the pending requests of each service that is discovered: the Rust's
 /// `tower::load::pending_requests::PendingRequestsDiscover`.
@@ -24,16 +24,16 @@ pub struct PendingRequestsDiscover<D, R, C = CompleteOnResponse> {
     spare: Option<Spare<R>>,
 }
 
-// The count of the next service that is inserted. No other has a share of it.
+// The count of the next service that is inserted. It isn't shared with any other service.
 #[derive(Drop)]
 struct Spare<R> {
     latch: Guarded<CountCore, R>,
-    // As `is_first` of the latch says it.
+    // This is what `is_first` of the latch states.
     ghost first: { latch.share ≡ 0 },
 }
 
 impl<R: Wait + Copy> Spare<R> {
-    // The one that is there, or a new one.
+    // Returns `spare`, or a new one if it is `None`.
     fn of(spare: Option<Spare<R>>, rt: R, alloc: Global) -> Result<Spare<R>, AllocError> {
         match spare {
             Some(spare) => Ok(spare),
@@ -57,7 +57,7 @@ impl<D, R, C> Model for PendingRequestsDiscover<D, R, C> {
 }
 
 impl<D, R, C> PendingRequestsDiscover<D, R, C> {
-    /// It takes no memory yet.
+    /// Creates the discovery. It allocates nothing yet.
     pub fn new(rt: R, alloc: Global, discover: D, completion: C) -> Self
         ensures { result ≡ record { discover = discover; completion = completion } }
     {
@@ -71,8 +71,8 @@ impl<D, R, C> PendingRequestsDiscover<D, R, C> {
     }
 }
 
-/// The room for a further service's count is made before the inner discovery is asked. Where that is refused,
-/// the answer is `Memory`, nothing was asked, and the next poll tries again.
+/// A poll allocates the count of the next service before it polls the inner discovery. If allocation
+/// fails, it returns `Memory` without polling the inner discovery, and the next poll tries again.
 impl<D: Discover, R: Wait + Copy, C: Copy> Discover for PendingRequestsDiscover<D, R, C> {
     type Key = D::Key;
 

@@ -1,15 +1,15 @@
-//! Who is counted.
+//! The handles that are counted as pending requests.
 ghost use Rattle.std.specs.Prelude.{IfSome};
 ghost use Rattle.tower_limit.specs.PendingRequests.{HandleView, Taken};
 
 use crate::load::pending_requests::count_core::{CountCore, CountReply, CountStep};
 use std::marker::Model;
-use tower_base::latch::Latch;
+use tower_latch::Latch;
 
 /// A holder, which counts as a pending request until it is dropped: the Rust's
 /// `tower::load::pending_requests::Handle`.
 ///
-/// One for which there was no memory, or with which there would be 2^64 of them, isn't counted.
+/// It isn't counted if allocation fails for it, or if 2^64 - 1 holders are counted already.
 pub struct Handle<L: Latch<CountCore>> {
     share: Option<L>,
 }
@@ -21,7 +21,7 @@ impl<L: Latch<CountCore>> Model for Handle<L> {
 }
 
 impl<L: Latch<CountCore>> Handle<L> {
-    // The share is made before the step.
+    // The share is created before the step.
     pub(crate) fn take(latch: &L) -> Handle<L>
         ensures { Taken L.Latch latch.now result }
     {
@@ -35,7 +35,7 @@ impl<L: Latch<CountCore>> Handle<L> {
     }
 }
 
-/// One that is counted goes by one step at its latch.
+/// Dropping a counted handle ends its count by one step at its latch.
 impl<L: Latch<CountCore>> Drop for Handle<L> {
     fn drop(self)
         ensures { IfSome self.share (λ share. (reply : _) × L.gave share CountStep.Give reply) }

@@ -15,15 +15,15 @@ use futures::task::{Context, Poll};
 use std::alloc::{AllocError, Global};
 use std::marker::Model;
 use std::sync::Wait;
-use tower_base::latch::{Guarded, Latch};
 use tower_base::run::Contains;
 use tower_base::service::Service;
+use tower_latch::{Guarded, Latch};
 
 /// A service whose load is the number of its pending requests: the Rust's
 /// `tower::load::pending_requests::PendingRequests`.
 ///
-/// A request is pending from its call until its completion lets its handle go, or, after an error, until its
-/// future is dropped.
+/// A request is pending from its call until the handle that is passed to its completion is dropped, or,
+/// after an error, until its future is dropped.
 #[derive(Drop)]
 pub struct PendingRequests<S, L, C = CompleteOnResponse> {
     service: S,
@@ -38,7 +38,8 @@ impl<S, L, C> Model for PendingRequests<S, L, C> {
 }
 
 impl<S: Drop, R: Wait + Copy, C: Drop> PendingRequests<S, Guarded<CountCore, R>, C> {
-    /// No request is pending. For want of memory the service is dropped.
+    /// Creates a service with no pending requests. Returns `AllocError` and drops `service` if
+    /// allocation fails.
     pub fn new(rt: R, alloc: Global, service: S, completion: C) -> Result<Self, AllocError>
         ensures { IfOk result (λ made. New ⟦<Guarded<CountCore, R> as Latch<CountCore>>⟧.is_first service completion made) }
     {
@@ -48,7 +49,7 @@ impl<S: Drop, R: Wait + Copy, C: Drop> PendingRequests<S, Guarded<CountCore, R>,
 }
 
 impl<S, L, C> PendingRequests<S, L, C> {
-    /// The requests are counted over a latch of the caller's.
+    /// Creates a service that counts its requests at the caller's latch.
     pub fn with_latch(service: S, completion: C, latch: L) -> PendingRequests<S, L, C>
         ensures { result ≡ record { service = service; latch = latch; completion = completion } }
     {
@@ -60,7 +61,7 @@ impl<S, L, C> PendingRequests<S, L, C> {
     }
 }
 
-/// The load is told by one step at the latch.
+/// The load is read by one step at the latch.
 impl<S, L: Latch<CountCore>, C> Load for PendingRequests<S, L, C> {
     type Metric = Count;
 
@@ -106,7 +107,7 @@ where
     }
 }
 
-/// Each call goes inside, once.
+/// States that each call makes one call of the inner service, with the same request.
 pub fn projection<Request, S, L, C>()
 where
     S: Service<Request>,
@@ -115,7 +116,7 @@ where
     ensures { Projects (relations ⟦<PendingRequests<S, L, C> as Service<Request>>⟧) (relations S.Service) (λ p. p.service) Once }
 {}
 
-/// What its inner service contains.
+/// A `PendingRequests` contains what its inner service contains.
 impl<Request, Passed, I, S, L, C> Contains<Request, Passed, I> for PendingRequests<S, L, C>
 where
     I: Service<Passed>,

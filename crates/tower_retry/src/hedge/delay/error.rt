@@ -1,4 +1,4 @@
-//! Why there is no response.
+//! The error of a `Delay`.
 use std::fmt::Display;
 
 /// The error of a `Delay`, in place of the Rust's boxed one.
@@ -8,7 +8,7 @@ pub enum Error<E> {
     /// The service's own error.
     #[error(transparent)]
     Inner(E),
-    /// There was no memory for a clone of the service at the call.
+    /// Allocating a clone of the service failed at the call.
     #[error("out of memory")]
     Memory,
 }

@@ -1,4 +1,4 @@
-//! The response of a `Delay`.
+//! The future of a `Delay`.
 ghost use Rattle.std.specs.Prelude.{◌≡◌, ⊤, Option, IfSome};
 ghost use Rattle.futures.specs.Poll.{OnPending, IfReady};
 ghost use Rattle.futures.specs.Task.{Covers, Keeps};
@@ -18,9 +18,10 @@ use std::mem;
 use tower_base::service::{Clock, Service, Sleep, Steps};
 use tower_util::util::Oneshot;
 
-/// A response that is asked for after a delay: the Rust's `tower::hedge::delay::ResponseFuture`.
+/// The future of a `Delay`, which makes the call after the delay: the Rust's
+/// `tower::hedge::delay::ResponseFuture`.
 ///
-/// After the delay the clone is a `Oneshot`.
+/// After the delay the clone is called by a `Oneshot`.
 #[derive(Drop)]
 pub struct ResponseFuture<Request, S, O, C> {
     state: State<Sleep<C>, S, Request, O>,
@@ -95,7 +96,7 @@ where
     S: Service<Request>,
     C: Clock,
 {
-    // The end of the delay. The call is polled at once.
+    // Ends the delay: begins the call and polls it at once.
     fn begin(&mut self, cx: &mut Context<'_>) -> Poll<Result<S::Response, Error<S::Error>>>
         requires { Waits S.sound self.old }
         ensures begun { Begun S.Service S.Future.stepped C.Clock self.old result self.new }

@@ -1,6 +1,7 @@
-//! What a delayed call waits for.
+//! The state of a delayed call.
 
-/// The end of the delay beside what is called then, or the call, or nothing since there is no clone.
+/// The state of a delayed call: the delay with the service and the request of the call, the call itself,
+/// or nothing if cloning failed.
 #[derive(Drop)]
 pub(crate) enum State<D, S, Request, O> {
     Delaying(D, S, Request),

@@ -1,4 +1,4 @@
-//! The response of a `Latency`.
+//! The future of a `Latency`.
 ghost use Rattle.std.specs.Prelude.{◌≡◌, Option, IfSome};
 ghost use Rattle.futures.specs.Poll.{OnPending, IfReady};
 ghost use Rattle.futures.specs.Task.{Covers, Keeps};
@@ -11,11 +11,12 @@ use futures::task::{Context, Poll};
 use std::marker::Model;
 use tower_base::service::{Clock, Steps};
 
-/// A response, which is recorded if it is `Ok`: the Rust's `tower::hedge::latency::ResponseFuture`.
+/// The future of a `Latency`, which records its response if that is `Ok`: the Rust's
+/// `tower::hedge::latency::ResponseFuture`.
 #[derive(Drop)]
 pub struct ResponseFuture<R, F, C> {
     start: u64,
-    // None where there was no memory for a clone
+    // `None` if allocating a clone failed
     rec: Option<R>,
     inner: F,
     clock: C,

@@ -1,4 +1,4 @@
-//! Why there is no response.
+//! The error of a `Select`.
 use std::fmt::Display;
 
 /// The error of a `Select`, in place of the Rust's boxed one.

@@ -1,4 +1,4 @@
-//! The response of a `Select`.
+//! The future of a `Select`.
 ghost use Rattle.std.specs.Prelude.{◌≡◌, Option, IfSome};
 ghost use Rattle.futures.specs.Poll.{OnPending, IfReady};
 ghost use Rattle.futures.specs.Task.{Covers, Keeps};
@@ -11,9 +11,10 @@ use futures::task::{Context, Poll};
 use std::marker::Model;
 use tower_base::service::Steps;
 
-/// The first answer of two calls: the Rust's `tower::hedge::select::ResponseFuture`.
+/// The future of a `Select`, which resolves to the first answer of its calls: the Rust's
+/// `tower::hedge::select::ResponseFuture`.
 ///
-/// Each poll asks the first call, and where that is pending the second, if there is one.
+/// Each poll polls the first call and, if that is pending, the second, if there is one.
 #[derive(Drop)]
 pub struct ResponseFuture<AF, BF> {
     a_fut: AF,

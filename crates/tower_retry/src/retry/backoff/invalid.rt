@@ -1,5 +1,6 @@
-//! Why no maker of backoffs is made.
-/// The Rust's `tower::retry::backoff::InvalidBackoff`, as an enum.
+//! The error of a maker of backoffs.
+/// The error of invalid parameters of a backoff: the Rust's `tower::retry::backoff::InvalidBackoff`, as an
+/// enum.
 #[derive(Clone, Copy, Debug, PartialEq, Eq, thiserror::Error)]
 pub enum InvalidBackoff {
     /// The greatest wait is below the least one.

@@ -6,10 +6,10 @@ ghost use Rattle.tower_retry.specs.Slots.{kept_sum, slot};
 use crate::retry::budget::slots::Slots;
 use crate::retry::budget::steps::{BudgetReply, BudgetStep, Terms};
 use std::alloc::{AllocError, Global};
-use tower_base::latch::Core;
 use tower_base::service::Fraction;
+use tower_latch::Core;
 
-/// The amount of the present generation, and those of the ten before it.
+/// The core of a budget: the amount of the present generation, and those of the ten before it.
 #[derive(Drop)]
 pub struct BudgetCore {
     terms: Terms,
@@ -18,13 +18,13 @@ pub struct BudgetCore {
     // The last moment of the present generation.
     last: u64,
     present: i128,
-    // The reserve and the slots, as one sum.
+    // The sum of the reserve and the slots.
     older: i128,
     slots: Slots,
     ghost windows: { terms.window ≢ 0 },
     ghost small: { terms.reserve < 2 ^ 127 },
     ghost summed: { older ≡ kept_sum (pos terms.reserve) slots.index slots.amounts.items 10 },
-    // The moments after the last one are those of later generations.
+    // The moments after `last` are exactly those of later generations.
     ghost ends: { (moment : ℕ) → moment < 2 ^ 64 → nat_lt last moment ≡ nat_lt generation (generation_at made terms.window moment) },
     // Nothing was added before the first generation.
     ghost begun: { (back : ℕ) → generation < back → back ≤ 10 → slot slots.index slots.amounts.items back ≡ pos 0 },
@@ -35,8 +35,8 @@ impl BudgetCore {
     ghost use Rattle.tower_retry.specs.Budget.{Fits, Ledger, Withdraws, added, advanced, blank, terms_of};
     ghost use Rattle.tower_retry.specs.BudgetCore.{Changes, Opens, StandsFor, kept_balance, writes};
 
-    /// A budget at the moment of its making, with room for all that it will keep, or an error where there
-    /// is none. Times are in nanoseconds. It asks for what `fits` tests.
+    /// Creates a budget at `moment`, with room for all that it will keep. Times are in nanoseconds.
+    /// Requires what `fits` tests. Returns an error if allocation fails.
     pub fn new(
         alloc: Global,
         ttl: u64,
@@ -61,8 +61,8 @@ impl BudgetCore {
         })
     }
 
-    /// The ranges that `new` asks for: 1 to 60 seconds, below 2147483647 a second, and a fraction of
-    /// 1000 at most.
+    /// Returns `true` if the arguments are in the ranges that `new` requires: `ttl` is 1 to 60 seconds,
+    /// `min_per_sec` is below 2147483647, and `fraction` is at most 1000.
     pub fn fits(ttl: u64, min_per_sec: u32, fraction: Fraction) -> bool
         ensures { IsTrue result ↔ Fits ttl min_per_sec fraction }
     {
@@ -83,7 +83,7 @@ impl BudgetCore {
         }
     }
 
-    // An advance to a later generation.
+    // Advances to a later generation.
     #[cold]
     #[inline(never)]
     fn expire(&mut self, moment: u64)
@@ -141,7 +141,7 @@ impl BudgetCore {
     }
 }
 
-// The ranges keep the numbers small.
+// Returns the terms of a budget. The ranges of the arguments keep the numbers small.
 fn terms(ttl: u64, min_per_sec: u32, fraction: Fraction) -> Terms
     requires { Fits ttl min_per_sec fraction }
     ensures { result ≡ terms_of ttl min_per_sec fraction }
@@ -169,9 +169,10 @@ impl Core for BudgetCore {
     type Reply = BudgetReply;
 
     ghost use Rattle.std.specs.Prelude.{false};
-    ghost use Rattle.tower_base.specs.Latch.{StepsAs};
+    ghost use Rattle.tower_latch.specs.Latch.{StepsAs};
     ghost use Rattle.tower_retry.specs.Budget.{Steps};
     ghost use Rattle.tower_retry.specs.BudgetCore.{Opens, StandsFor, writes};
+    ghost use Rattle.tower_latch.specs.LatchLemmas.{none_held, no_places};
 
     ghost opens = { Opens };
 
@@ -179,7 +180,11 @@ impl Core for BudgetCore {
 
     ghost is_wait = { λ _. false };
 
-    // It writes eleven slots at most.
+    ghost starts = { none_held _ };
+
+    ghost counts = { no_places _ };
+
+    // Makes the step. Writes at most eleven slots.
     fn step(&mut self, step: BudgetStep) -> BudgetReply
         ensures steps { StepsAs StandsFor Steps self.old step result self.new }
         ensures writes { writes self.new ≤ writes self.old + 11 }
@@ -195,5 +200,9 @@ impl Core for BudgetCore {
 
     fn waits(_reply: &BudgetReply) -> bool {
         false
+    }
+
+    fn capacity(&self) -> usize {
+        0
     }
 }

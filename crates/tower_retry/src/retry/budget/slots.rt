@@ -1,12 +1,12 @@
-//! The ten slots of a budget, and the only calls that write them.
+//! The ten slots of a budget, and the only functions that write them.
 ghost use Rattle.std.specs.Prelude.{◌≡◌, ◌+◌, ◌<◌, ◌≤◌, IfOk, ◌%◌, pos, replicate, vec_len};
 ghost use Rattle.tower_retry.specs.Slots.{Moves, kept_sum};
 
 use std::alloc::{AllocError, Global};
 use tower_base::counter::GhostCounter;
 
-/// What was added in each of the ten generations before the present one, in a ring. The slot at the
-/// index has the oldest, that of ten generations back.
+/// A ring of the amounts of the ten generations before the present one. The slot at the index has the
+/// oldest, that of ten generations back.
 #[derive(Drop)]
 pub struct Slots {
     amounts: Vec<i128>,
@@ -28,8 +28,9 @@ impl Slots {
         })
     }
 
-    /// Puts the amount of the present generation into the slot at the index, and clears the slots of
-    /// the generations between that one and the new one. The slot at the new index stays as it is.
+    /// Writes the amount of the present generation to the slot at the index, and clears the slots of the
+    /// generations between that one and the new one, at most all ten. The slot at the new index then has
+    /// the amount of ten generations before the new one.
     pub fn advance(&mut self, present: i128, generations: u64)
         requires { 0 < generations }
         ensures moves { Moves generations present self.old.index self.old.amounts.items self.new.index self.new.amounts.items }
@@ -42,7 +43,7 @@ impl Slots {
         self.move_on(generations.saturating_sub(11));
     }
 
-    /// The sum with all ten slots, the newest first.
+    /// Returns the sum of the reserve and all ten slots, added newest first.
     pub fn sum(&self, reserve: i128) -> i128
         ensures { result ≡ kept_sum reserve self.now.index self.now.amounts.items 10 }
     {
@@ -53,7 +54,7 @@ impl Slots {
         sum
     }
 
-    // A generation further: writes the slot at the index, which moves on.
+    // Goes one generation further: writes the slot at the index, and moves the index on.
     fn put(&mut self, amount: i128)
         ensures moves { Moves 1 amount self.old.index self.old.amounts.items self.new.index self.new.amounts.items }
         ensures writes { self.new.writes.count ≡ self.old.writes.count + 1 }

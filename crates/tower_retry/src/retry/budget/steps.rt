@@ -1,31 +1,31 @@
-//! What may be asked of a budget, and what it answers.
-/// What may be asked of a budget, each with its moment.
+//! The steps of a budget, and its replies.
+/// A step of a budget, with its moment in nanoseconds.
 #[derive(Clone, Copy, Debug, PartialEq, Eq)]
 pub enum BudgetStep {
     /// Adds the amount of a deposit.
     Deposit(u64),
-    /// Takes the amount of a withdrawal, if the balance has it.
+    /// Takes the amount of a withdrawal, if the balance reaches it.
     Withdraw(u64),
 }
 
-/// What a budget answers.
+/// The reply of a budget to a step.
 #[derive(Clone, Copy, Debug, PartialEq, Eq)]
 pub enum BudgetReply {
-    /// To a deposit.
+    /// The reply to a deposit.
     Done,
-    /// To a withdrawal: whether it was made.
+    /// The reply to a withdrawal: whether it was made.
     Allowed(bool),
 }
 
-/// What was added in one generation, or taken where it is below 0.
+/// An amount that was added in one generation, or taken if it is below 0.
 #[derive(Clone, Copy, Debug, PartialEq, Eq)]
 pub struct Amount {
     pub generation: u64,
     pub amount: i128,
 }
 
-/// The amounts of a deposit and of a withdrawal, what is always there, and how long a generation is
-/// in nanoseconds.
+/// The terms of a budget: the amounts of a deposit and of a withdrawal, the reserve, which is always
+/// there, and the length of a generation in nanoseconds.
 #[derive(Clone, Copy, Debug, PartialEq, Eq)]
 pub struct Terms {
     pub deposit: u64,

@@ -7,10 +7,10 @@ use crate::retry::budget::{Budget, BudgetCore, BudgetReply, BudgetStep};
 use std::alloc::{AllocError, Global};
 use std::marker::Model;
 use std::sync::Wait;
-use tower_base::latch::{Guarded, Latch};
 use tower_base::service::{Clock, Fraction};
+use tower_latch::{Guarded, Latch};
 
-/// Some retries a second, and some part of the requests beside: the Rust's
+/// A budget that allows a number of retries a second and, besides, a fraction of the successes: the Rust's
 /// `tower::retry::budget::TpsBudget`. Its clones share one core.
 #[derive(Drop)]
 pub struct TpsBudget<L: Latch<BudgetCore>, C> {
@@ -25,9 +25,12 @@ impl<L: Latch<BudgetCore>, C> Model for TpsBudget<L, C> {
 }
 
 impl<R: Wait + Copy, C: Clock> TpsBudget<Guarded<BudgetCore, R>, C> {
-    /// A deposit counts for `ttl` nanoseconds. There are always `min_per_sec` retries a second, and
-    /// beside them the fraction of the requests. It asks for what `fits` tests. The clock is read once,
-    /// and is dropped where there is no memory for the core.
+    /// Creates a budget. A deposit counts for ten windows at least and less than eleven, each a tenth
+    /// of `ttl` nanoseconds, rounded down. The reserve covers `min_per_sec` retries for each second of
+    /// `ttl`; besides it the fraction `retries` of the successes is allowed. Requires what `fits` tests.
+    /// Reads the clock once.
+    ///
+    /// Returns an error and drops the clock if allocating the core fails.
     pub fn new(
         rt: R,
         alloc: Global,
@@ -44,15 +47,16 @@ impl<R: Wait + Copy, C: Clock> TpsBudget<Guarded<BudgetCore, R>, C> {
         Ok(TpsBudget { latch, clock })
     }
 
-    /// Ten seconds, ten a second and one in five: the Rust's `default`. It is refused as `new` is.
+    /// Creates a budget with a `ttl` of ten seconds, ten retries a second and one retry for five
+    /// requests: the Rust's `default`. Returns an error if `new` does.
     pub fn with_clock(rt: R, alloc: Global, clock: C) -> Result<Self, AllocError>
         ensures { IfOk result (λ budget. C.read clock budget.clock) }
     {
         TpsBudget::new(rt, alloc, 10_000_000_000, 10, Fraction::new(1, 5), clock)
     }
 
-    /// The ranges that `new` asks for: 1 to 60 seconds, below 2147483647 a second, and a fraction of
-    /// 1000 at most.
+    /// Returns `true` if the arguments are in the ranges that `new` requires: `ttl` is 1 to 60 seconds,
+    /// `min_per_sec` is below 2147483647, and `retries` is at most 1000.
     pub fn fits(ttl: u64, min_per_sec: u32, retries: Fraction) -> bool
         ensures { IsTrue result ↔ Fits ttl min_per_sec retries }
     {
@@ -61,7 +65,7 @@ impl<R: Wait + Copy, C: Clock> TpsBudget<Guarded<BudgetCore, R>, C> {
 }
 
 impl<L: Latch<BudgetCore>, C: Clock> TpsBudget<L, C> {
-    /// A budget over a latch of the caller's. It makes no reading.
+    /// Creates a budget over the given latch. Doesn't read the clock.
     pub fn with_latch(latch: L, clock: C) -> TpsBudget<L, C>
         ensures { result ≡ record { latch = latch; clock = clock } }
     {

@@ -1,4 +1,4 @@
-//! Why a service that a future gives has no response.
+//! The error of a service that a future returns.
 
 use std::fmt::Display;
 
@@ -6,7 +6,7 @@ use std::fmt::Display;
 #[derive(Clone, Debug, Drop, PartialEq, Eq, thiserror::Error)]
 #[error_bound(E: Display)]
 pub enum Error<E> {
-    /// The service's own error, or the future's, which is answered once.
+    /// The service's own error, or the error of the future, which is returned once.
     #[error(transparent)]
     Inner(E),
     /// The future failed earlier.

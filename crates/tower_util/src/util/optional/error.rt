@@ -1,8 +1,8 @@
-//! Why an optional service has no response.
+//! The error of an optional service.
 
 use std::fmt::Display;
 
-/// The error of an `Optional`, in place of the Rust's boxed one.
+/// The error of an `Optional`. It replaces the Rust's boxed error.
 #[derive(Clone, Debug, Drop, PartialEq, Eq, thiserror::Error)]
 #[error_bound(E: Display)]
 pub enum Error<E> {

@@ -1,4 +1,4 @@
-//! The response of an optional service.
+//! The response future of an optional service.
 ghost use Rattle.std.specs.Prelude.{◌≡◌, Option, IfSome, Some, None};
 ghost use Rattle.tower_base.specs.Gives.{IsStep, MayGive};
 ghost use Rattle.tower_util.specs.Optional.{Stepped};
@@ -10,7 +10,7 @@ use futures::task::{Context, Poll};
 use std::marker::Model;
 use tower_base::service::Steps;
 
-/// The response of an `Optional`: the Rust's `tower::util::future::optional::ResponseFuture`.
+/// The response future of an `Optional`. It is the Rust's `tower::util::future::optional::ResponseFuture`.
 #[derive(Drop)]
 pub struct ResponseFuture<T> {
     inner: Option<T>,

@@ -11,7 +11,7 @@ use std::alloc::{AllocError, Global};
 use std::marker::Model;
 use tower_base::service::Steps;
 
-/// Calls whose answers come in any order: the Rust's `FuturesUnordered`.
+/// A queue of calls whose answers come in any order: the Rust's `FuturesUnordered`.
 #[derive(Drop)]
 pub struct Bag<F> {
     futures: Vec<F>,
@@ -33,7 +33,7 @@ impl<F> Bag<F> {
     }
 }
 
-// The futures are polled up to the first that answers, which leaves.
+// Polls the futures up to the first that is ready, and removes that one.
 fn ask_each<T: Drop, F: Steps<Output = T>>(futures: &mut Vec<F>, cx: &mut Context<'_>) -> Option<T>
     requires { All F.can_poll futures.old.items }
     ensures asked { EachAsked F.Steps.own futures.old.items result futures.new.items }

@@ -1,4 +1,4 @@
-//! What keeps the futures of calls.
+//! The queue of a stream's calls.
 ghost use Rattle.std.specs.Prelude.{◌≡◌, IsTrue, ◌↔◌, None, OnOk, Option};
 ghost use Rattle.futures.specs.Poll.{OnPending};
 ghost use Rattle.futures.specs.Task.{IsArmed, Keeps};
@@ -9,24 +9,24 @@ use futures::task::{Context, Poll};
 use std::alloc::AllocError;
 use tower_base::service::Steps;
 
-/// Futures of calls, without the answers that were yielded: the Rust's `Drive`.
+/// A queue of calls whose answers weren't yielded yet: the Rust's `Drive`.
 pub trait CallQueue<T, F: Steps<Output = T>>: Drop {
-    // Each of them may be polled.
+    // Each call may be polled.
     ghost sound: { Self → Type 0 };
 
-    // One more may be put in.
+    // The queue has room for one more call.
     ghost has_room: { Self → Type 0 };
 
-    // None is left.
+    // The queue has no calls.
     ghost empty: { Self → Type 0 };
 
-    // A poll may give this answer, with none for the end, and leave the second value.
+    // A poll may return this answer, `None` for the end, and leave the second value.
     ghost asked: { Self → Poll (Option T) → Self → Type 0 };
 
-    // The same calls.
+    // Both values have the same calls.
     ghost grown: { Self → Self → Type 0 };
 
-    // The second has the future as the last.
+    // The second value also has the future, as its last call.
     ghost pushed: { Self → F → Self → Type 0 };
 
     fn poll(&mut self, cx: &mut Context<'_>) -> Poll<Option<T>>
@@ -40,7 +40,7 @@ pub trait CallQueue<T, F: Steps<Output = T>>: Drop {
     fn is_empty(&self) -> bool
         ensures { IsTrue result ↔ empty self.now };
 
-    // Makes room for one.
+    // Makes room for one more call.
     fn reserve(&mut self) -> Result<(), AllocError>
         requires { sound self.old }
         ensures grown { grown self.old self.new }

@@ -43,7 +43,8 @@ where
     S::Item: Drop,
     Q: CallQueue<Result<Svc::Response, Svc::Error>, Svc::Future>,
 {
-    // The request is to be called.
+    // Makes room in the queue, polls the service, and calls it with the request if it is ready.
+    // Otherwise keeps the request.
     fn call(
         &mut self,
         request: S::Item,
@@ -85,7 +86,7 @@ where
         }
     }
 
-    // No answer is yielded.
+    // Goes on if the queue has no answer to yield: with the kept request, the next one, or the end.
     fn go_on(&mut self, cx: &mut Context<'_>) -> Option<Answer<Svc::Response, Svc::Error>>
         requires there { IsSomeAnd self.old.service Svc.sound }
         requires queue { Q.sound self.old.queue }
@@ -117,7 +118,7 @@ where
         }
     }
 
-    // One pass: an answer, or on with the next pass.
+    // Makes one pass. Returns the answer of the poll, or `None` if another pass follows.
     fn pass(&mut self, cx: &mut Context<'_>) -> Option<Answer<Svc::Response, Svc::Error>>
         requires there { IsSomeAnd self.old.service Svc.sound }
         requires queue { Q.sound self.old.queue }
@@ -137,7 +138,7 @@ where
         }
     }
 
-    // Passes up to an answer, or as many as a poll makes at most.
+    // Makes passes up to an answer, but at most `TURNS`; then it is pending.
     pub fn passes(&mut self, cx: &mut Context<'_>) -> Answer<Svc::Response, Svc::Error>
         requires there { IsSomeAnd self.old.service Svc.sound }
         requires queue { Q.sound self.old.queue }

@@ -1,15 +1,15 @@
-//! Why there is no response to a request.
+//! The error of a stream of calls.
 
 use std::fmt::Display;
 
-/// An item of a stream of calls in place of a response.
+/// The error that a stream of calls yields in place of a response.
 #[derive(Clone, Debug, Drop, PartialEq, Eq, thiserror::Error)]
 #[error_bound(E: Display)]
 pub enum Error<E> {
-    /// The service's own error: of a response, or of its readiness, which is the end of the requests.
+    /// The service's own error, of a response or of its readiness. The latter ends the requests.
     #[error(transparent)]
     Inner(E),
-    /// No room could be made for a call. The request is kept and is called by a later poll.
+    /// Allocating room for a call failed. The request is kept, and a later poll calls the service with it.
     #[error("out of memory")]
     Memory,
 }

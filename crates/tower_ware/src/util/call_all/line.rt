@@ -15,7 +15,7 @@ use std::collections::VecDeque;
 use std::marker::Model;
 use tower_base::service::Steps;
 
-/// Calls in the order of their requests: the Rust's `FuturesOrdered`.
+/// A queue of calls in the order of their requests: the Rust's `FuturesOrdered`.
 #[derive(Drop)]
 pub struct Line<F, T> {
     slots: VecDeque<Slot<F, T>>,
@@ -47,7 +47,7 @@ impl<F, T> Line<F, T> {
     }
 }
 
-// Each future behind the front that has no answer is polled.
+// Polls each future behind the front that has no answer yet.
 fn ask_others<T: Drop, F: Steps<Output = T>>(slots: &mut VecDeque<Slot<F, T>>, cx: &mut Context<'_>)
     requires { All (MayAsk F.can_poll) slots.old.items }
     ensures asked { OthersAsked F.Steps.own slots.old.items slots.new.items }

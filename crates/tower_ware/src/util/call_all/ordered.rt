@@ -1,4 +1,4 @@
-//! Calls whose answers are yielded in the order of the requests.
+//! A stream of calls that yields the answers in the order of the requests.
 ghost use Rattle.std.specs.Prelude.{◌≡◌, All, IsSome, IsTrue, ◌↔◌, None, Some, false};
 ghost use Rattle.tower_base.specs.Gives.{IsFlow, MayYield};
 ghost use Rattle.tower_ware.specs.CallAll.{CallAllFlowed, CallerView, CanFlow, New, view_of};
@@ -17,12 +17,12 @@ use std::alloc::Global;
 use std::marker::Model;
 use tower_base::service::{Flow, Service};
 
-/// Calls a service with each request of a stream and yields the answers in the order of the requests: the Rust's
-/// `tower::util::CallAll`.
+/// A stream that calls a service with each request of another stream, and yields the answers in the
+/// order of the requests: the Rust's `tower::util::CallAll`.
 ///
-/// An error of the service's readiness is yielded at once and ends the requests; the calls that were made still
-/// answer. After `Memory` the stream goes on. A poll makes 64 passes at most, and is then pending with its own task
-/// woken.
+/// An error of the service's readiness is yielded at once and ends the requests; the answers of the
+/// calls that were made are still yielded. After `Memory` the stream goes on. A poll makes at most 64
+/// passes; then it is pending and has woken its own task.
 ///
 /// `F`, `T` and `R` are the service's future, its answer and the request.
 #[derive(Drop)]
@@ -43,7 +43,7 @@ impl<Svc: Service<S::Item>, S: Flow> CallAll<
     Result<Svc::Response, Svc::Error>,
     S::Item,
 > {
-    /// It has no room for calls yet.
+    /// Creates a `CallAll`, which has no room for calls yet.
     pub fn new(
         alloc: Global,
         service: Svc,
@@ -58,14 +58,15 @@ impl<Svc: Service<S::Item>, S: Flow> CallAll<
 }
 
 impl<Svc: Drop, S: Drop, F: Drop, T: Drop, R: Drop> CallAll<Svc, S, F, T, R> {
-    /// The service wasn't taken.
+    /// Returns `true` if the service wasn't taken out.
     pub fn has_service(&self) -> bool
         ensures { IsTrue result ↔ IsSome self.now.service }
     {
         self.caller.service.is_some()
     }
 
-    /// Takes the service out. No poll may follow. It asks for the service still there, which `has_service` tests.
+    /// Takes the service out and returns it. No poll may follow. Requires that the service wasn't taken
+    /// out, which `has_service` tests.
     pub fn take_service(&mut self) -> Svc
         requires { IsSome self.old.service }
         ensures service { self.old.service ≡ Some result }
@@ -77,7 +78,8 @@ impl<Svc: Drop, S: Drop, F: Drop, T: Drop, R: Drop> CallAll<Svc, S, F, T, R> {
         service
     }
 
-    /// The service, and all else is dropped. It asks for the service still there, which `has_service` tests.
+    /// Returns the service and drops all else. Requires that the service wasn't taken out, which
+    /// `has_service` tests.
     pub fn into_inner(mut self) -> Svc
         requires { IsSome self.service }
         ensures { self.service ≡ Some result }
@@ -85,15 +87,16 @@ impl<Svc: Drop, S: Drop, F: Drop, T: Drop, R: Drop> CallAll<Svc, S, F, T, R> {
         self.take_service()
     }
 
-    /// No call is without a yielded answer, and the requests haven't ended.
+    /// Returns `true` if the answer of each call was yielded and the requests haven't ended.
     pub fn can_unorder(&self) -> bool
         ensures { IsTrue result ↔ (Empty self.now.queue × (self.now.ended ≡ false)) }
     {
         self.caller.queue.is_clear() && !self.caller.ended
     }
 
-    /// The same calls, yielded as they answer. A request that was taken and not called yet is handed over. It asks
-    /// for no call without a yielded answer and for requests that haven't ended, which `can_unorder` tests.
+    /// Returns a stream of the same calls that yields the answers as they come. A request that was taken
+    /// but not called yet is passed on. Requires that the answer of each call was yielded and that the
+    /// requests haven't ended, which `can_unorder` tests.
     pub fn unordered(self) -> CallAllUnordered<Svc, S, F, R>
         requires none { Empty self.queue }
         requires goes { self.ended ≡ false }

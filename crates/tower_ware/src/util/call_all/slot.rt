@@ -1,11 +1,11 @@
-//! A call without a yielded answer.
+//! A call whose answer wasn't yielded yet.
 ghost use Rattle.futures.specs.Task.{IsArmed, Keeps};
 ghost use Rattle.tower_ware.specs.OrderedCalls.{MayAsk, OnWaiting, SlotAsked};
 
 use futures::task::{Context, Poll};
 use tower_base::service::Steps;
 
-/// The future of a call, or the answer that it gave.
+/// The future of a call, or the answer that it returned.
 #[derive(Drop)]
 pub enum Slot<F, T> {
     Waiting(F),
@@ -13,7 +13,7 @@ pub enum Slot<F, T> {
 }
 
 impl<T: Drop, F: Steps<Output = T>> Slot<F, T> {
-    // Polls the future, unless it has answered.
+    // Polls the future, unless its answer is there.
     pub fn ask(&mut self, cx: &mut Context<'_>)
         requires { MayAsk F.can_poll self.old }
         ensures asked { SlotAsked F.Steps.own self.old self.new }

@@ -1,4 +1,4 @@
-//! Calls whose answers are yielded as they come.
+//! A stream of calls that yields the answers as they come.
 ghost use Rattle.std.specs.Prelude.{◌≡◌, All, IsSome, IsTrue, ◌↔◌, None, Some, false};
 ghost use Rattle.tower_base.specs.Gives.{IsFlow, MayYield};
 ghost use Rattle.tower_ware.specs.CallAll.{CallAllUnorderedFlowed, CallerView, CanFlow, New, view_of};
@@ -13,12 +13,12 @@ use std::alloc::Global;
 use std::marker::Model;
 use tower_base::service::{Flow, Service};
 
-/// Calls a service with each request of a stream and yields the answers as they come: the Rust's
-/// `tower::util::CallAllUnordered`.
+/// A stream that calls a service with each request of another stream, and yields the answers as they come:
+/// the Rust's `tower::util::CallAllUnordered`.
 ///
-/// An error of the service's readiness is yielded at once and ends the requests; the calls that were made still
-/// answer. After `Memory` the stream goes on. A poll makes 64 passes at most, and is then pending with its own task
-/// woken.
+/// An error of the service's readiness is yielded at once and ends the requests; the answers of the
+/// calls that were made are still yielded. After `Memory` the stream goes on. A poll makes at most 64
+/// passes; then it is pending and has woken its own task.
 ///
 /// `F` and `R` are the service's future and the request.
 #[derive(Drop)]
@@ -33,7 +33,7 @@ impl<Svc, S, F, R> Model for CallAllUnordered<Svc, S, F, R> {
 }
 
 impl<Svc: Service<S::Item>, S: Flow> CallAllUnordered<Svc, S, Svc::Future, S::Item> {
-    /// It has no room for calls yet.
+    /// Creates a `CallAllUnordered`, which has no room for calls yet.
     pub fn new(
         alloc: Global,
         service: Svc,
@@ -63,14 +63,15 @@ impl<Svc, S, F, R> CallAllUnordered<Svc, S, F, R> {
 }
 
 impl<Svc: Drop, S: Drop, F: Drop, R: Drop> CallAllUnordered<Svc, S, F, R> {
-    /// The service wasn't taken.
+    /// Returns `true` if the service wasn't taken out.
     pub fn has_service(&self) -> bool
         ensures { IsTrue result ↔ IsSome self.now.service }
     {
         self.caller.service.is_some()
     }
 
-    /// Takes the service out. No poll may follow. It asks for the service still there, which `has_service` tests.
+    /// Takes the service out and returns it. No poll may follow. Requires that the service wasn't taken
+    /// out, which `has_service` tests.
     pub fn take_service(&mut self) -> Svc
         requires { IsSome self.old.service }
         ensures service { self.old.service ≡ Some result }
@@ -82,7 +83,8 @@ impl<Svc: Drop, S: Drop, F: Drop, R: Drop> CallAllUnordered<Svc, S, F, R> {
         service
     }
 
-    /// The service, and all else is dropped. It asks for the service still there, which `has_service` tests.
+    /// Returns the service and drops all else. Requires that the service wasn't taken out, which
+    /// `has_service` tests.
     pub fn into_inner(mut self) -> Svc
         requires { IsSome self.service }
         ensures { self.service ≡ Some result }

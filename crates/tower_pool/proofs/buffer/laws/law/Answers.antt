@@ -1,4 +1,4 @@
-use Rattle.tower_base.specs.LatchLemmas.{is_run}
+use Rattle.tower_latch.specs.LatchLemmas.{is_run}
 use Rattle.tower_pool.proofs.MailRuns
 use Rattle.tower_pool.proofs.Queues.{taken_as_sent}
 use Rattle.tower_pool.proofs.buffer.laws.law.Goals as goal

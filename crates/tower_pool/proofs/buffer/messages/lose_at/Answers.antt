@@ -1,6 +1,6 @@
 use Rattle.std.proofs.Common.{◌∙◌, ap}
 use Rattle.tower_base.specs.Order.{without}
-use Rattle.tower_limit.proofs.KeysLemmas.{has_without_same, without_lacks}
+use Rattle.tower_latch.proofs.KeysLemmas.{has_without_same, without_lacks}
 use Rattle.tower_pool.proofs.buffer.messages.lose_at.Goals as goal
 
 pub returns-in-Some-Cancelled-clause-order : goal.returns-in-Some-Cancelled-clause-order

@@ -1,4 +1,4 @@
-use Rattle.tower_base.specs.LatchLemmas.{is_run}
+use Rattle.tower_latch.specs.LatchLemmas.{is_run}
 use Rattle.tower_limit.proofs.LineHistoryLemmas.{bounded_history}
 use Rattle.tower_limit.proofs.LineRuns
 use Rattle.tower_limit.proofs.limit.concurrency.laws.law.Goals as goal

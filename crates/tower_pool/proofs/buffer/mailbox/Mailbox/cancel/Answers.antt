@@ -1,7 +1,7 @@
 use Rattle.std.proofs.Common.{◌+◌, inr, refl, arith}
 use Rattle.tower_pool.specs.MessageSteps.{queued}
 use Rattle.tower_limit.proofs.LineMoves.{Fits, leaves_fits, leaves_line, nobody_left}
-use Rattle.tower_limit.proofs.WaitQueues.{left_size}
+use Rattle.tower_latch.proofs.WaitQueues.{left_size}
 use Rattle.tower_pool.proofs.buffer.mailbox.Mailbox.cancel.Goals as goal
 
 pub returns-then-leave-clause-follows : goal.returns-then-leave-clause-follows

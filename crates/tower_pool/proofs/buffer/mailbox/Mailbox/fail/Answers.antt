@@ -1,9 +1,9 @@
 use Rattle.std.proofs.Common.{◌+◌, refl, arith}
 use Rattle.tower_pool.specs.Mail.{holding}
 use Rattle.tower_pool.specs.MessageSteps.{queued}
-use Rattle.tower_limit.specs.Turns.{empty}
+use Rattle.tower_latch.specs.Turns.{empty}
 use Rattle.tower_limit.proofs.LineMoves.{empty_fits, stands_as}
-use Rattle.tower_limit.proofs.WaitQueues.{empty_sizes}
+use Rattle.tower_latch.proofs.WaitQueues.{empty_sizes}
 use Rattle.tower_pool.proofs.Closing.{closes}
 use Rattle.tower_pool.proofs.buffer.mailbox.Mailbox.fail.Goals as goal
 

@@ -1,7 +1,7 @@
 use Rattle.std.proofs.Common.{◌+◌, refl, arith}
 use Rattle.tower_pool.specs.MessageSteps.{queued}
 use Rattle.tower_limit.proofs.LineMoves.{Fits, nobody, nobody_fits, sees, sees_fits, stands_as, waits_on, waits_on_fits}
-use Rattle.tower_limit.proofs.WaitQueues.{saw_nobody, saw_one, saw_waiting}
+use Rattle.tower_latch.proofs.WaitQueues.{saw_nobody, saw_one, saw_waiting}
 use Rattle.tower_pool.proofs.buffer.mailbox.Mailbox.look.Goals as goal
 
 pub overflow_add-self : goal.overflow_add-self

@@ -1,5 +1,5 @@
 use Rattle.std.proofs.Common.{length, refl, ap, arith}
-use Rattle.tower_limit.specs.Turns.{empty}
+use Rattle.tower_latch.specs.Turns.{empty}
 use Rattle.tower_pool.proofs.buffer.mailbox.Mailbox.new.Goals as goal
 
 pub returns : goal.returns

@@ -1,7 +1,7 @@
 use Rattle.std.proofs.Common.{◌+◌, inl, refl, arith}
 use Rattle.tower_pool.specs.MessageSteps.{queued}
 use Rattle.tower_limit.proofs.LineMoves.{Fits, enters, enters_fits, no_memory}
-use Rattle.tower_limit.proofs.WaitQueues.{entered_size, full_room}
+use Rattle.tower_latch.proofs.WaitQueues.{entered_size, full_room}
 use Rattle.tower_pool.proofs.buffer.mailbox.Mailbox.queue_up.Goals as goal
 
 pub invariant_of-self : goal.invariant_of-self

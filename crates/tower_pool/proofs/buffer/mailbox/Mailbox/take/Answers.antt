@@ -9,7 +9,7 @@ use Rattle.tower_pool.specs.declared.buffer.mail.MailStep.TheVariants.{Take}
 use Rattle.tower_pool.specs.declared.buffer.mail.MailReply.{MailReply}
 use Rattle.tower_pool.proofs.Fates.{cancelled_is, open_queued, still_unsettled}
 use Rattle.tower_limit.proofs.LineMoves.{stands_as}
-use Rattle.tower_limit.proofs.WaitQueues.{none_is}
+use Rattle.tower_latch.proofs.WaitQueues.{none_is}
 use Rattle.tower_pool.proofs.Messages.{holds_as, none_queued}
 use Rattle.tower_pool.proofs.Moves.{cleared_none, cleared_some, first_has}
 use Rattle.tower_pool.proofs.buffer.mailbox.Mailbox.take.Goals as goal

@@ -1,7 +1,7 @@
 use Rattle.std.proofs.Common.{◌+◌, ◌-◌, refl, arith}
 use Rattle.tower_pool.specs.MessageSteps.{queued}
 use Rattle.tower_limit.proofs.LineMoves.{admits, admits_fits, returned, stands_as}
-use Rattle.tower_limit.proofs.WaitQueues.{admits_size}
+use Rattle.tower_latch.proofs.WaitQueues.{admits_size}
 use Rattle.tower_pool.proofs.buffer.mailbox.Mailbox.take_first.Goals as goal
 
 pub invariant_of-self : goal.invariant_of-self

@@ -2,9 +2,9 @@ use Rattle.std.proofs.Common.{◌≡◌, ◌+◌, ◌∙◌, length, refl, sym, 
 use Rattle.tower_pool.specs.Mail.{holding, queued as queued_of}
 use Rattle.tower_pool.specs.MessageSteps.{queued}
 use Rattle.tower_pool.proofs.Abandoned.{queued_length}
-use Rattle.tower_limit.specs.Turns.{empty}
+use Rattle.tower_latch.specs.Turns.{empty}
 use Rattle.tower_limit.proofs.LineMoves.{empty_fits}
-use Rattle.tower_limit.proofs.WaitQueues.{empty_sizes}
+use Rattle.tower_latch.proofs.WaitQueues.{empty_sizes}
 use Rattle.tower_pool.proofs.Closing.{closes, leave}
 use Rattle.tower_pool.proofs.buffer.mailbox.Mailbox.worker_gone.Goals as goal
 

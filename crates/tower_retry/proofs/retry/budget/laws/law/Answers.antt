@@ -1,4 +1,4 @@
-use Rattle.tower_base.specs.LatchLemmas.{is_run}
+use Rattle.tower_latch.specs.LatchLemmas.{is_run}
 use Rattle.tower_retry.proofs.BudgetCoreLemmas.{sums_kept}
 use Rattle.tower_retry.proofs.BudgetHistoryLemmas.{answered_by_sums}
 use Rattle.tower_retry.proofs.BudgetWindowLemmas.{counts_for_ten_windows}

@@ -1,6 +1,6 @@
 use Rattle.std.proofs.Common.{refl, arith}
 use Rattle.tower_limit.proofs.LineMoves.{Fits, enters, enters_fits, joins, no_memory}
-use Rattle.tower_limit.proofs.WaitQueues.{full_room}
+use Rattle.tower_latch.proofs.WaitQueues.{full_room}
 use Rattle.tower_limit.proofs.limit.concurrency.line_core.LineCore.join.Goals as goal
 
 pub returns-then-self-granted : goal.returns-then-self-granted

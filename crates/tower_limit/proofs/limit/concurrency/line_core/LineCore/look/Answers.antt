@@ -1,6 +1,6 @@
 use Rattle.std.proofs.Common.{refl, arith}
 use Rattle.tower_limit.proofs.LineMoves.{Fits, nobody, nobody_fits, sees, sees_fits, waits_on, waits_on_fits}
-use Rattle.tower_limit.proofs.WaitQueues.{saw_one, saw_waiting}
+use Rattle.tower_latch.proofs.WaitQueues.{saw_one, saw_waiting}
 use Rattle.tower_limit.proofs.limit.concurrency.line_core.LineCore.look.Goals as goal
 
 pub overflow_add-self : goal.overflow_add-self

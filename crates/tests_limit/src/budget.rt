@@ -1,0 +1,268 @@
+//! `tower::retry::budget`: a core by hand and beside a list, the lock's writes, and one step for each.
+
+use std::alloc::{AllocError, AllocGlobal};
+use std::cell::Cell;
+use std::process::Abort;
+use std::sync::Wait;
+use std::test::Fail;
+use tests_support::checks::Checks;
+use tests_support::clock::Hand;
+use tests_support::latch::Noting;
+use tests_support::log::Log;
+use tower_base::service::{Clock, Fraction};
+use tower_latch::{Core, Guarded, Latch};
+use tower_retry::retry::budget::{Budget, BudgetCore, BudgetReply, BudgetStep, TpsBudget};
+
+const MS: u64 = 1_000_000;
+
+const SECOND: u64 = 1000 * MS;
+
+// At that moment a deposit, or a withdrawal with its answer.
+#[derive(Clone, Copy, Debug)]
+enum Play {
+    Put(u64),
+    Take(u64, bool),
+}
+
+use Play::{Put, Take};
+
+// A generic body.
+fn act<B: Budget>(rt: &impl Abort, moment: &Cell<u64>, budget: &mut B, plays: &[Play]) {
+    for play in plays {
+        match *play {
+            Put(at) => {
+                moment.set(at);
+                budget.deposit();
+            }
+            Take(at, answer) => {
+                moment.set(at);
+                let given = budget.withdraw();
+                assert!(rt; given == answer, "at {play:?}");
+            }
+        }
+    }
+}
+
+// Plays on a new budget behind a lock.
+fn plays<R: Wait + Abort + AllocGlobal + Copy>(
+    rt: R,
+    made: u64,
+    ttl: u64,
+    min_per_sec: u32,
+    retries: Fraction,
+    all: &[Play],
+) -> Result<(), Fail> {
+    let (moment, log) = (Cell::new(made), Log::new(rt.alloc())?);
+    if !BudgetCore::fits(ttl, min_per_sec, retries) {
+        return Err("out of range".into());
+    }
+    let clock = Hand::new(&log, &moment);
+    let mut budget = TpsBudget::new(rt, rt.alloc(), ttl, min_per_sec, retries, clock)?;
+    act(&rt, &moment, &mut budget, all);
+    Ok(())
+}
+
+// A deposit in each of eleven generations counts, and then goes with its own.
+#[test]
+fn eleven_generations_count(rt: HostRuntime) -> Result<(), Fail> {
+    let checks = Checks::new(rt.alloc());
+    let alloc = rt.alloc();
+    let mut core = BudgetCore::new(alloc, 10 * SECOND, 0, Fraction::new(1, 11), 0)?;
+    for second in 0..11u64 {
+        let full = core.step(BudgetStep::Withdraw(second * SECOND));
+        assert_eq!(rt; full, BudgetReply::Allowed(false), "at {second}");
+        core.step(BudgetStep::Deposit(second * SECOND));
+    }
+    let mut late = BudgetCore::new(alloc, 10 * SECOND, 0, Fraction::new(1, 11), 0)?;
+    for second in 0..11u64 {
+        late.step(BudgetStep::Deposit(second * SECOND));
+    }
+    let in_time = core.step(BudgetStep::Withdraw(10 * SECOND));
+    checks.same(&in_time, &BudgetReply::Allowed(true));
+    let too_late = late.step(BudgetStep::Withdraw(11 * SECOND));
+    checks.same(&too_late, &BudgetReply::Allowed(false));
+    checks.verdict()
+}
+
+#[test]
+fn guarded_keeps_its_writes(rt: HostRuntime) -> Result<(), Fail> {
+    let all = [
+        Take(0, true),
+        Take(0, true),
+        Take(0, true),
+        Take(0, true),
+        Take(0, true),
+        Take(0, false),
+    ];
+    plays(rt, 0, SECOND, 5, Fraction::new(1, 1), &all)
+}
+
+// How many withdrawals are allowed at this moment, 1400 at most.
+fn allowed<B: Budget>(moment: &Cell<u64>, budget: &mut B, at: u64) -> usize {
+    moment.set(at);
+    for count in 0..1400usize {
+        if !budget.withdraw() {
+            return count;
+        }
+    }
+    1400
+}
+
+#[test]
+fn ranges(rt: HostRuntime) {
+    for (ttl, min_per_sec, p, q, want) in [
+        (SECOND, 2147483646, 1000, 1, true),
+        (60 * SECOND, 0, 0, 1, true),
+        (SECOND - 1, 0, 0, 1, false),
+        (60 * SECOND + 1, 0, 0, 1, false),
+        (SECOND, 2147483647, 0, 1, false),
+        (SECOND, 0, 2001, 2, false),
+    ] {
+        let retries = Fraction::new(p, q);
+        let fits = TpsBudget::<Guarded<BudgetCore, HostRuntime>, Hand<'_>>::fits(
+            ttl,
+            min_per_sec,
+            retries,
+        );
+        assert_eq!(rt; fits, want, "{ttl} {min_per_sec} {p} {q}");
+    }
+}
+
+#[test]
+fn a_core_steps(rt: HostRuntime) -> Result<(), Fail> {
+    let mut core = BudgetCore::new(rt.alloc(), SECOND, 0, Fraction::new(1, 2), 0)?;
+    for (step, reply) in [
+        (BudgetStep::Deposit(0), BudgetReply::Done),
+        (BudgetStep::Withdraw(0), BudgetReply::Allowed(false)),
+        (BudgetStep::Deposit(200 * MS), BudgetReply::Done),
+        (BudgetStep::Withdraw(1000 * MS), BudgetReply::Allowed(true)),
+        (BudgetStep::Withdraw(1000 * MS), BudgetReply::Allowed(false)),
+    ] {
+        assert_eq!(rt; core.step(step), reply, "at {step:?}");
+        assert!(rt; !BudgetCore::waits(&reply));
+    }
+    Ok(())
+}
+
+fn each_is_a_reading_and_a_step<L: Latch<BudgetCore>, C: Clock>(
+    rt: &HostRuntime,
+    log: &Log,
+    moment: &Cell<u64>,
+    latch: L,
+    clock: C,
+) -> Result<(), Fail> {
+    let checks = Checks::new(rt.alloc());
+    let mut budget = TpsBudget::with_latch(latch, clock);
+    checks.told(log, "");
+    checks.same(&allowed(moment, &mut budget, 3), &100);
+    let mut want = String::new(rt.alloc());
+    for _ in 0..101 {
+        want.push_str("clock read 3;latch stepped Withdraw(3);")?;
+    }
+    checks.told(log, want.as_str());
+    let mut other = budget.clone()?;
+    checks.told(log, "latch shared;clock shared;");
+    moment.set(4);
+    checks.holds(!other.withdraw());
+    other.deposit();
+    checks.told(
+        log,
+        "clock read 4;latch stepped Withdraw(4);clock read 4;latch stepped Deposit(4);",
+    );
+    checks.holds(budget.clone().is_err());
+    checks.told(log, "latch refused;");
+    checks.verdict()
+}
+
+// Each reads the clock, and then makes one step at the latch.
+#[test]
+fn one_latch_step_each(rt: HostRuntime) -> Result<(), Fail> {
+    let alloc = rt.alloc();
+    let (moment, log, shares) = (Cell::new(3), Log::new(alloc)?, Cell::new(1));
+    let core = BudgetCore::new(alloc, 10 * SECOND, 10, Fraction::new(1, 5), 3)?;
+    let latch = Noting::new(&log, &shares, Guarded::new(rt, alloc, core)?);
+    each_is_a_reading_and_a_step(&rt, &log, &moment, latch, Hand::new(&log, &moment))
+}
+
+// The budget's definition for windows of a second and 1/2, made at a moment: a plain list of all amounts
+// that count, each with its generation.
+#[derive(Drop)]
+struct Plain {
+    made: u64,
+    generation: u64,
+    amounts: Vec<(u64, i64)>,
+}
+
+impl Plain {
+    fn advance(&mut self, at: u64) {
+        let now = self.generation.max(at.saturating_sub(self.made) / SECOND);
+        self.amounts
+            .retain(|amount| now <= amount.0.saturating_add(10));
+        self.generation = now;
+    }
+
+    fn answer(&mut self, step: BudgetStep) -> Result<BudgetReply, AllocError> {
+        match step {
+            BudgetStep::Deposit(at) => {
+                self.advance(at);
+                self.amounts.push((self.generation, 1))?;
+                Ok(BudgetReply::Done)
+            }
+            BudgetStep::Withdraw(at) => {
+                self.advance(at);
+                let mut balance = 0i64;
+                for amount in &self.amounts {
+                    balance = balance.saturating_add(amount.1);
+                }
+                if balance >= 2 {
+                    self.amounts.push((self.generation, -2))?;
+                }
+                Ok(BudgetReply::Allowed(balance >= 2))
+            }
+        }
+    }
+}
+
+// The next moment: mostly within the window, at times up to thirteen windows later, at times earlier.
+fn moved(at: u64, draw: u64) -> u64 {
+    match draw % 32 {
+        0 => at.saturating_sub(SECOND),
+        1 | 2 | 3 | 4 => at.saturating_add(draw / 32 % (13 * SECOND)),
+        _ => at.saturating_add(draw / 32 % (SECOND / 2)),
+    }
+}
+
+#[test]
+fn a_hundred_thousand_steps_as_of_the_plain_list(rt: HostRuntime) -> Result<(), Fail> {
+    let mut core = BudgetCore::new(
+        rt.alloc(),
+        10 * SECOND,
+        0,
+        Fraction::new(1, 2),
+        7 * SECOND + 3,
+    )?;
+    let mut plain = Plain {
+        made: 7 * SECOND + 3,
+        generation: 0,
+        amounts: Vec::new(rt.alloc()),
+    };
+    let (mut seed, mut at) = (1u64, 0u64);
+    let (mut made, mut refused) = (0u32, 0u32);
+    for number in 0..100_000u32 {
+        seed = seed
+            .wrapping_mul(6364136223846793005)
+            .wrapping_add(1442695040888963407);
+        at = moved(at, seed / 65536);
+        let step = if seed / 4096 % 8 < 5 {
+            BudgetStep::Deposit(at)
+        } else {
+            BudgetStep::Withdraw(at)
+        };
+        let reply = core.step(step);
+        assert_eq!(rt; reply, plain.answer(step)?, "at {number}: {step:?}");
+        made = made.saturating_add(u32::from(reply == BudgetReply::Allowed(true)));
+        refused = refused.saturating_add(u32::from(reply == BudgetReply::Allowed(false)));
+    }
+    assert!(rt; made > 5000 && refused > 5000, "{made} {refused}");
+    Ok(())
+}

@@ -1,6 +1,0 @@
-use Rattle.std.proofs.Common.{[], ◌∷◌, rules}
-use Rattle.tower_base.proofs.Moves.{begins}
-use Rattle.tower_base.proofs.latch.logged.log.LogTable.new.Goals as goal
-
-pub ruled-requires : goal.ruled-requires
-ruled-requires g c = (search rules, (search rules, begins (0 ∷ [])))

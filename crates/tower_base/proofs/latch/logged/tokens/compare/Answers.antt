@@ -1,6 +1,0 @@
-use Rattle.std.proofs.Common.{rules}
-use Rattle.tower_base.proofs.Moves.{compares}
-use Rattle.tower_base.proofs.latch.logged.tokens.compare.Goals as goal
-
-pub load_as-requires : goal.load_as-requires
-load_as-requires g c = (search rules, (search rules, (c.requires.cell, compares _ _ c.requires.keeps)))

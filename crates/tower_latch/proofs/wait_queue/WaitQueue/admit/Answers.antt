@@ -1,0 +1,27 @@
+use Rattle.std.proofs.Common.{◌≡◌, ◌+◌, ap, arith, length}
+use Rattle.slab.specs.Slab.{slab_len}
+use Rattle.tower_latch.proofs.Waiters.{admitted}
+use Rattle.tower_latch.proofs.WaitQueues.{Kept, admits_first, first_is, kept_admitted, kept_apart, kept_count, kept_of, kept_present}
+use Rattle.tower_latch.proofs.wait_queue.WaitQueue.admit.Goals as goal
+
+pub invariant_of-self : goal.invariant_of-self
+invariant_of-self c =
+    let old = c.args.self.now in
+    let new = c.unlink.new.self in
+    let first = first_is old.waiters.order c.in-Some.first c.in-Some.ensures in
+    let k0 = kept_of old in
+    let left : new.order ≡ first.0 = (admitted k0.front old.waiters new k0.waits c.in-Some.first first.0 first.1 c.unlink.ensures.order c.unlink.ensures.entries).0 in
+    let k : Kept (old.granted + 1) new = kept_admitted old.granted old.waiters new k0 c.in-Some.first first.0 first.1 c.unlink.ensures.order c.unlink.ensures.entries in
+    record {
+      apart = kept_apart (old.granted + 1) new k;
+      present = kept_present (old.granted + 1) new k;
+      count = kept_count (old.granted + 1) new k;
+      places = omega (arith, ap slab_len c.unlink.ensures.entries, old.places, ap length left, ap length first.1);
+    }
+
+pub returns-clause-follows : goal.returns-clause-follows
+returns-clause-follows c = λ plain s.
+    let old = c.args.self.now in
+    let new = c.unlink.new.self in
+    let first = first_is old.waiters.order c.in-Some.first c.in-Some.ensures in
+    admits_first old.granted old.waiters plain s new c.in-Some.first first.0 first.1 c.unlink.ensures.order c.unlink.ensures.entries

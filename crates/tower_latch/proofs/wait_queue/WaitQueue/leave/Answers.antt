@@ -1,0 +1,85 @@
+use Rattle.std.proofs.Common.{◌≡◌, ◌≤◌, ◌-◌, true, false, None, is_some, ◌∙◌, inr, refl, sym, ap, arith, length}
+use Rattle.slab.specs.Slab.{get, slab_len}
+use Rattle.tower_base.specs.Order.{has}
+use Rattle.tower_latch.proofs.KeysLemmas.{apart_is, length_without, without_lacks}
+use Rattle.tower_latch.proofs.WaitQueues.{Kept, absent_lacks, count_some, granted_goes, kept_apart, kept_count, kept_gone, kept_left, kept_of, kept_present, kept_taken, lacks_key, linked_leaves, longer, no_shorter, stays_without}
+use Rattle.tower_latch.proofs.wait_queue.WaitQueue.leave.Goals as goal
+
+pub invariant_of-self : goal.invariant_of-self
+invariant_of-self c =
+    let old = c.args.self.now in
+    let mid = c.remove.new.self in
+    let none : get old.waiters.entries c.args.key ≡ None = sym c.in_default.ensures.value in
+    let k : Kept old.granted mid = kept_gone old.granted old.waiters mid (kept_of old) c.args.key c.remove.ensures.entries c.remove.ensures.order none in
+    let lacks : has old.waiters.order c.args.key ≡ false = absent_lacks old.waiters c.args.key old.present none in
+    let size : length mid.order ≡ length old.waiters.order = ap length (c.remove.ensures.order ∙ without_lacks old.waiters.order c.args.key lacks) in
+    record {
+      apart = kept_apart old.granted mid k;
+      present = kept_present old.granted mid k;
+      count = kept_count old.granted mid k;
+      places = omega (arith, ap slab_len c.in_default.ensures.absent, old.places, size);
+    }
+
+pub returns-in_default-clause-follows : goal.returns-in_default-clause-follows
+returns-in_default-clause-follows c = λ plain s.
+    let old = c.args.self.now in
+    let mid = c.remove.new.self in
+    let none : get old.waiters.entries c.args.key ≡ None = sym c.in_default.ensures.value in (
+      plain,
+      (lacks_key old.granted old.waiters plain s c.args.key none, refl),
+      stays_without old.granted old.waiters plain s mid c.args.key c.remove.ensures.entries c.remove.ensures.order none,
+    )
+
+pub overflow_sub-self : goal.overflow_sub-self
+overflow_sub-self c =
+    let old = c.args.self.now in
+    let mid = c.remove.new.self in
+    let lacks : has old.waiters.order c.args.key ≡ false = no_shorter old.waiters.order c.args.key old.apart (omega (arith, c.if-len-waiting.true, c.len.ensures, c.len-waiting.ensures, ap length c.remove.ensures.order)) in
+    let there : is_some (get old.waiters.entries c.args.key) ≡ true = ap is_some (sym c.in-Some.ensures.value) in
+    count_some old.granted old.waiters (kept_of old) c.args.key there lacks
+
+pub invariant_of-self-then-len-waiting : goal.invariant_of-self-then-len-waiting
+invariant_of-self-then-len-waiting c =
+    let old = c.args.self.now in
+    let mid = c.remove.new.self in
+    let lacks : has old.waiters.order c.args.key ≡ false = no_shorter old.waiters.order c.args.key old.apart (omega (arith, c.if-len-waiting.true, c.len.ensures, c.len-waiting.ensures, ap length c.remove.ensures.order)) in
+    let there : is_some (get old.waiters.entries c.args.key) ≡ true = ap is_some (sym c.in-Some.ensures.value) in
+    let size : length mid.order ≡ length old.waiters.order = ap length (c.remove.ensures.order ∙ without_lacks old.waiters.order c.args.key lacks) in
+    let some : 1 ≤ old.granted = count_some old.granted old.waiters (kept_of old) c.args.key there lacks in
+    let k : Kept (old.granted - 1) mid = kept_taken old.granted old.waiters mid (kept_of old) c.args.key c.remove.ensures.entries c.remove.ensures.order there lacks in
+    record {
+      apart = kept_apart (old.granted - 1) mid k;
+      present = kept_present (old.granted - 1) mid k;
+      count = kept_count (old.granted - 1) mid k;
+      places = omega (arith, c.in-Some.ensures.len, old.places, size, some);
+    }
+
+pub returns-then-len-waiting-clause-follows : goal.returns-then-len-waiting-clause-follows
+returns-then-len-waiting-clause-follows c = λ plain s.
+    let old = c.args.self.now in
+    let mid = c.remove.new.self in
+    let lacks : has old.waiters.order c.args.key ≡ false = no_shorter old.waiters.order c.args.key old.apart (omega (arith, c.if-len-waiting.true, c.len.ensures, c.len-waiting.ensures, ap length c.remove.ensures.order)) in
+    let there : is_some (get old.waiters.entries c.args.key) ≡ true = ap is_some (sym c.in-Some.ensures.value) in
+    let r = granted_goes old.granted old.waiters plain s mid c.args.key c.remove.ensures.entries c.remove.ensures.order there lacks in
+    let a = c.admit.ensures.follows _ r.3 in
+    (a.0, (r.0, r.1, inr (r.2, a.1)), a.2)
+
+pub invariant_of-self-else-len-waiting : goal.invariant_of-self-else-len-waiting
+invariant_of-self-else-len-waiting c =
+    let old = c.args.self.now in
+    let mid = c.remove.new.self in
+    let h : has old.waiters.order c.args.key ≡ true = longer old.waiters.order c.args.key (λ same. c.if-len-waiting.false (omega (arith, same, c.len.ensures, c.len-waiting.ensures, ap length c.remove.ensures.order))) in
+    let k : Kept old.granted mid = kept_left old.granted old.waiters mid (kept_of old) c.args.key c.remove.ensures.entries c.remove.ensures.order h in
+    record {
+      apart = kept_apart old.granted mid k;
+      present = kept_present old.granted mid k;
+      count = kept_count old.granted mid k;
+      places = omega (arith, c.in-Some.ensures.len, old.places, length_without old.waiters.order c.args.key (apart_is old.waiters.order old.apart) h, ap length c.remove.ensures.order);
+    }
+
+pub returns-else-len-waiting-clause-follows : goal.returns-else-len-waiting-clause-follows
+returns-else-len-waiting-clause-follows c = λ plain s.
+    let old = c.args.self.now in
+    let mid = c.remove.new.self in
+    let h : has old.waiters.order c.args.key ≡ true = longer old.waiters.order c.args.key (λ same. c.if-len-waiting.false (omega (arith, same, c.len.ensures, c.len-waiting.ensures, ap length c.remove.ensures.order))) in
+    linked_leaves old.granted old.waiters plain s mid c.args.key c.remove.ensures.entries c.remove.ensures.order h

@@ -1,0 +1,12 @@
+pub mod BadgeViews
+pub mod CoreTable
+pub mod Guarded
+pub mod Held
+pub mod History
+pub mod HistoryLemmas
+pub mod Latch
+pub mod LatchLemmas
+pub mod Tokens
+pub mod Turns
+pub mod WaitQueue
+pub mod Waiters

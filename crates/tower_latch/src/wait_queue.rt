@@ -1,0 +1,131 @@
+//! A queue of those who wait for grants, in the order of asking.
+ghost use Rattle.std.specs.Prelude.{◌≡◌, ◌<◌, ◌≤◌, ◌+◌, IsOk, length, true};
+ghost use Rattle.slab.specs.Slab.{slab_len};
+ghost use Rattle.tower_latch.specs.Waiters.{IsPresent, are_apart, outside};
+
+use std::alloc::{AllocError, Global};
+use tower_base::links::Links;
+
+/// The state of a waiter.
+#[derive(Clone, Copy, Debug, PartialEq, Eq)]
+pub enum Turn {
+    /// The waiter got its grant and left the queue. Its key has ended.
+    Granted,
+    /// The waiter still waits.
+    Waiting,
+    /// No waiter has the key.
+    Unknown,
+}
+
+/// A queue of waiters, each under a key of its own. Grants go to waiters in the order of asking, and a
+/// waiter learns of its grant when it looks.
+///
+/// A waiter without a grant is linked in the order of asking. A waiter that was granted, but hasn't seen
+/// its grant, stands outside that order. No operation searches.
+#[derive(Drop)]
+pub struct WaitQueue {
+    granted: usize,
+    waiters: Links<()>,
+    ghost apart: { are_apart waiters.order ≡ true },
+    ghost present: { IsPresent waiters },
+    ghost count: { length (outside waiters) ≡ granted },
+    ghost places: { slab_len waiters.entries ≡ granted + length waiters.order },
+}
+
+impl WaitQueue {
+    ghost use Rattle.tower_latch.specs.Turns.{Admits, Enters, Leaves, Looks, empty};
+    ghost use Rattle.tower_latch.specs.WaitQueue.{Follows, StandsFor, granted, room, size, touches, waiting};
+
+    /// Creates an empty queue. It allocates nothing until the first `wait`.
+    pub fn new(alloc: Global) -> WaitQueue
+        ensures stands { StandsFor result empty }
+        ensures room { room result ≡ 0 }
+        ensures touches { touches result ≡ 0 }
+    {
+        WaitQueue {
+            granted: 0,
+            waiters: Links::new(alloc),
+        }
+    }
+
+    /// Returns how many waiters were granted and haven't seen their grant.
+    #[inline(always)]
+    pub fn granted(&self) -> usize
+        ensures { result ≡ granted self.now }
+    {
+        self.granted
+    }
+
+    /// Returns how many waiters have no grant.
+    #[inline(always)]
+    pub fn waiting(&self) -> usize
+        ensures { result ≡ waiting self.now }
+    {
+        self.waiters.len()
+    }
+
+    /// Adds a waiter behind all others, and returns its key. Returns an error if allocation fails.
+    #[inline(always)]
+    pub fn wait(&mut self) -> Result<u64, AllocError>
+        ensures follows { Follows self.old (λ old new. Enters old result new) self.new }
+        ensures succeeds { size self.old < room self.old → IsOk result }
+        ensures room { room self.old ≤ room self.new }
+        ensures touches { touches self.new ≤ touches self.old + 2 }
+    {
+        self.waiters.reserve(1)?;
+        Ok(self.waiters.push_back(()) as u64)
+    }
+
+    /// Returns the state of the waiter with this key. If it is granted, it leaves the queue, and its key
+    /// ends.
+    #[inline(always)]
+    pub fn look(&mut self, key: u64) -> Turn
+        ensures follows { Follows self.old (λ old new. Looks old key result new) self.new }
+        ensures room { room self.new ≡ room self.old }
+        ensures touches { touches self.new ≤ touches self.old + 4 }
+    {
+        if self.waiters.is_linked(key as usize) {
+            return Turn::Waiting;
+        }
+        let Some(()) = self.waiters.remove(key as usize) else {
+            return Turn::Unknown;
+        };
+        self.granted -= 1;
+        Turn::Granted
+    }
+
+    /// Removes the waiter with this key, granted or not. If it had a grant, that goes to the next
+    /// waiter. Returns whether there was such a waiter.
+    #[inline(always)]
+    pub fn leave(&mut self, key: u64) -> bool
+        ensures follows { Follows self.old (λ old new. Leaves old key result new) self.new }
+        ensures room { room self.new ≡ room self.old }
+        ensures touches { touches self.new ≤ touches self.old + 5 }
+    {
+        let waiting = self.waiters.len();
+        let Some(()) = self.waiters.remove(key as usize) else {
+            return false;
+        };
+        if self.waiters.len() == waiting {
+            self.granted -= 1;
+            self.admit();
+        }
+        true
+    }
+
+    /// Gives a grant to the first waiter that has none, if there is one.
+    #[inline(always)]
+    pub fn admit(&mut self)
+        ensures follows { Follows self.old Admits self.new }
+        ensures room { room self.new ≡ room self.old }
+        ensures touches { touches self.new ≤ touches self.old + 2 }
+    {
+        let Some(first) = self.waiters.front() else {
+            return;
+        };
+        // The granted waiters fit in the capacity, so their number fits in a `usize`.
+        let _capacity = self.waiters.capacity();
+        self.waiters.unlink(first);
+        self.granted += 1;
+    }
+}
