@@ -11,7 +11,7 @@ sys.dont_write_bytecode = True  # no folder of its own in the repository
 from must_fail import without_generics
 
 TOP = os.path.dirname(os.path.dirname(os.path.abspath(__file__)))
-LIBRARY = ("tower_base", "tower_latch", "tower_util", "tower_ware", "tower_limit", "tower_retry", "tower_pool", "tower")
+LIBRARY = ("tower_base", "tower_latch", "tower_util", "tower_ware", "tower_limit", "tower_retry", "tower_buffer", "tower_pool", "tower", "tower_time")
 # What only the library itself calls.
 PRIVATE = ("Waiters", "Cells", "Held", "Slots", "Bag", "Line", "Spare", "Tally", "Mailbox", "R")
 
@@ -20,11 +20,17 @@ drive drive_with_state        tests_ware/src/base/drive.rt             drive(all
 block_on_ready                tests_util/src/waits.rt                  block_on_ready::<
 block_on_call                 tests_util/src/waits.rt                  block_on_call(
 block_on_each                 tests_util/src/waits.rt                  block_on_each(
+block_on_each_within_rate     uses/src/within_rate.rt                 served.set(
+Waiter::new Waiter::block_on_call  tests_util/src/waits.rt             waiter.block_on_call(
+Waiter::block_on_ready         tests_util/src/waits.rt                  block_on_ready::<
+Waiter::block_on_each         tests_util/src/waits.rt                  block_on_each(
+Waiter::block_on              uses/src/make.rt                       block_on(&rt, server.oneshot(1))?
 Guarded::new Guarded::share   scripted_ware/data/concurrency_limit.script  locked_limit 1 global two
 Logged::open Logged::step LogTable::new  tests_limit/src/refused/logged.rt  fn ample_growths
 Identity::layer               tests_ware/src/base/layer.rt             Stack::new(Identity::new(), Identity::default())
 Stack::layer                  tests_ware/src/base/layer.rt             ten_inside.layer(4)
 LayerFn::layer                tests_ware/src/base/layer.rt             layer_fn(ten).clone()?.layer(4)
+State::new                    tests_time/src/calls.rt                fn ample_wait
 Links::reserve                tests_ware/src/base/links.rt             list.reserve(5)
 HasherRng::clone              tests_ware/src/base/rng.rt               rng.clone()
 Shared::call                  scripted_ware/data/make.script           call 1         => call 0                    | a cloned a2

@@ -2,8 +2,8 @@
 """scripts/drops.py: drops each handle, response, worker and task of scripts at each point between two of their lines, and all of them at once.
 
 It plays the files of PLAYED by the proved programs that `rt ci` left in out/ (or those in the folder PROGRAMS). At each point of each script it
-drops one thing, and the script goes on; or all handles and then all responses, or all responses and then all handles, and the script ends. Of
-each run, by what was noted:
+drops one thing, whichever there is, and the script goes on; or all handles and then all responses, or all responses and then all handles, and the
+script ends. Of each run, by what was noted:
 - Each service, response, clone and share of a noted latch was dropped once, and nothing else was.
 - Permits: each is given back, all are free at the end, and each wait gets its permit or its `Cancel`. Loads: none is counted once all responses are dropped.
 - Mail is at its end, and no request is left. Each `Join` has its `Part`, each place its `Send` or `Unreserve`, and each wait its place, its error
@@ -12,6 +12,7 @@ each run, by what was noted:
 - A handle aborts its slot once. Each task that was spawned puts its service or error back, is gone, or ends by an abort.
 It prints how many runs there were. Status 1 and a line for each that isn't so."""
 import collections
+import functools
 import os
 import re
 import subprocess
@@ -29,10 +30,10 @@ PLAYED = {
 Line = collections.namedtuple("Line", "asked answer notes")
 
 
-def scripts_of(path):
+def scripts_of(text):
     """The lines of each script, without comments: what is asked, the answer and the notes."""
     script = []
-    for line in [*open(path, encoding="utf-8").read().splitlines(), ""]:
+    for line in [*text.splitlines(), ""]:
         if not line.strip():
             if script:
                 yield script
@@ -41,10 +42,12 @@ def scripts_of(path):
             script.append(line_of(line))
 
 
+# (Most lines of the runs are the same, so what is read of one is kept.)
+@functools.cache
 def line_of(line):
     rest, _, notes = (line + " ").partition(" | ")
     asked, _, answer = rest.partition(" => ")
-    return Line(asked.strip(), answer.strip(), notes_of(notes))
+    return Line(asked.strip(), answer.strip(), tuple(notes_of(notes)))
 
 
 def notes_of(text):
@@ -64,20 +67,17 @@ def names(script, place):
 
 
 def variants(kind, script):
-    """The runs: what is asked in each, and whether fresh clones are asked at its end. Of a long script only the first and the last response go."""
+    """The runs: what is asked in each, and whether all places are asked for at its end."""
     asked = [it.asked for it in script]
     others = {"mail": ["worker"], "slot": ["task", "ended"]}.get(kind, [])
     rest = [f"drop {it}" for it in others]
     for place in range(1, len(script)):
         letters, numbers = names(script, place)
-        for word in [*letters, *(numbers if len(numbers) < 8 else [numbers[0], numbers[-1]]), *others]:
+        for word in [*letters, *numbers, *others]:
             yield [*asked[:place], f"drop {word}", *asked[place:]], False
         handles, responses = [f"drop {it}" for it in letters], [f"drop {it}" for it in numbers]
         if kind == "loads":
             yield [*asked[:place], *responses, "load", "end"], False
-        if len(script) > 60:
-            yield [*asked[:place], "end"], False
-            continue
         for first, last in ((handles, responses), (responses, handles)):
             for drops in ([*rest, *first], [*first, *rest], first) if rest else (first,):
                 yield [*asked[:place], *drops, *last, "end"], False
@@ -86,12 +86,16 @@ def variants(kind, script):
 
 
 def with_spare(asked, place, letters, responses):
-    """The handle b is made first and never polled. Once all others are dropped, its clones are polled."""
+    """The handle b is made first and never polled. Once all others are dropped, its clones are polled; if there are more places than letters, it sends a
+    message for each."""
     shifted = lambda word: re.sub(r"^(poll|call|clone|drop) ([b-z])\b", lambda m: f"{m[1]} {chr(ord(m[2]) + 1)}", word)
     parts, *rest = asked[:place]
     drops = ["drop a", *(f"drop {chr(ord(it) + 1)}" for it in letters[1:])]
-    fresh = [chr(ord("b") + len(letters) + it) for it in range(places_of(parts) + 1)] if places_of(parts) < 12 else []
-    polls = [it for letter in fresh for it in ("clone b", f"poll {letter}")]
+    fresh = range(places_of(parts) + 1)
+    if len(fresh) < 13:
+        polls = [it for letter in fresh for it in ("clone b", f"poll {chr(ord('b') + len(letters) + letter)}")]
+    else:
+        polls = [it for _ in fresh for it in ("poll b", "call b 0")]
     return [parts, "clone", *map(shifted, rest), *drops, *responses, "shares 255", "readiness ready", "work", *polls, "end"]
 
 
@@ -99,10 +103,10 @@ def places_of(first):
     return int(first.split(";")[0].split()[1])
 
 
-def faults(kind, run, is_fresh):
-    """What isn't so of a run."""
-    notes = [note for line in run for note in line.notes]
-    made, dropped = collections.Counter(), collections.Counter()
+@functools.cache
+def lives(notes):
+    """What these notes make and drop: the name, how often it was made and how often dropped. Without a name, what may not be."""
+    made, dropped, wrong = collections.Counter(), collections.Counter(), []
     for note in notes:
         if match := re.fullmatch(r"(\S+) called (\d+)", note):
             made[f"{match[1]}({match[2]})"] += 1
@@ -113,47 +117,73 @@ def faults(kind, run, is_fresh):
         elif note.endswith(" dropped"):
             dropped[note[: -len(" dropped")]] += 1
         elif note.endswith("unready"):
-            yield note
-    made["s"] += 1
-    made["latch"] += kind != "mail"
+            wrong.append(note)
+    return [(name, made[name], dropped[name]) for name in made.keys() | dropped.keys()], wrong
+
+
+@functools.cache
+def steps_of(notes):
+    """How often each note comes, without the numbers at its end."""
+    return tuple(collections.Counter(re.sub(r" \d+$", "", note) for note in notes).items())
+
+
+def count_of(run):
+    count = collections.Counter()
+    for line in run:
+        for step, number in steps_of(line.notes):
+            count[step] += number
+    return count
+
+
+def faults(kind, run, is_fresh):
+    """What isn't so of a run."""
+    checks = "checked" in run[0].asked and sum(line.answer.startswith("call ") for line in run)
+    made, dropped = collections.Counter(s=1, t="get_mut" in run[0].asked, c=int(checks), latch=kind != "mail"), collections.Counter()
+    for line in run:
+        if line.notes:
+            counts, wrong = lives(line.notes)
+            yield from wrong
+            for name, more, gone in counts:
+                made[name] += more
+                dropped[name] += gone
     for name in made.keys() | dropped.keys():
         if made[name] != dropped[name]:
             yield f"{name} was made {made[name]} times and dropped {dropped[name]} times"
-    answers = collections.Counter(line.asked for line in run if line.asked.startswith("fut ") and re.match("ok|error", line.answer))
+    answers = collections.Counter(line.asked for line in run if line.asked.startswith("fut ") and line.answer.startswith(("ok", "error")))
     yield from (f"{asked} answered {count} times" for asked, count in answers.items() if count > 1 and kind != "loads")
-    yield from {"permits": permits, "loads": loads, "mail": mail, "slot": slot}[kind](run, notes, is_fresh)
+    yield from {"permits": permits, "loads": loads, "mail": mail, "slot": slot}[kind](run, is_fresh)
 
 
-def permits(run, notes, _):
-    if "watched" in run[0].asked and not re.fullmatch(r"(\d+) of \1 permits free", notes[-1]):
-        yield notes[-1]
+def permits(run, _):
+    if "watched" in run[0].asked and not re.fullmatch(r"(\d+) of \1 permits free", run[-1].notes[-1]):
+        yield run[-1].notes[-1]
     # The share that was made for a permit is dropped if the permit isn't there yet.
     asks = [line for line in run if any(it.startswith("latch waited") for it in line.notes)]
     permits = [line for line in asks if "latch dropped" not in line.notes]
     joins, looks = ([line for line in asks if f"latch waited {step}" in "; ".join(line.notes)] for step in ("Join", "Look"))
     waits = sum(line not in permits for line in joins) - sum(line in permits for line in looks)
-    count = collections.Counter(note.split("(")[0] for note in notes)
+    count = collections.Counter(note.split("(")[0] for line in run for note in line.notes)
     if len(permits) != count["latch stepped Release"]:
         yield f"{len(permits)} permits, and {count['latch stepped Release']} were given back"
     if waits != count["latch stepped Cancel"]:
         yield f"{waits} waits went on, and {count['latch stepped Cancel']} were cancelled"
 
 
-def loads(run, _notes, _):
+def loads(run, _):
     if run[-2].asked == "load" and run[-2].answer != "Count(0)":
         yield f"the load is {run[-2].answer}"
 
 
-def mail(run, notes, is_fresh):
-    if notes[-1] != "mail at its end, 0 requests left":
-        yield notes[-1]
-    count = collections.Counter(re.sub(r" \d+$", "", note) for note in notes)
+def mail(run, is_fresh):
+    if run[-1].notes[-1] != "mail at its end, 0 requests left":
+        yield run[-1].notes[-1]
+    count = count_of(run)
     places = waits = 0
     for line in run:
-        asks = [note.split()[0] for note in line.notes if note.split()[0] in ("Reserve", "Look")]
-        if line.asked.startswith("poll") and asks:
-            places += line.answer == "ready"
-            waits += (line.answer == "pending") - (asks[0] == "Look")
+        if line.asked.startswith("poll") and line.notes:
+            asks = [note.split()[0] for note in line.notes if note.split()[0] in ("Reserve", "Look")]
+            places += bool(asks) and line.answer == "ready"
+            waits += bool(asks) and (line.answer == "pending") - (asks[0] == "Look")
     if count["Join"] + 1 != count["Part"]:
         yield f"{count['Join']} joined, and {count['Part']} parted"
     if places != count["Send"] + count["Unreserve"]:
@@ -162,24 +192,46 @@ def mail(run, notes, is_fresh):
         yield f"{waits} waits went on, and {count['Cancel']} were cancelled"
     gone = next((at for at, line in enumerate(run) if "WorkerGone" in line.notes), len(run))
     sent = sum(line.answer.startswith("call ") for line in run[:gone])
-    told = sum(any(it.startswith("Outcome") for it in line.notes) and (line.answer != "pending" or len(line.notes) > 1) for line in run)
+    told = sum(is_told(line) for line in run)
     if sent != told + count["Forget"]:
         yield f"{sent} messages were sent, {told} outcomes told and {count['Forget']} forgotten"
     if count["WorkerGone"] != 1:
         yield f"the worker went {count['WorkerGone']} times"
-    polls = [line.answer for line in run if line.asked.startswith("poll")][-(places_of(run[0].asked) + 1) :]
-    until = [note.split()[0] for line in run[:-1] for note in line.notes]
-    if is_fresh and places_of(run[0].asked) < 12 and not {"Fail", "WorkerGone"} & set(until) and polls != ["ready"] * (len(polls) - 1) + ["pending"]:
-        yield f"fresh clones are {polls}"
+    if is_fresh and not {"Fail", "WorkerGone"} & {note.split()[0] for line in run[:-1] for note in line.notes}:
+        polls = [line.answer for line in run if line.asked.startswith("poll")][-(places_of(run[0].asked) + 1) :]
+        if polls != ["ready"] * (len(polls) - 1) + ["pending"]:
+            yield f"the polls for all places are {polls}"
 
 
-def slot(run, notes, _):
-    count = collections.Counter(notes)
+@functools.cache
+def is_told(line):
+    return any(it.startswith("Outcome") for it in line.notes) and (line.answer != "pending" or len(line.notes) > 1)
+
+
+def slot(run, _):
+    count = count_of(run)
     if count["Abort"] != 1:
         yield f"{count['Abort']} aborts"
-    by_abort = sum(it.count("Aborted") and not {"Put", "PutError"} & set(it) for it in [list(line.notes) for line in run if line.answer == "ended"])
+    by_abort = sum(line.notes.count("Aborted") and not {"Put", "PutError"} & set(line.notes) for line in run if line.answer == "ended")
     if count["spawned"] != count["Put"] + count["PutError"] + count["TaskGone"] + by_abort:
         yield f"{count['spawned']} tasks, and {count['Put']} put, {count['PutError']} errors, {count['TaskGone']} gone, {by_abort} ended"
+
+
+# How many lines are played at once, which bounds the memory.
+LINES = 300000
+
+
+def batches(runs):
+    """The runs, some at a time."""
+    batch, lines = [], 0
+    for run in runs:
+        batch.append(run)
+        lines += len(run[0])
+        if lines > LINES:
+            yield batch
+            batch, lines = [], 0
+    if batch:
+        yield batch
 
 
 def play(program, runs):
@@ -191,33 +243,40 @@ def play(program, runs):
         said = subprocess.run([program, "--write", path], capture_output=True, text=True)
         if said.returncode:
             sys.exit(f"drops: {program}: {said.stderr}")
-        out = f"{room}/came.script"
-        with open(out, "w", encoding="utf-8") as it:
-            it.write(said.stdout)
-        return [[Line(it.asked, it.answer, list(it.notes)) for it in script] for script in scripts_of(out)]
+        came = list(scripts_of(said.stdout))
+        if len(came) != len(runs):
+            sys.exit(f"drops: {len(runs)} runs, and {len(came)} came")
+        return came
+
+
+def runs_of(kind, crate, file, name):
+    """All runs of a file. (After `into_inner` no handle is left.)"""
+    with open(f"{TOP}/crates/{crate}/data/{file}.script", encoding="utf-8") as it:
+        text = it.read()
+    for script in scripts_of(text):
+        first = script[0].asked.split(";")[0].split()
+        if first[0] == name and "into_inner" not in first:
+            yield from variants(kind, script)
 
 
 def main():
-    failed = 0
+    failed = whole = 0
     for kind, (crate, files) in PLAYED.items():
         program = f"{os.environ.get('PROGRAMS') or f'{TOP}/crates/{crate}/out'}/{crate}"
         if not os.access(program, os.X_OK):
             sys.exit(f"drops: {program} isn't there: rt run makes it")
         for file, name in files:
-            runs = []
-            for script in scripts_of(f"{TOP}/crates/{crate}/data/{file}.script"):
-                first = script[0].asked.split(";")[0].split()
-                if first[0] == name and not {"get_mut", "into_inner", "checked"} & set(first) and not any(it.asked.startswith("count ") for it in script):
-                    runs += variants(kind, script)
-            came = play(program, runs)
-            if len(came) != len(runs):
-                sys.exit(f"drops: {file}: {len(runs)} runs, and {len(came)} came")
-            for (_, is_fresh), run in zip(runs, came):
-                for fault in faults(kind, run, is_fresh):
-                    failed += 1
-                    if failed < 20:
-                        print(f"drops: {file}: {fault}", *(f"    {it.asked:14} => {it.answer:12} | {'; '.join(it.notes)}" for it in run), sep="\n", file=sys.stderr)
-            print(f"drops: {file}: {len(runs)} runs")
+            count = 0
+            for runs in batches(runs_of(kind, crate, file, name)):
+                for (_, is_fresh), run in zip(runs, play(program, runs)):
+                    for fault in faults(kind, run, is_fresh):
+                        failed += 1
+                        if failed < 20:
+                            print(f"drops: {file}: {fault}", *(f"    {it.asked:14} => {it.answer:12} | {'; '.join(it.notes)}" for it in run), sep="\n", file=sys.stderr)
+                count += len(runs)
+            print(f"drops: {file}: {count} runs")
+            whole += count
+    print(f"drops: {whole} runs in all")
     return failed > 0
 
 

@@ -11,6 +11,9 @@ proved and calls none that isn't; where it calls such a one, it is tried again i
 shares a check with edits of files alone that don't name its own. An edit that stands in no function names by a line `function: PATH` the one that has
 to be refused.
 
+An edit of a law changes a machine and the body alike, in the crate that a line `crate: NAME` names, the law's own or one below: the functions that it
+changes there have to be proved with it, and the law, which `function:` names, has to be refused. It is tried alone.
+
 All edits are tried, or those of the crates that are named, or those alone that are named after them. With --gate those are tried that are marked
 `gate` or stand in `crates/`, and of the others it is seen that each can be applied, as its old text stands there exactly once. With --look that is
 seen of all, and none is tried.
@@ -28,6 +31,7 @@ import json
 import os
 import re
 import shutil
+import subprocess
 import sys
 import tempfile
 import threading
@@ -39,7 +43,7 @@ PARTS = ("error", "future", "layer", "service", "state", "task")
 KEPT = "refused by an earlier run"
 LOOKED_AT = "untried"
 FLAGS = ("--anew", "--built", "--gate", "--look")
-LINES = ("file: ", "old: ", "new:", "function: ")
+LINES = ("file: ", "old: ", "new:", "function: ", "crate: ")
 FUNCTION = re.compile(r"( *)(?:pub(?:\([^)]*\))? )?(?:(?:final|const|unsafe) )*fn (\w+)")
 BLOCK = re.compile(r"( *)(?:pub(?:\([^)]*\))? )?(impl|trait|mod)\b")
 
@@ -120,8 +124,10 @@ class Edit:
     def __init__(self, crate, name, text, is_in_gate):
         self.crate, self.name, self.text, self.is_in_gate = crate, name, text, is_in_gate
         self.pairs, self.paths, self.patterns, self.functions, self.bodies, self.is_of_bodies = [], [], [], [], "", True
+        self.below = next((line[len("crate: ") :].strip() for line in text.split("\n") if line.startswith("crate: ")), None)
+        self.folder = f"{os.path.dirname(crate.folder)}/{self.below}" if self.below else crate.folder
         odd = next((it for it in text.split("\n") if it.strip() and not it.startswith(LINES)), None)
-        self.why = f"a line that isn't read: {odd[:60]}" if odd else rt.edited(text, crate.folder)[1]
+        self.why = f"a line that isn't read: {odd[:60]}" if odd else rt.edited(text, self.folder)[1]
         if self.why:
             return
         path = old = ""
@@ -135,6 +141,8 @@ class Edit:
             elif line.startswith("new:"):
                 self.pairs.append((path, old, line[len("new:") :].removeprefix(" ")))
                 self.paths += [path] * (path not in self.paths)
+                if self.below:
+                    continue
                 text = rt.rtlib.text_of(f"{crate.folder}/{path}")
                 name, body, is_body = function_at(path, text, text.find(old))
                 self.patterns += [name] * (name is not None and name not in self.patterns)
@@ -218,6 +226,36 @@ def verdict(edit, output):
                     return "refused", f"{name}: {what}"
                 is_unclear = True
     return ("again", "") if is_unclear else ("NOT REFUSED", "its function is still proved")
+
+
+def changed_below(crate, edit):
+    """The functions that the edit of a law changes in the crate below, or the module of a file where they can't be named."""
+    names, found = functions_of(crate), []
+    for path, old, _ in edit.pairs:
+        if not path.startswith("src/"):
+            continue
+        text = rt.rtlib.text_of(f"{crate.folder}/{path}")
+        pattern, _, _ = function_at(path, text, text.find(old))
+        module = "::".join(it for it in path[len("src/") : -len(".rt")].split("/") if it not in ("lib", "main", "mod"))
+        name = pattern and named(pattern, names) or module
+        found += [name] * (name not in found)
+    return found
+
+
+def words_over(crate, below, folder):
+    """rattle's words for a check of the crate over the library below as the folder has it: it and the libraries that use it are read as texts, and
+    the others are taken as they were built."""
+    if below is crate:
+        return crate.words(["--jobs", "1"], keeps=False)
+    words = crate.words(["--jobs", "1"], keeps=False, as_source=True)
+    known = {it.name: it for it in crate.below()}
+    for at, word in enumerate(words):
+        it = word == "--lib" and known[words[at + 1].partition(":")[0]]
+        if it is below:
+            words[at + 1] = words[at + 1].replace(f"={it.folder}/", f"={folder}/")
+        elif it and below not in it.below():
+            words[at : at + 2] = ["--extern", f"{it.name}={it.rlib}"]
+    return words
 
 
 class Tried:
@@ -313,6 +351,34 @@ class Tried:
         self.keep(edits)
         return again
 
+    def try_law(self, edit):
+        """Checks the law together with the functions that the edit changes. The crate that has them and those between it and the law's own are read as
+        texts, so that no more of them is proved; the others are taken as they were built."""
+        below = next(it for it in [*self.crate.below(), self.crate] if it.name == edit.below)
+        before = "" if below is self.crate else f"{below.name}::"
+        only = [*edit.functions, *(before + it for it in changed_below(below, edit))]
+        with tempfile.TemporaryDirectory(dir=self.room) as copy, self.lanes.one():
+            for part in rt.rtlib.PARTS:
+                if os.path.isdir(f"{below.folder}/{part}"):
+                    shutil.copytree(f"{below.folder}/{part}", f"{copy}/{part}")
+            for path, text in rt.edited(edit.text, edit.folder)[0].items():
+                with open(f"{copy}/{path}", "w", encoding="utf-8") as it:
+                    it.write(text)
+            words = [rt.rtlib.RATTLE, "check", *words_over(self.crate, below, copy), *(word for it in only for word in ("--only", it))]
+            how = {"stdin": subprocess.DEVNULL, "stdout": subprocess.PIPE, "stderr": subprocess.STDOUT, "errors": "replace"}
+            ran = subprocess.run([*rt.rtlib.guarded(), *words], cwd=copy if below is self.crate else self.crate.folder, **how)
+        self.checks += 1
+        told = [it for it in re.findall(r"^fn (\S+): (.*)$", ran.stdout, re.M) if not any(is_of(self.crate, it[0], law) for law in edit.functions)]
+        failed = next((f"{name}: {what}" for name, what in told if what != "proved"), "")
+        lines = ran.stdout.rstrip("\n").split("\n")
+        answer, why = verdict(edit, ran.stdout)
+        if failed or not told or not lines[-1].startswith("only="):
+            answer, why = "BAD EDIT", f"what it changes in {edit.below} is not proved: " + (failed or " / ".join(lines[-4:]))
+        elif answer == "again":
+            answer, why = "BAD EDIT", "the law is not proved for what it calls"
+        self.answers[edit.name] = answer, why
+        self.keep([edit])
+
     def try_alone(self, edit):
         """As `rt must-fail` does, over what the first check left, and of the edited functions alone where there are such."""
         ran = self.check([edit], edit.functions)
@@ -347,6 +413,12 @@ class Tried:
         if not left:
             return
         self.find()
+        for it in left:
+            if it.below:
+                self.try_law(it)
+        left = [it for it in left if not it.below]
+        if not left:
+            return
         if not self.is_proved_without():
             self.answers.update({it.name: ("NOT TRIED", "its crate is not proved") for it in left})
             return

@@ -12,7 +12,7 @@ import re
 import sys
 
 TOP = pathlib.Path(__file__).resolve().parent.parent
-LIBRARIES = ("tower_base", "tower_latch", "tower_util", "tower_ware", "tower_limit", "tower_retry", "tower_pool", "tower")
+LIBRARIES = ("tower_base", "tower_latch", "tower_util", "tower_ware", "tower_limit", "tower_retry", "tower_buffer", "tower_pool", "tower", "tower_time")
 READING = re.compile(r"\b(reading|readings|moment)\b")
 ASKED = ("admits", "can_poll", "can_spawn", "ready", "sound")
 WORD = re.compile(r"[A-Za-z_]\w*")

@@ -23,7 +23,7 @@ def part_of(crate, is_test):
         return "tests"
     if crate.startswith("example_") or crate == "uses":
         return "examples"
-    if crate in ("tower_bench", "bench_threads", "tower_run"):
+    if crate in ("tower_bench", "bench_threads", "bench_flights", "tower_run", "tower_run_cli"):
         return "bench and program"
     return "tests" if is_test else "libraries"
 

@@ -1,5 +1,6 @@
 #!/usr/bin/env python3
-"""scripts/programs.py: runs the proved `tower-run` and `example_paced_lines`, as `rt ci` built them, with arguments, scripts and files of all kinds.
+"""scripts/programs.py: runs the proved `tower-run`, `example_paced_lines`, `example_timers`, `counted_polls` and `example_http`, as `rt ci` built them, with
+arguments, scripts and files of all kinds.
 
 Each run is compared whole: status, standard output, standard error. Reads and writes fail by fail_io.c, allocations by fail_alloc.c, threads by
 fail_thread.c. What is expected was worked out by hand.
@@ -7,14 +8,20 @@ fail_thread.c. What is expected was worked out by hand.
 import os
 import pty
 import re
+import resource
 import subprocess
 import sys
 import tempfile
 import time
 
 HERE = os.path.dirname(os.path.realpath(__file__))
-TOWER_RUN = f"{HERE}/../crates/tower_run/out/tower_run"
+TOWER_RUN = f"{HERE}/../crates/tower_run_cli/out/tower_run_cli"
 PACED_LINES = f"{HERE}/../crates/example_paced_lines/out/example_paced_lines"
+TIMERS = f"{HERE}/../crates/example_timers/out/example_timers"
+COUNTED_POLLS = f"{HERE}/../crates/counted_polls/out/counted_polls"
+HTTP = f"{HERE}/../crates/example_http/out/example_http"
+CROWD = re.compile(rb"(?:\d requests: |20 requests: )(\d+) served, (\d+) busy, (\d+) broken, 0 wrong\n5 requests: (\d) served, (\d) busy, (\d) broken, 0 wrong\n"
+                   rb"at most ([0-5]) inside at once, 0 at the end\n")
 WRONG = 10**4
 runs = 0
 
@@ -71,6 +78,8 @@ def check_arguments(tower_run):
     for words in ("", " ", "Timeout", "timeout timeout", "storm", "storm 65 1 1", "storm 0 1 1", "storm 1 1 0", "storm 1 1 1000001", "storm 1 1",
                   "storm 1 1 1 1", "storm 01 1 1", "storm 1 1000001 1", "buffer"):
         tower_run.check([""] if words == " " else words.split(), b"", 2, b"", usage, FAIL_READ=1)
+    for words in ([b"\xff"], ["timeout", b"\xff"], ["storm", "1", b"\xc3", "1"]):
+        tower_run.check(words, b"", 2, b"", usage, FAIL_READ=1)
 
 
 def bad(tower_run, script, line):
@@ -85,6 +94,9 @@ def check_lines(tower_run):
     """Lines that are good, and lines that are bad."""
     printed(tower_run, b"at 0\nat 18446744073709551615\nfut 18446744073709551615\nanswer 18446744073709551615 ok !~",
             b"at 0\nat 18446744073709551615\nskipped\nskipped\ninner polls 0 calls 0\n")
+    printed(tower_run, b"at 18446744073709551600\npoll\ncall a\nat 18446744073709551609\nfut 0\nat 18446744073709551610\nfut 0",
+            b"at 18446744073709551600\npoll ready\ncall 0\nat 18446744073709551609\nfut 0 pending\n"
+            b"at 18446744073709551610\nfut 0 error request timed out\ninner polls 1 calls 1\n")
     for number in b"18446744073709551616|00|01|+1|-1|1a|a||1 | 1|1 1".split(b"|"):
         bad(tower_run, b"at 1\nat %s\npoll\n" % number, 2)
         bad(tower_run, b"fut %s\n" % number, 1)
@@ -102,6 +114,8 @@ def check_lines(tower_run):
              b"answer  0 ok a|answer ok a|answer 0 Ok a")
     for line in lines.split(b"|"):
         bad(tower_run, b"at 1\n%s\n\n" % line, 2)
+    printed(tower_run, b"allow 2\nallow 1\npoll\ncall a\npoll\nallow 18446744073709551615\nallow 0\npoll",
+            b"allow 2\nallow 1\npoll ready\ncall 0\npoll pending\nallow 18446744073709551615\nallow 0\npoll pending\ninner polls 3 calls 1\n")
     for stack in ("timeout", "rate", "limit", "shed", "all"):
         tower_run.check([stack], b"", 0, b"inner polls 0 calls 0\n", b"")
 
@@ -186,12 +200,17 @@ def check_refusals(tower_run):
 def check_storms(tower_run):
     """A storm reads nothing, and reports its rounds and its permits. If a thread or an allocation is refused, it says so."""
     for words, out in (("4 1000 2", b"threads 4 rounds 4000 free 2 of 2\n"), ("8 10000 3", b"threads 8 rounds 80000 free 3 of 3\n"),
-                       ("1 0 1", b"threads 1 rounds 0 free 1 of 1\n"), ("1 1000000 1", b"threads 1 rounds 1000000 free 1 of 1\n")):
+                       ("1 0 1", b"threads 1 rounds 0 free 1 of 1\n"), ("1 1000000 1", b"threads 1 rounds 1000000 free 1 of 1\n"),
+                       ("64 0 1", b"threads 64 rounds 0 free 1 of 1\n"), ("64 9 1000000", b"threads 64 rounds 576 free 1000000 of 1000000\n")):
         tower_run.check(["storm", *words.split()], b"", 0, out, b"", FAIL_READ=1)
     words, out, unstarted = ["storm", "4", "20", "2"], b"threads 4 rounds 80 free 2 of 2\n", (3, b"", b"cannot start a thread\n")
     for thread in range(1, 5):
         tower_run.check(words, b"", *unstarted, FAIL_THREAD=thread)
     tower_run.check(words, b"", 0, out, b"", FAIL_THREAD=5)
+    # the three that were started make their rounds before the program ends
+    before = resource.getrusage(resource.RUSAGE_CHILDREN).ru_utime
+    tower_run.check(["storm", "4", "1000000", "4"], b"", *unstarted, FAIL_THREAD=4)
+    assert resource.getrusage(resource.RUSAGE_CHILDREN).ru_utime - before > 0.1
     tower_run.refuses(words, b"", out, unstarted)
 
 
@@ -264,6 +283,70 @@ def check_progress():
     assert (ran.returncode, ran.stdout, re.sub(b"\r\n", b"\n", told)) == (0, b"a\nb\n", b"\r1 lines\r2 lines\n"), (ran, told)
 
 
+def check_timers(timers, paced):
+    """If the thread that fires the timers can't be made, tasks are polled again at once, and answered all the same."""
+    out = b"answered 1\nrequest timed out\n"
+    for fails in ({}, {"FAIL_THREAD": 1}):
+        timers.check([], b"", 0, out, b"", **fails)
+        paced.check(["1", "20"], b"a\nb\nc", 0, b"a\nb\nc", b"", **fails)
+
+
+def check_waits(crowds):
+    """If memory for a waker is refused, no task is left asleep: the program ends, or says that memory was refused."""
+    global runs
+    whole, quiet = b"a limit of 1: ended\na buffer of 2: ended\n", 0
+    for number in range(1, 1000):
+        runs += 1
+        ran = crowds.run(["10"], b"", FAIL_ALLOC=number)
+        told = ran.returncode, ran.stdout == whole, whole.startswith(ran.stdout)
+        assert told in ((0, True, True), (1, False, True)), (number, ran)
+        quiet = quiet + 1 if ran.returncode == 0 else 0
+        if quiet == 200:
+            return
+    raise AssertionError("each of the last 200 allocations was refused")
+
+
+def crowd_of(http, words, **fails):
+    """What a crowd was told, and then five more: how many were served, shed, and cut off. No answer is wrong, at most five are inside at once and none is
+    at the end. `None` if memory was refused to the program itself, which then says so."""
+    global runs
+    runs += 1
+    ran = http.run(["crowd", *words], b"", **fails)
+    if ran.returncode == 1 and "FAIL_ALLOC" in fails:
+        assert ran.stderr, ran
+        return None
+    told = CROWD.fullmatch(ran.stdout)
+    assert told and (ran.returncode, ran.stderr) == (0, b""), (words, fails, ran)
+    return tuple(map(int, told.groups()))
+
+
+def check_crowds(http):
+    """Connections in memory share a stack with a limit of five. Each request is answered, by a 200 or a 503, unless a read, a write or memory fails; then
+    its connection alone is cut off, no task is left asleep, and the permits are back: five more are served."""
+    for _ in range(5):
+        served, busy, broken, *later = crowd_of(http, ["20"])
+        assert served >= 5 and busy > 0 and served + busy == 20 and broken == 0 and later == [5, 0, 0, 5], (served, busy, broken, later)
+    broken, whole = 0, 0
+    for number in range(1, 1000):
+        told = crowd_of(http, ["2", str(number)])
+        assert told in ((2, 0, 0, 5, 0, 0, 5), (1, 0, 1, 5, 0, 0, 5)), (number, told)
+        broken, whole = broken + told[2], 0 if told[2] else whole + 1
+        if whole == 20:
+            break
+    assert whole == 20 and broken >= 10, (broken, whole)
+    refused, whole = 0, 0
+    for number in range(1, 10000):
+        told = crowd_of(http, ["2"], FAIL_ALLOC=number)
+        if told == (2, 0, 0, 5, 0, 0, 5):
+            whole += 1
+        else:
+            assert told is None or (told[0] + told[2], told[1], told[3] + told[5], told[4]) == (2, 0, 5, 0) and told[2] + told[5] == 1, (number, told)
+            refused, whole = refused + 1, 0
+        if whole == 200:
+            break
+    assert whole == 200 and refused > 20, (refused, whole)
+
+
 def main():
     with tempfile.TemporaryDirectory() as room:
         io, alloc, thread = (built(room, name) for name in ("fail_io", "fail_alloc", "fail_thread"))
@@ -274,6 +357,9 @@ def main():
         for check in (check_paced, check_slow_writes, check_pace):
             check(paced)
         check_progress()
+        check_timers(Program(TIMERS, thread), Program(PACED_LINES, thread))
+        check_waits(Program(COUNTED_POLLS, alloc))
+        check_crowds(Program(HTTP, alloc))
     print(f"programs: {runs} runs, each as expected")
 
 

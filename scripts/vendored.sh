@@ -11,6 +11,8 @@ scripts/vendor --built "$room" > /dev/null
 cp -r "crates/$own" "$room/crates/"
 rm -rf "$room/crates/$own/out"
 grep "^$own" crates.txt >> "$room/crates.txt"
+(cd "$room" && ./prove "$own" > "$room/verdict" 2> "$room/log") || { tail -n 20 "$room/log" "$room/verdict" >&2; exit 1; }
+grep -q "^$own is proved" "$room/verdict"
 (cd "$room/crates/$own" && rt run > "$room/said" 2> "$room/log") || { tail -n 20 "$room/log" "$room/said" >&2; exit 1; }
 diff "crates/$own/stdout" "$room/said"
 

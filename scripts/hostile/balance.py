@@ -6,12 +6,14 @@ from spawn import Answered, Party
 from stage import LAST_MOMENT, Hostile, Inner, Plan, Play, Stage, write_hostile
 
 PASSES = 64
+NO_ROOM = "error out of memory"
 
 
 class Cache:
     """The ready endpoints, each under its key, and the pending ones, longest waiting first, each cancelled or not."""
 
-    def __init__(self):
+    def __init__(self, stage):
+        self.stage = stage
         self.ready = []
         self.pending = []
 
@@ -29,8 +31,12 @@ class Cache:
         return bool(entry)
 
     def push(self, key, service):
+        """Whether there was room. If there wasn't, nothing is changed."""
+        if not self.stage.has_room("a push that found no room"):
+            return False
         self.cancel(key)
         self.pending.append([key, service, False])
+        return True
 
     def remove(self, index):
         """The last one takes its place."""
@@ -49,6 +55,8 @@ class Cache:
     def poll(self):
         for entry in list(self.pending):
             key, service, is_cancelled = entry
+            if not is_cancelled and not self.stage.has_room("a poll that found no room for a ready endpoint: it is asked first at the next"):
+                return NO_ROOM
             answer = "cancelled" if is_cancelled else service.poll()
             if answer == "pending":
                 continue
@@ -136,7 +144,8 @@ class Fleet(Party):
 
 
 def ready_cache(rng):
-    stage, cache = Stage(), Cache()
+    stage = Stage()
+    cache = Cache(stage)
     play = Play(stage, "ready_cache", None)
     keys = rng.choice([2, 4, 8, 16])
     request = lambda: rng.randrange(256)
@@ -256,29 +265,38 @@ class Balance:
         self.discovery = discovery
         self.words = words
         self.compares = compares
-        self.cache = Cache()
+        self.cache = Cache(stage)
+        self.change = None
         self.kept = None
         self.is_over = False
         self.plans = None
 
     def poll(self):
-        error = None if self.is_over else self.changes()
-        if error:
-            return f"error Discover({error}): load balancer discovery error: {error}"
-        while self.cache.poll().startswith("error "):
+        if error := self.pushed() or (None if self.is_over else self.changes()):
+            return error
+        while (answer := self.cache.poll()).startswith("error Failed"):
             pass
-        return self.choose()
+        return answer if answer == NO_ROOM else self.choose()
+
+    def pushed(self):
+        """Pushes an insert that found no room, and tells if there is none yet."""
+        if self.change and not self.cache.push(*self.change):
+            return NO_ROOM
+        self.change = None
+        return None
 
     def changes(self):
-        """An error of the discovery, or none."""
+        """An error of the discovery or of memory, or none."""
         for _ in range(PASSES):
             match self.discovery.poll():
                 case "inserted", key, name, load:
-                    self.cache.push(key, Weighed(self.plans[name], name, load))
+                    self.change = key, Weighed(self.plans[name], name, load)
+                    if error := self.pushed():
+                        return error
                 case "removed", key:
                     self.cache.evict(key)
                 case "error", error:
-                    return str(error)
+                    return f"error Discover({error}): load balancer discovery error: {error}"
                 case (answer,):
                     self.is_over = answer == "ended"
                     return None
@@ -309,6 +327,11 @@ class Balance:
     def call(self, request):
         index, self.kept = self.kept, None
         return Answered(self.cache.call(index, request))
+
+    def drop(self):
+        self.stage.drops("discovery")
+        for service in [*self.cache.services(), *([self.change[1]] if self.change else [])]:
+            service.drop()
 
 
 def balance(rng):

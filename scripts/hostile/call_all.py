@@ -102,6 +102,8 @@ class Calls:
             return "none"
         if self.kept is None and not self.take():
             return None if self.has_ended else "pending"
+        if not self.stage.has_room("a call that found no room: its request waits"):
+            return "error out of memory"
         answer = self.service.poll()
         if answer == "ready":
             self.queue.push(self.service.call(self.kept))

@@ -119,7 +119,8 @@ class Delay(Nest):
 
 
 class Delayed:
-    """A wait, then the readiness of the clone, and then its response. What is over is dropped at once."""
+    """A wait, then the readiness of the clone, and then its response. The wait is dropped once it is over, the clone once it was called, and the
+    response once it is there. An error drops neither."""
 
     def __init__(self, sleep, inner, request):
         self.sleep = sleep
@@ -137,18 +138,16 @@ class Delayed:
 
     def ask(self):
         answer = self.inner.poll()
-        if answer == "pending":
+        if answer != "ready":
             return answer
-        if answer == "ready":
-            self.response = self.inner.call(self.request)
-            answer = self.answer()
+        self.response = self.inner.call(self.request)
         self.inner.drop()
         self.inner = None
-        return answer
+        return self.answer()
 
     def answer(self):
         answer = self.response.poll()
-        if answer != "pending":
+        if answer.startswith("ok "):
             self.response.drop()
             self.response = None
         return answer
@@ -242,12 +241,16 @@ class Histogram:
 
     def seed(self, millis):
         self.step("Seed", millis)
-        self.periods.points.append((self.periods.present, millis))
+        self.add(self.periods.present, millis)
 
     def record(self, latency):
         millis = -(-latency // MILLISECOND)
         self.step("Record", millis)
-        self.periods.points.append((self.periods.present + 1, millis))
+        self.add(self.periods.present + 1, millis)
+
+    def add(self, period, millis):
+        if self.stage.has_room("a point that found no room is left out"):
+            self.periods.points.append((period, millis))
 
     def count(self):
         self.step("Points")

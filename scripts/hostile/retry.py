@@ -174,9 +174,10 @@ def retry(rng):
 
 
 class Budget:
-    """The sum of the amounts of each generation. An amount counts in its own and in the ten after it."""
+    """The sum of the amounts of each generation. An amount counts in its own and in the ten after it. Its latch may note its steps."""
 
-    def __init__(self, stage, ttl, least, retries, requests):
+    def __init__(self, stage, ttl, least, retries, requests, is_noted=False):
+        self.is_noted = is_noted
         self.window = ttl // 10
         self.gain, self.price = 0, 1
         if 0 < retries <= requests:
@@ -189,16 +190,19 @@ class Budget:
         self.present = 0
         self.sums = Counter()
 
-    def advance(self):
+    def advance(self, step):
         """The generation never goes back."""
-        self.present = max(self.present, (self.stage.read() - self.made) // self.window)
+        moment = self.stage.read()
+        if self.is_noted:
+            self.stage.note(f"latch stepped {step}({moment})")
+        self.present = max(self.present, (moment - self.made) // self.window)
 
     def deposit(self):
-        self.advance()
+        self.advance("Deposit")
         self.sums[self.present] += self.gain
 
     def withdraw(self):
-        self.advance()
+        self.advance("Withdraw")
         balance = self.reserve + sum(self.sums[self.present - back] for back in range(11))
         if balance >= self.price:
             self.sums[self.present] -= self.price
@@ -209,6 +213,8 @@ class Budget:
         return [self.made + (self.present + later) * self.window for later in (1, 2, 10, 11, 12)]
 
     def drop(self):
+        if self.is_noted:
+            self.stage.drops("latch")
         self.stage.drops("clock")
 
 
@@ -237,7 +243,7 @@ def budget(rng):
     stage.moment = rng.choice([0, 7, 100 * SECOND, rng.randint(0, LAST_MOMENT)])
     is_usual = rng.random() < 0.1
     numbers = (10 * SECOND, 10, 1, 5) if is_usual else terms(rng)
-    budget = Budget(stage, *numbers)
+    budget = Budget(stage, *numbers, is_noted=not is_usual)
     first = "usual_budget" if is_usual else first_of("budget", *numbers)
     play = Play(stage, f"{first}; at {stage.moment}", None, ended=[budget])
 
@@ -252,7 +258,11 @@ def budget(rng):
         spent = 0
         while spent < 1400 and budget.withdraw():
             spent += 1
+        notes = stage.notes
+        stage.notes = [".."]
         play.ask("spend", str(spent))
+        for note in sorted(set(notes)):
+            play.ask(f"count {note}", str(notes.count(note)))
 
     extras = [deposit] * 10 + [withdraw] * 10 + [spend]
     return Alone(rng, play, marks=budget.marks, extras=extras).steps(rng.randrange(60, 100))

@@ -19,6 +19,13 @@ class Stage:
         self.moment = 0
         self.services = Plan(self)
         self.others = Plan(self)
+        self.rooms = []
+        self.refused = None
+
+    def has_room(self, name):
+        """Whether there is memory for what is named so: always, but for the one that is refused, by its number."""
+        self.rooms.append((name, len(self.notes)))
+        return len(self.rooms) - 1 != self.refused
 
     def note(self, text):
         self.notes.append(text)

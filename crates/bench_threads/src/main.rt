@@ -1,9 +1,11 @@
-//! `bench-threads N`: N calls of four threads, behind a lock, and through one, two and four buffers of 64.
+//! `bench-threads N`: N calls of four threads, behind a lock, through one, two and four buffers of 64,
+//! and through a limit of one, two and eight calls.
 //!
 //! Each buffer's worker is a task of a pool in a thread of its own.
 #![tactic(auto)]
 
 mod echo;
+mod limited;
 mod locked;
 mod queued;
 
@@ -13,6 +15,7 @@ use std::time::Instant;
 use std::{env, io};
 use tower::buffer::MailCore;
 use tower::latch::Guarded;
+use tower::limit::concurrency::LineCore;
 
 // So many threads call.
 const CALLERS: usize = 4;
@@ -33,6 +36,12 @@ fn main(rt: HostRuntime) -> io::Result<()> {
         }
         let sum = queued::sum(&rt, mails, callers, each)?;
         println!(rt; "{buffers} of 64: sum {sum}, {} us", micros(&rt, start)?)?;
+    }
+    for max in [1, 2, 8] {
+        let line = Guarded::new(rt, rt.alloc(), LineCore::new(rt.alloc(), max))?;
+        let start = Instant::now(&rt)?;
+        let sum = limited::sum(&rt, line, max, each)?;
+        println!(rt; "a limit of {max}: sum {sum}, {} us", micros(&rt, start)?)?;
     }
     Ok(())
 }

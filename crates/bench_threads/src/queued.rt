@@ -105,7 +105,8 @@ where
     thread::map_vec(rt, clones, &|buffer| call(rt, buffer, each))
 }
 
-fn clones_of<B: Clone + Drop>(
+/// So many clones of a service, which is dropped.
+pub fn clones_of<B: Clone + Drop>(
     alloc: Global,
     buffer: B,
     count: usize,
@@ -125,7 +126,8 @@ where
     sum_of(rt, buffer, each)
 }
 
-fn sum_of<R, B>(rt: &R, service: B, each: u64) -> io::Result<u64>
+/// The sum of the responses to so many calls of one service, one after another.
+pub fn sum_of<R, B>(rt: &R, service: B, each: u64) -> io::Result<u64>
 where
     R: Wait + RandomSource + AllocGlobal,
     B: Service<u64, Response = u64>,

@@ -1,95 +1,54 @@
-//! A balanced pool: endpoints come and go, and each request goes to the lighter of two that are drawn.
+//! A balanced pool: servers come and go, and each request goes to the one of two that are drawn which has
+//! fewer requests pending. Before the balancer stand a buffer, retries with a budget, a timeout and a
+//! limit.
+//!
+//! The check covers this program as it is cut: `main` makes the balancer; `buffered`, over any service,
+//! the buffer; `retried` and `timed` the layers around any service. In one function they are refused, as
+//! too many types.
 #![tactic(auto)]
 
-ghost use Rattle.std.specs.Prelude.{⊤};
+ghost use Rattle.std.specs.Prelude.{◌≡◌};
 
-use futures::future::{Ready, ok};
-use futures::task::{Context, Poll};
+mod endpoint;
+mod policy;
+
+use endpoint::{Directory, Endpoint, Get, News};
+use futures::executor::LocalPool;
+use futures::future::Future;
+use futures::task::Doorbell;
+use policy::{IsBusy, WhileBusy};
+use std::alloc::{AllocError, AllocGlobal};
 use std::cell::Cell;
-use std::convert::Infallible;
+use std::fmt::Display;
 use std::io;
+use std::random::RandomSource;
+use std::sync::Wait;
 use tower::balance::p2c::Balance;
-use tower::discover::{Change, Discover};
-use tower::load::Load;
-use tower::{BlockOnExt, Service};
+use tower::buffer::Buffer;
+use tower::discover::Change;
+use tower::load::{CompleteOnResponse, PendingRequestsDiscover};
+use tower::retry::backoff::{ExponentialBackoffMaker, MakeBackoff};
+use tower::retry::budget::TpsBudget;
+use tower::service::{Polled, SystemClock};
+use tower::util::Sealed;
+use tower::{Service, ServiceBuilder, ServiceExt};
 
-/// An endpoint that answers each request with its own port. The more requests it has answered, the heavier
-/// its load is.
-#[derive(Debug, Drop)]
-struct Endpoint {
-    port: u16,
-    answered: u64,
-}
-
-impl Load for Endpoint {
-    type Metric = u64;
-
-    ghost loaded = { λ _ _. ⊤ };
-
-    fn load(&self) -> u64 {
-        self.answered
-    }
-}
-
-impl Service<&'static str> for Endpoint {
-    type Response = u16;
-
-    type Error = Infallible;
-
-    type Future = Ready<Result<u16, Infallible>>;
-
-    // It may always be called.
-    ghost readies = { λ _ _ _. tt };
-
-    fn poll_ready(&mut self, _cx: &mut Context<'_>) -> Poll<Result<(), Infallible>> {
-        Poll::Ready(Ok(()))
-    }
-
-    fn call(&mut self, _path: &'static str) -> Ready<Result<u16, Infallible>> {
-        self.answered = self.answered.saturating_add(1);
-        ok(self.port)
-    }
-}
-
-/// A discovery that reports each change to the balancer, once.
-#[derive(Drop)]
-struct Directory<'a> {
-    news: &'a Cell<Option<Change<u16, Endpoint>>>,
-}
-
-type Found = Poll<Option<Result<Change<u16, Endpoint>, Infallible>>>;
-
-impl<'a> Discover for Directory<'a> {
-    type Key = u16;
-
-    type Service = Endpoint;
-
-    type Error = Infallible;
-
-    ghost discovered = { λ _ _ _. ⊤ };
-
-    fn poll_discover(&mut self, cx: &mut Context<'_>) -> Found {
-        match self.news.take() {
-            Some(change) => Poll::Ready(Some(Ok(change))),
-            None => cx.yield_now(),
-        }
-    }
-}
-
-// Returns the insertion of an endpoint at this port, which hasn't answered anything yet.
-fn comes(port: u16) -> Change<u16, Endpoint> {
-    Change::Insert(port, Endpoint { port, answered: 0 })
-}
-
-fn main(rt: HostRuntime) -> io::Result<()> {
-    let news = Cell::new(None);
-    let mut pool = Balance::new(rt.alloc(), Directory { news: &news });
+// Asks for three pages after each change, while the pool runs the buffer's worker. `Sealed` keeps the
+// client sound from one call to the next.
+fn ask_all<R, W, S>(rt: &R, news: &News, mut pool: LocalPool<W>, client: S) -> io::Result<()>
+where
+    R: Wait + RandomSource + AllocGlobal + Print,
+    W: Future<Output = ()>,
+    S: Service<Get, Response = u64>,
+    S::Error: Display,
+    requires { S.sound client }
+{
+    let mut client = Sealed::new(client);
+    let mut page: u64 = 0;
     let changes = [
-        comes(8001),
-        comes(8002),
-        comes(8003),
+        Change::Insert(8001, Endpoint::new()),
+        Change::Insert(8002, Endpoint::new()),
         Change::Remove(8001),
-        Change::Remove(8003),
     ];
     for change in changes {
         match &change {
@@ -98,11 +57,81 @@ fn main(rt: HostRuntime) -> io::Result<()> {
         }
         news.set(Some(change));
         for _ in 0..3 {
-            match pool.block_on_call(&rt, "/status")? {
-                Ok(port) => println!(rt; "  answered by {port}, one of {}", pool.len())?,
-                Err(error) => println!(rt; "  no answer: {error}")?,
+            page = page.saturating_add(1);
+            let answer = match pool.run_until(rt, client.ready())? {
+                Ok(client) => pool.run_until(rt, Polled::new(client.call(Get { page })))?,
+                Err(error) => Err(error),
+            };
+            match answer {
+                Ok(bytes) => println!(rt; "  page {page}: {bytes} bytes")?,
+                Err(error) => println!(rt; "  page {page}: {error}")?,
             }
         }
     }
     Ok(())
+}
+
+// The timeout and the limit, around any service.
+fn timed<R, W, S>(rt: R, news: &News, pool: LocalPool<W>, inner: S) -> io::Result<()>
+where
+    R: Wait + RandomSource + AllocGlobal + Print + std::time::Clock + Copy,
+    W: Future<Output = ()>,
+    S: Service<Get, Response = u64>,
+    S::Error: Display,
+    requires { S.sound inner }
+{
+    let client = ServiceBuilder::new()
+        .timeout(5_000_000_000, SystemClock::new(rt)?)
+        .concurrency_limit(rt, rt.alloc(), 4)
+        .service(inner)?;
+    ask_all(&rt, news, pool, client)
+}
+
+// The retries, around any buffer, and the pool, which runs its worker.
+fn retried<R, W, B>(rt: R, news: &News, buffer: B, worker: W) -> io::Result<()>
+where
+    R: Wait + RandomSource + AllocGlobal + Print + std::time::Clock + Copy,
+    W: Future<Output = ()> + Drop,
+    B: Service<Get, Response = u64> + Clone,
+    B::Error: IsBusy + Display,
+    requires sound { B.sound buffer }
+    requires clones { (x y : B) → B.is_clone x y → B.sound x → B.sound y }
+    requires can_poll { W.can_poll worker }
+{
+    let alloc = rt.alloc();
+    let pool = LocalPool::with_doorbell(&rt, Doorbell::parking())?;
+    if pool.spawner()?.spawn(worker).is_err() {
+        return Err(AllocError.into());
+    }
+    let retries = Cell::new(0);
+    let policy = WhileBusy {
+        budget: TpsBudget::with_clock(rt, alloc, SystemClock::new(rt)?)?,
+        backoff: ExponentialBackoffMaker::with_clock(SystemClock::new(rt)?).make_backoff()?,
+        retries: &retries,
+    };
+    let client = ServiceBuilder::new().retry(policy).service(buffer)?;
+    timed(rt, news, pool, client)?;
+    println!(rt; "{} requests were made again", retries.get())
+}
+
+// The buffer, around any service.
+fn buffered<R, S>(rt: R, news: &News, service: S) -> io::Result<()>
+where
+    R: Wait + RandomSource + AllocGlobal + Print + std::time::Clock + Copy,
+    S: Service<Get, Response = u64>,
+    S::Error: IsBusy + Display + Clone,
+    requires sound { S.sound service }
+    requires same { (x y : S.Error) → S.Error.is_clone x y → y ≡ x }
+{
+    match Buffer::pair(rt, rt.alloc(), service, 8) {
+        Ok((buffer, worker)) => retried(rt, news, buffer, worker),
+        Err(AllocError) => Err(AllocError.into()),
+    }
+}
+
+fn main(rt: HostRuntime) -> io::Result<()> {
+    let (alloc, news) = (rt.alloc(), Cell::new(None));
+    let directory = Directory { news: &news };
+    let counted = PendingRequestsDiscover::new(rt, alloc, directory, CompleteOnResponse);
+    buffered(rt, &news, Balance::new(alloc, counted))
 }

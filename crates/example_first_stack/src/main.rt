@@ -5,7 +5,7 @@ use futures::future::{Ready, ok};
 use std::convert::Infallible;
 use std::io;
 use tower::service::SystemClock;
-use tower::{BlockOnExt, ServiceBuilder};
+use tower::{BlockOnExt, Refusal, ServiceBuilder, StackError};
 
 fn main(rt: HostRuntime) -> io::Result<()> {
     // The layer that is added first is outermost.
@@ -18,6 +18,7 @@ fn main(rt: HostRuntime) -> io::Result<()> {
     // Readiness, one call, and its response.
     match stack.block_on_call(&rt, 9)? {
         Ok(area) => println!(rt; "half of the square is {area}"),
+        Err(error) if error.refusal() == Some(Refusal::Elapsed) => println!(rt; "too slow"),
         Err(error) => println!(rt; "no answer: {error}"),
     }
 }

@@ -1,5 +1,6 @@
 //! A job queue: four producers in threads of their own, each with a clone of one buffer over a rate limit
-//! and a retry. The buffer's worker is a task of a pool, in a fifth thread.
+//! and a retry. The buffer's worker is a task of a pool, in a fifth thread, which sleeps while the rate is
+//! used up: its clock is one of timers, whose thread wakes the task.
 //!
 //! The check covers threads that take a buffer over any latch, if the service's response type has no
 //! parameter. So the mail is made in `main`, and `queued` takes any latch.
@@ -16,15 +17,16 @@ use std::random::RandomSource;
 use std::sync::Wait;
 use std::thread::Threads;
 use std::{io, thread};
+use tower::Service;
 use tower::buffer::{Buffer, MailCore, Worker};
 use tower::latch::held::Pollable;
 use tower::latch::{Guarded, Latch};
 use tower::limit::rate::{Rate, RateLimit};
 use tower::retry::future::ResponseFuture;
 use tower::retry::{self, Retry};
-use tower::service::{Clock, SystemClock};
-use tower::util::Sealed;
-use tower::{BlockOnExt, Service};
+use tower::service::Clock;
+use tower::util::{Sealed, Waiter};
+use tower_time::Timers;
 
 const PRODUCERS: usize = 4;
 
@@ -44,7 +46,8 @@ type Back<C, L> = Worker<RateLimit<Retry<Again, Square>, C>, Job, Answer, Failur
 
 fn main(rt: HostRuntime) -> io::Result<()> {
     let mail = Guarded::new(rt, rt.alloc(), MailCore::new(rt.alloc(), 8))?;
-    for sum in queued(&rt, mail, SystemClock::new(rt)?)? {
+    let timers = Timers::new(rt, rt.alloc())?;
+    for sum in timers.beside(&rt, || queued(&rt, mail, timers.clock()))? {
         println!(rt; "a producer's sum: {}", sum?)?;
     }
     Ok(())
@@ -136,13 +139,14 @@ where
     requires { B.sound service }
 {
     let mut service = Sealed::new(service);
+    let mut waiter = Waiter::new(rt)?;
     let mut sum = 0u64;
     for number in 1..=JOBS {
         let job = Job {
             number,
             failures: 0,
         };
-        if let Ok(square) = service.block_on_call(rt, job)? {
+        if let Ok(square) = waiter.block_on_call(rt, &mut service, job)? {
             sum = sum.saturating_add(square);
         }
     }

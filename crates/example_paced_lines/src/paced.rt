@@ -9,15 +9,17 @@ use std::cell::RefCell;
 use std::io::{Read, Write};
 use std::random::RandomSource;
 use std::sync::Wait;
+use tower::Service;
 use tower::limit::rate::{Rate, RateLimit};
 use tower::service::Clock;
 use tower::timeout::{Error, Timeout};
-use tower::{BlockOnExt, Service};
+use tower::util::Waiter;
 
 /// How many nanoseconds a write may take.
 const WRITE_TIME: u64 = 10_000_000_000;
 
 /// Where lines come from and go to, and where faults and the progress are shown.
+#[derive(Drop)]
 pub struct Console<R, W, E> {
     pub reader: R,
     pub out: W,
@@ -65,8 +67,7 @@ pub fn report<E: Write + Drop>(fault: Fault, mut err: E) -> u8 {
     fault.status()
 }
 
-// Copies the lines, each once the service is ready for it. The layers inside wait for a clock, which wakes
-// no task. So the thread polls them, and sleeps in between.
+// Copies the lines, each once the service is ready for it. One waiter waits for all of them.
 fn copy<H, S, R, E>(
     rt: &H,
     mut service: S,
@@ -81,11 +82,12 @@ where
     E: Write,
     requires { S.sound service }
 {
+    let mut waiter = Waiter::new(rt).map_err(|_| Fault::Memory)?;
     for count in 1..u64::MAX {
         let Some(line) = lines.next_line()? else {
             break;
         };
-        match service.block_on_call(rt, line) {
+        match waiter.block_on_call(rt, &mut service, line) {
             Ok(Ok(())) => {}
             Ok(Err(Error::Inner(CannotWrite))) => return Err(Fault::CannotWrite),
             Ok(Err(Error::Elapsed)) => return Err(Fault::TimedOut),

@@ -16,13 +16,13 @@ use std::sync::Wait;
 use std::sync::atomic::{AtomicU64, Ordering};
 use std::thread;
 use std::thread::Threads;
+use tower::Service;
 use tower::buffer::{Buffer, MailCore, Worker};
 use tower::latch::Latch;
 use tower::latch::held::Pollable;
 use tower::retry::future::ResponseFuture;
 use tower::retry::{self, Retry};
-use tower::util::Sealed;
-use tower::{BlockOnExt, Service};
+use tower::util::{Sealed, Waiter};
 
 type Slice = Ready<Result<u64, Unfinished>>;
 
@@ -200,6 +200,7 @@ where
     requires { B.sound buffer }
 {
     let mut buffer = Sealed::new(buffer);
+    let mut waiter = Waiter::new(rt)?;
     let mut told = Vec::new(rt.alloc());
     for _ in 0..desk.lines.len() {
         let place = desk.take();
@@ -207,7 +208,7 @@ where
             break;
         };
         if let Some(job) = line {
-            let answer = buffer.block_on_call(rt, *job)?;
+            let answer = waiter.block_on_call(rt, &mut buffer, *job)?;
             told.push((place, answer_of(rt.alloc(), job.number, answer)?))?;
         }
         desk.tell(rt);

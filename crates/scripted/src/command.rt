@@ -24,6 +24,8 @@ pub enum Command<'a> {
 /// A change around a service.
 #[derive(Clone, Copy)]
 pub enum Turn<'a> {
+    /// From now on parts that are pending wake nobody, and it is noted if a poll that is pending wakes its task.
+    Quiet,
     At(u64),
     Clones(Side, u8),
     Answer(Side, usize, Result<u8, u8>),
@@ -97,6 +99,7 @@ pub(crate) fn command_of(text: &str) -> Option<Command<'_>> {
         "drop" => Some(drop_of(rest).unwrap_or(Command::Other(text))),
         "end" if rest.is_empty() => Some(Command::End),
         "count" => Some(Command::Count(rest)),
+        "quiet" if rest.is_empty() => Some(Command::Turn(Turn::Quiet)),
         "at" => Some(Command::Turn(Turn::At(rest.parse().ok()?))),
         "others" => Some(Command::Turn(change_of(Side::Others, rest)?)),
         "clones" | "answer" | "readiness" | "replies" => Some(Command::Turn(change_of(

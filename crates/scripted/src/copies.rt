@@ -55,10 +55,6 @@ impl<T: Clone + Drop> Party for Copies<T> {
         }
     }
 
-    fn may_repeat(&self, words: &str) -> bool {
-        matches!(command_of(words), Some(Command::Clone(_)))
-    }
-
     fn end(&mut self) {
         self.values.clear();
     }

@@ -6,6 +6,7 @@ use futures::task::{Poll, Solo};
 use std::alloc::{AllocError, Global};
 use std::fmt::{Debug, Display};
 use std::marker::Model;
+use tests_support::run::end;
 use tower_base::service::Flow;
 use tower_latch::held::{Fact, open};
 
@@ -64,7 +65,7 @@ where
     let mut flow = flowing.into_inner();
     let mut cx = solo.begin();
     let answer = flow.flow(&mut cx);
-    cx.cancel();
+    end(cx, &answer);
     match answer {
         Poll::Pending => {
             *left = Some(Flowing::new(flow));

@@ -76,10 +76,6 @@ where
         }
     }
 
-    fn may_repeat(&self, _words: &str) -> bool {
-        false
-    }
-
     fn end(&mut self) {
         self.future = None;
     }

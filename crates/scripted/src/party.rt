@@ -7,9 +7,6 @@ pub trait Party {
     /// Does what these words ask and tells its answer. There is none if they can't be read.
     fn act(&mut self, words: &str) -> Result<Option<String>, AllocError>;
 
-    /// Whether these words may be asked again after a refusal for want of memory, and then end as expected.
-    fn may_repeat(&self, words: &str) -> bool;
-
     /// Drops what is left.
     fn end(&mut self);
 }
@@ -21,10 +18,6 @@ pub struct Nobody;
 impl Party for Nobody {
     fn act(&mut self, _words: &str) -> Result<Option<String>, AllocError> {
         Ok(None)
-    }
-
-    fn may_repeat(&self, _words: &str) -> bool {
-        false
     }
 
     fn end(&mut self) {}

@@ -16,12 +16,11 @@ pub trait Services {
     fn play(&self, script: &Script<'_>, report: &mut Report<'_>) -> Result<(), AllocError>;
 }
 
-/// Plays all scripts of the text. If there are words, each script is played once for each place between two of its lines, with these words asked there.
+/// Plays all scripts of the text.
 pub fn play<R, W>(
     rt: &R,
     services: &W,
     text: &str,
-    between: Option<&str>,
     report: &mut Report<'_>,
 ) -> Result<(), AllocError>
 where
@@ -36,7 +35,7 @@ where
         number = number.saturating_add(1);
         let text = text.trim();
         if text.is_empty() {
-            play_all(alloc, &solo, services, steps.as_slice(), between, report)?;
+            play_one(alloc, &solo, services, steps.as_slice(), report)?;
             steps.clear();
             report.aside(text)?;
         } else if !text.starts_with('#') {
@@ -47,32 +46,7 @@ where
             steps.push(Step::comment(number, text))?;
         }
     }
-    play_all(alloc, &solo, services, steps.as_slice(), between, report)
-}
-
-// Plays the script as it is, or with the words at each place.
-fn play_all<W: Services>(
-    alloc: Global,
-    solo: &Solo,
-    services: &W,
-    steps: &[Step<'_>],
-    between: Option<&str>,
-    report: &mut Report<'_>,
-) -> Result<(), AllocError> {
-    let Some(words) = between else {
-        return play_one(alloc, solo, services, steps, report);
-    };
-    for place in 1..steps.len() {
-        let mut more = Vec::with_capacity(alloc, steps.len().saturating_add(1))?;
-        for (number, step) in steps.iter().enumerate() {
-            if number == place {
-                more.push(Step::new(step.number, words))?;
-            }
-            more.push(*step)?;
-        }
-        play_one(alloc, solo, services, more.as_slice(), report)?;
-    }
-    Ok(())
+    play_one(alloc, &solo, services, steps.as_slice(), report)
 }
 
 fn play_one<W: Services>(

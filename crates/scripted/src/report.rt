@@ -10,12 +10,8 @@ use tests_support::log::Log;
 pub enum Mode {
     /// It is compared with what is expected.
     Compare,
-    /// It is compared, but an answer may be a refusal for want of memory; a poll or a clone is then asked again.
-    Refused,
     /// It is written in place of what is expected.
     Write,
-    /// A line more is asked somewhere, so that nothing is compared but the last note of the end.
-    Between,
 }
 
 /// Compares lines with what came and reports where they differ, or writes them anew.
@@ -26,8 +22,6 @@ pub struct Report<'a> {
     mode: Mode,
     scripts: usize,
     wrong: usize,
-    refusals: usize,
-    is_loose: bool,
     last: String,
     text: String,
 }
@@ -41,8 +35,6 @@ impl<'a> Report<'a> {
             mode,
             scripts: 0,
             wrong: 0,
-            refusals: 0,
-            is_loose: false,
             last: String::new(alloc),
             text: String::new(alloc),
         }
@@ -51,13 +43,6 @@ impl<'a> Report<'a> {
     /// A script begins.
     pub(crate) fn begin(&mut self) {
         self.scripts = self.scripts.saturating_add(1);
-        self.is_loose = false;
-    }
-
-    // From now on answers alone are compared, since copies have other numbers.
-    fn refused(&mut self) {
-        self.refusals = self.refusals.saturating_add(1);
-        self.is_loose = true;
     }
 
     /// Takes what came of the line.
@@ -68,9 +53,6 @@ impl<'a> Report<'a> {
         answer: &str,
     ) -> Result<(), AllocError> {
         let noted = log.told(self.alloc)?;
-        if matches!(self.mode, Mode::Between) {
-            return self.ended(step, noted.as_str());
-        }
         let told = notes_of(self.alloc, noted.as_str())?;
         if !noted.is_empty() {
             self.last = noted;
@@ -86,29 +68,7 @@ impl<'a> Report<'a> {
         self.compared(step, answer, notes)
     }
 
-    // At the end the last note is the expected one.
-    fn ended(&mut self, step: &Step<'_>, noted: &str) -> Result<(), AllocError> {
-        if step.asked != "end" {
-            return Ok(());
-        }
-        let expected = step.notes.rsplit(';').next().unwrap_or("").trim();
-        let came = noted.trim_end_matches(';').rsplit(';').next().unwrap_or("");
-        if expected == came {
-            return Ok(());
-        }
-        self.refuse(step, "the last note is another")
-    }
-
     fn compared(&mut self, step: &Step<'_>, answer: &str, notes: &str) -> Result<(), AllocError> {
-        let may_refuse = matches!(self.mode, Mode::Refused);
-        if may_refuse && step.notes != notes && answer.contains("out of memory") {
-            // Refused as is expected, but elsewhere.
-            self.refused();
-        }
-        // What is counted are notes.
-        if self.is_loose && (step.answer == answer || step.asked.starts_with("count ")) {
-            return Ok(());
-        }
         if step.answer == answer && step.notes == notes {
             return Ok(());
         }
@@ -118,28 +78,6 @@ impl<'a> Report<'a> {
         written(&mut self.text, step, step.answer, step.notes)?;
         write!(self.text, "  came     ")?;
         written(&mut self.text, step, answer, notes)
-    }
-
-    /// Whether this answer is a refusal for want of memory that isn't expected. What was noted then isn't compared.
-    pub(crate) fn is_refusal(&mut self, step: &Step<'_>, answer: &str) -> bool {
-        let is_refusal = matches!(self.mode, Mode::Refused)
-            && step.answer != answer
-            && answer.contains("out of memory");
-        if is_refusal {
-            self.refused();
-        }
-        is_refusal
-    }
-
-    /// Takes what came of the line, which was asked again.
-    pub(crate) fn came_again(
-        &mut self,
-        log: &Log,
-        step: &Step<'_>,
-        answer: &str,
-    ) -> Result<(), AllocError> {
-        log.told(self.alloc)?;
-        self.compared(step, answer, step.notes)
     }
 
     /// How many of the notes of the last line that had some have this text.
@@ -172,11 +110,6 @@ impl<'a> Report<'a> {
     /// How many scripts there were.
     pub fn scripts(&self) -> usize {
         self.scripts
-    }
-
-    /// How many answers were refusals for want of memory that aren't expected.
-    pub fn refusals(&self) -> usize {
-        self.refusals
     }
 
     /// How many lines are wrong.

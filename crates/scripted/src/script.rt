@@ -13,6 +13,7 @@ use futures::task::Solo;
 use std::alloc::{AllocError, Global};
 use std::fmt::{Debug, Display};
 use tests_support::clock::Hand;
+use tests_support::run::is_woken;
 use tests_support::script::Script as Plan;
 use tests_support::service::{Place, Scripted};
 use tests_support::story::Stage;
@@ -134,9 +135,6 @@ impl<'a> Script<'a> {
 
     /// The script is over with its first line, whose answer this is.
     pub fn over(&self, report: &mut Report<'_>, answer: &str) -> Result<(), AllocError> {
-        if report.is_refusal(&self.first, answer) {
-            return Ok(());
-        }
         report.came(self.stage.log, &self.first, answer)?;
         for step in self.rest {
             match self.asked(report, step)? {
@@ -242,16 +240,7 @@ impl<'a> Script<'a> {
                 report.unread(step)?;
                 continue;
             };
-            if !report.is_refusal(step, answer.as_str()) {
-                report.came(self.stage.log, step, answer.as_str())?;
-                continue;
-            }
-            let answer = match command {
-                Command::Clone(handle) => handles.copy(always, handle)?,
-                Command::Poll(handle) => handles.poll(self.solo, always, handle)?,
-                _ => return Ok(()),
-            };
-            report.came_again(self.stage.log, step, answer.as_str())?;
+            self.came(report, step, answer.as_str())?;
         }
         Ok(())
     }
@@ -323,15 +312,7 @@ impl<'a> Script<'a> {
                 report.unread(step)?;
                 continue;
             };
-            if !report.is_refusal(step, answer.as_str()) {
-                report.came(self.stage.log, step, answer.as_str())?;
-                continue;
-            }
-            let answer = match command {
-                Command::Poll(handle) => handles.poll(self.solo, false, handle)?,
-                _ => return Ok(()),
-            };
-            report.came_again(self.stage.log, step, answer.as_str())?;
+            self.came(report, step, answer.as_str())?;
         }
         Ok(())
     }
@@ -360,17 +341,7 @@ impl<'a> Script<'a> {
                 report.unread(step)?;
                 continue;
             };
-            if !report.is_refusal(step, answer.as_str()) {
-                report.came(self.stage.log, step, answer.as_str())?;
-                continue;
-            }
-            if !party.may_repeat(step.asked) {
-                return Ok(());
-            }
-            match party.act(step.asked)? {
-                Some(answer) => report.came_again(self.stage.log, step, answer.as_str())?,
-                None => report.unread(step)?,
-            }
+            self.came(report, step, answer.as_str())?;
         }
         Ok(())
     }
@@ -412,6 +383,20 @@ impl<'a> Script<'a> {
             report.unread(step)?;
         }
         Ok(command)
+    }
+
+    // Takes what came of the line. If the log is quiet, it notes where a poll was pending and its task was woken.
+    fn came(
+        &self,
+        report: &mut Report<'_>,
+        step: &Step<'_>,
+        answer: &str,
+    ) -> Result<(), AllocError> {
+        let log = self.stage.log;
+        if answer == "pending" && log.is_quiet() && is_woken(self.solo) {
+            log.note("woken");
+        }
+        report.came(log, step, answer)
     }
 
     // Makes the change and tells what came of it, if its words can be read.

@@ -45,6 +45,7 @@ fn plan_of<'s, 'a>(stage: &'s Stage<'a>, side: Side) -> &'s Script<'a> {
 /// Makes the change.
 pub(crate) fn turn(alloc: Global, stage: &Stage<'_>, turn: Turn<'_>) -> Result<Turned, AllocError> {
     match turn {
+        Turn::Quiet => stage.log.hush(),
         Turn::At(moment) => stage.moment.set(moment),
         Turn::Clones(side, clones) => plan_of(stage, side).clones(clones),
         Turn::Answer(side, call, answer) => {

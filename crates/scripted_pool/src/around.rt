@@ -22,10 +22,6 @@ impl<'a> Party for Around<'a> {
         Ok(None)
     }
 
-    fn may_repeat(&self, _words: &str) -> bool {
-        false
-    }
-
     fn end(&mut self) {}
 }
 

@@ -1,19 +1,19 @@
 //! `buffer PLACES`, and `buffer_round_a_limit PLACES PERMITS`: round a limit of so many permits. Each step at the mail is noted.
 ghost use Rattle.std.specs.Prelude.{◌≡◌, ◌<◌};
 
-use crate::mail::{Mail, Named, Probe};
+use crate::mail::{Counts, Mail, Named, Probe};
 use crate::parcel::{Opens, Parcels};
-use crate::worker::{Counts, Working};
+use crate::worker::Working;
 use scripted::report::Report;
 use scripted::script::{Requests, Script};
 use std::alloc::AllocError;
 use std::fmt::{Debug, Display};
 use std::sync::Wait;
 use tower_base::service::{Service, Steps};
+use tower_buffer::buffer::{Buffer, Error, MailCore, Worker};
 use tower_latch::held::Pollable;
 use tower_latch::{Guarded, Latch};
 use tower_limit::limit::ConcurrencyLimit;
-use tower_pool::buffer::{Buffer, Error, MailCore, Worker};
 
 pub fn play<R: Wait + Copy>(
     rt: R,
@@ -89,7 +89,7 @@ where
     let core: MailCore<Q, Pollable<S::Future>, E> = MailCore::new(script.alloc(), places);
     let guarded = Guarded::new(rt, script.alloc(), core)?;
     let probe: Probe<Q, Pollable<S::Future>, E, _> = Probe::new(guarded.share()?);
-    let latch = Named::new(script.stage().log, &counts.shares, guarded);
+    let latch = Named::new(script.stage().log, counts, guarded);
     over_latch(script, report, counts, requests, service, latch, probe)
 }
 

@@ -7,12 +7,13 @@ ghost use Rattle.std.specs.Prelude.{◌≡◌};
 ghost use Rattle.tower_pool.specs.ReadyCache.{Sound};
 
 use crate::fleet::{Fleet, letter_of};
-use futures::task::{Context, Poll};
+use futures::task::{Context, Poll, Solo};
 use scripted::party::Party;
 use scripted::report::{Report, error_text};
 use scripted::script::Script;
 use std::alloc::{AllocError, Global};
 use std::fmt::{Debug, Display};
+use tests_support::run::end;
 use tests_support::service::Scripted;
 use tower::ready_cache::ReadyCache;
 use tower::ready_cache::error::Failed;
@@ -24,7 +25,6 @@ type Cache<'a> = ReadyCache<u8, Scripted<'a>, u8>;
 #[derive(Clone, Copy)]
 enum Act {
     Push(u8, char, u16),
-    Poll,
     Check(u8),
     CheckIndex(usize),
     CallIndex(usize, u8),
@@ -53,7 +53,6 @@ fn pushed(text: &str) -> Option<Act> {
 fn act_of(text: &str) -> Option<Act> {
     let (name, rest) = text.split_once(' ').unwrap_or((text, ""));
     match name {
-        "poll" if rest.is_empty() => Some(Act::Poll),
         "look" if rest.is_empty() => Some(Act::Look),
         "push" => pushed(rest),
         "check" => Some(Act::Check(rest.parse().ok()?)),
@@ -132,7 +131,7 @@ fn find_index<S: Service<u8>>(
 // A poll of the pending ones.
 fn poll<S: Service<u8>>(
     alloc: Global,
-    cx: &mut Context<'_>,
+    solo: &Solo,
     cache: &mut ReadyCache<u8, S, u8>,
 ) -> Result<String, AllocError>
 where
@@ -140,7 +139,10 @@ where
     requires { Sound S.sound cache.old.lists }
     ensures { Sound S.sound cache.new.lists }
 {
-    match cache.poll_pending(cx) {
+    let mut cx = solo.begin();
+    let answer = cache.poll_pending(&mut cx);
+    end(cx, &answer);
+    match answer {
         Poll::Ready(Ok(())) => "ready".to_string(alloc),
         Poll::Ready(Err(error)) => error_text(alloc, &error),
         Poll::Pending => "pending".to_string(alloc),
@@ -275,7 +277,6 @@ fn answer<'a>(
         Act::Push(key, letter, count) => push_all(fleet, cache, key, letter, count).to_string(
             alloc,
         ),
-        Act::Poll => poll(alloc, cx, cache),
         Act::Check(key) => told(alloc, cache.check_ready(cx, &key)),
         Act::CheckIndex(index) => told(alloc, cache.check_ready_index(cx, index)),
         Act::CallIndex(index, request) => call(alloc, cx, cache, index, request),
@@ -317,17 +318,19 @@ impl<'s, 'p, 'a> Party for Cached<'s, 'p, 'a> {
         if self.fleet.change(alloc, words)? {
             return Ok(Some(String::new(alloc)));
         }
-        let (Some(act), Some(cache)) = (act_of(words), &mut self.cache) else {
+        let Some(cache) = &mut self.cache else {
+            return Ok(None);
+        };
+        if words == "poll" {
+            return Ok(Some(poll(alloc, self.script.solo(), cache)?));
+        }
+        let Some(act) = act_of(words) else {
             return Ok(None);
         };
         let mut cx = self.script.solo().begin();
         let answer = answer(alloc, &mut cx, self.fleet, cache, act);
-        cx.cancel();
+        end(cx, &Poll::Ready(()));
         Ok(Some(answer?))
-    }
-
-    fn may_repeat(&self, words: &str) -> bool {
-        words == "poll" || words.starts_with("push")
     }
 
     fn end(&mut self) {

@@ -176,7 +176,7 @@ impl<'a, M: Weight> Discover for Changes<'a, M> {
                 return Poll::Ready(None);
             }
             log.note("discovery pending");
-            return cx.yield_now();
+            return log.pending(cx);
         };
         tell(log, find);
         match find {

@@ -86,10 +86,6 @@ impl<'s> Party for Shares<'s> {
         Ok(Some(String::new(self.alloc)))
     }
 
-    fn may_repeat(&self, _words: &str) -> bool {
-        false
-    }
-
     fn end(&mut self) {}
 }
 

@@ -6,23 +6,41 @@ use std::alloc::AllocError;
 use std::cell::Cell;
 use std::marker::PhantomData;
 use tests_support::log::Log;
+use tower_buffer::buffer::{MailCore, MailReply, MailStep};
 use tower_latch::{Latch, Token};
-use tower_pool::buffer::{MailCore, MailReply, MailStep};
+
+/// How many shares of the latch there are, 255 for always, how many requests are left, and whether the next message that is answered is
+/// forgotten just before, as if its response were dropped in the call.
+#[derive(Drop)]
+pub struct Counts {
+    pub shares: Cell<u8>,
+    pub left: Cell<u8>,
+    pub forgets: Cell<bool>,
+}
+
+impl Counts {
+    pub fn new() -> Counts {
+        Counts {
+            shares: Cell::new(u8::MAX),
+            left: Cell::new(0),
+            forgets: Cell::new(false),
+        }
+    }
+}
 
 /// A latch over another. Its shares may be refused.
 #[derive(Drop)]
 pub struct Named<'a, L> {
     log: &'a Log,
-    shares: &'a Cell<u8>,
+    counts: &'a Counts,
     inner: L,
 }
 
 impl<'a, L> Named<'a, L> {
-    /// The cell has how many shares there are before they are refused for want of memory; 255 is always.
-    pub fn new(log: &'a Log, shares: &'a Cell<u8>, inner: L) -> Named<'a, L>
+    pub fn new(log: &'a Log, counts: &'a Counts, inner: L) -> Named<'a, L>
         ensures { result.inner ≡ inner }
     {
-        Named { log, shares, inner }
+        Named { log, counts, inner }
     }
 
     fn note<Q, F, E>(&self, step: &MailStep<Q, F, E>) {
@@ -56,13 +74,20 @@ where
 {
     ghost gave = { λ latch step reply. L.gave latch.inner step reply };
 
-    ghost size = { λ latch. L.size latch.inner };
+    ghost terms = { λ latch. L.terms latch.inner };
 
     ghost its = { λ latch token. L.its latch.inner token };
 
     ghost honest = { λ latch step reply given. L.honest latch.inner step reply given };
 
     fn step(&self, step: MailStep<Q, F, E>) -> MailReply<Q, F, E> {
+        if let MailStep::Answer(id, _) = &step
+            && self.counts.forgets.replace(false)
+        {
+            let forget = MailStep::Forget(*id);
+            self.note(&forget);
+            self.inner.step(forget);
+        }
         self.note(&step);
         self.inner.step(step)
     }
@@ -86,15 +111,15 @@ where
     }
 
     fn share(&self) -> Result<Named<'a, L>, AllocError> {
-        let shares = self.shares.get();
+        let shares = self.counts.shares.get();
         if shares == 0 {
             self.log.note("no share");
             return Err(AllocError);
         }
         if shares < u8::MAX {
-            self.shares.set(shares - 1);
+            self.counts.shares.set(shares - 1);
         }
-        Ok(Named::new(self.log, self.shares, self.inner.share()?))
+        Ok(Named::new(self.log, self.counts, self.inner.share()?))
     }
 }
 

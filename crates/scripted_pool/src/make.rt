@@ -3,7 +3,7 @@
 ghost use Rattle.std.specs.Prelude.{◌≡◌, Ok, true, refl, IsSome};
 ghost use Rattle.futures.specs.declared.task.Poll.TheVariants.{Ready};
 ghost use Rattle.tower_base.specs.AnswersLemmas.{answered_ok};
-ghost use Rattle.tower.specs.declared.balance.error.MakeError.TheVariants.{Inner};
+ghost use Rattle.tower_pool.specs.declared.balance.error.MakeError.TheVariants.{Inner};
 
 use crate::around::{Around, words_of};
 use crate::findings::{Changes, Findings};

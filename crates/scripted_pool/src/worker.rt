@@ -1,33 +1,16 @@
 //! The worker of a buffer, beside its handles.
 
-use crate::mail::Mail;
+use crate::mail::{Counts, Mail};
 use futures::task::Poll;
 use scripted::party::Party;
 use scripted::script::Script;
 use std::alloc::AllocError;
-use std::cell::Cell;
 use tests_support::run::stepped;
 use tower_base::service::Steps;
 use tower_latch::held::Pollable;
 
-/// How many shares of the latch there are, 255 for always, and how many requests are left.
-#[derive(Drop)]
-pub struct Counts {
-    pub shares: Cell<u8>,
-    pub left: Cell<u8>,
-}
-
-impl Counts {
-    pub fn new() -> Counts {
-        Counts {
-            shares: Cell::new(u8::MAX),
-            left: Cell::new(0),
-        }
-    }
-}
-
-/// `work` polls the worker, which is dropped once it ends, `drop worker` drops it, and `shares N` says how many shares of the latch there
-/// are yet. The last note of an end is what is left then.
+/// `work` polls the worker, which is dropped once it ends, `drop worker` drops it, `shares N` says how many shares of the latch there
+/// are yet, and `forgets` that the next message to be answered is forgotten just before. The last note of an end is what is left then.
 #[derive(Drop)]
 pub struct Working<'s, 'a, W: Steps, M> {
     script: &'s Script<'a>,
@@ -74,6 +57,10 @@ impl<'s, 'a, W: Steps<Output = ()>, M: Mail> Party for Working<'s, 'a, W, M> {
     fn act(&mut self, words: &str) -> Result<Option<String>, AllocError> {
         let answer = match words {
             "work" => self.work(),
+            "forgets" => {
+                self.counts.forgets.set(true);
+                ""
+            }
             "drop worker" => {
                 let is_there = self.worker.is_some();
                 self.worker = None;
@@ -91,10 +78,6 @@ impl<'s, 'a, W: Steps<Output = ()>, M: Mail> Party for Working<'s, 'a, W, M> {
             }
         };
         Ok(Some(answer.to_string(self.script.alloc())?))
-    }
-
-    fn may_repeat(&self, _words: &str) -> bool {
-        false
     }
 
     fn end(&mut self) {

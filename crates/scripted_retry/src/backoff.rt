@@ -137,10 +137,6 @@ impl<'s, G: Rng + Clone, C: Clock> Party for Waits<'s, G, C> {
         }
     }
 
-    fn may_repeat(&self, words: &str) -> bool {
-        words.starts_with("make") || words == "clone"
-    }
-
     fn end(&mut self) {
         self.waits.clear();
         self.backoff = None;

@@ -1,13 +1,16 @@
-//! `budget TTL MIN NUMERATOR DIVISOR`, in nanoseconds and retries a second, and `usual_budget`: over a lock. `deposit` and `withdraw` are asked
-//! of it; `spend` withdraws until that is refused, and tells how often it was allowed, 1400 at most.
+//! `budget TTL MIN NUMERATOR DIVISOR`, in nanoseconds and retries a second: over a latch whose steps are noted. `usual_budget`: over a lock.
+//! `deposit` and `withdraw` are asked of it; `spend` withdraws until that is refused, and tells how often it was allowed, 1400 at most.
 
 use scripted::party::Party;
 use scripted::report::Report;
 use scripted::script::Script;
 use std::alloc::{AllocError, Global};
+use std::cell::Cell;
 use std::sync::Wait;
+use tests_support::clock::Hand;
+use tests_support::latch::Noting;
 use tower_base::service::{Clock, Fraction};
-use tower_latch::Latch;
+use tower_latch::{Guarded, Latch};
 use tower_retry::retry::budget::{Budget, BudgetCore, TpsBudget};
 
 // A budget until the end of its script.
@@ -50,10 +53,6 @@ impl<B: Budget> Party for Asked<B> {
         }
     }
 
-    fn may_repeat(&self, _words: &str) -> bool {
-        false
-    }
-
     fn end(&mut self) {
         self.budget = None;
     }
@@ -62,11 +61,8 @@ impl<B: Budget> Party for Asked<B> {
 fn played<L: Latch<BudgetCore>, C: Clock>(
     script: &Script<'_>,
     report: &mut Report<'_>,
-    made: Result<TpsBudget<L, C>, AllocError>,
+    budget: TpsBudget<L, C>,
 ) -> Result<(), AllocError> {
-    let Ok(budget) = made else {
-        return script.over(report, "out of memory");
-    };
     let mut asked = Asked {
         alloc: script.alloc(),
         budget: Some(budget),
@@ -92,12 +88,29 @@ pub fn play<R: Wait + Copy>(
     match (script.number(0), script.number(1), fraction_at(script, 2)) {
         (Some(ttl), Some(least), Some(retries))
             if least < 4294967296 && BudgetCore::fits(ttl, least as u32, retries) => {
-            let clock = script.clock();
-            let made = TpsBudget::new(rt, script.alloc(), ttl, least as u32, retries, clock);
-            played(script, report, made)
+            let mut clock = script.clock();
+            let moment = clock.now();
+            let core = BudgetCore::new(script.alloc(), ttl, least as u32, retries, moment)?;
+            over_latch(
+                script,
+                report,
+                Guarded::new(rt, script.alloc(), core)?,
+                clock,
+            )
         }
         _ => script.unread(report),
     }
+}
+
+fn over_latch<L: Latch<BudgetCore>>(
+    script: &Script<'_>,
+    report: &mut Report<'_>,
+    latch: L,
+    clock: Hand<'_>,
+) -> Result<(), AllocError> {
+    let shares = Cell::new(u8::MAX);
+    let latch = Noting::new(script.stage().log, &shares, latch);
+    played(script, report, TpsBudget::with_latch(latch, clock))
 }
 
 pub fn play_usual<R: Wait + Copy>(
@@ -105,6 +118,8 @@ pub fn play_usual<R: Wait + Copy>(
     script: &Script<'_>,
     report: &mut Report<'_>,
 ) -> Result<(), AllocError> {
-    let made = TpsBudget::with_clock(rt, script.alloc(), script.clock());
-    played(script, report, made)
+    match TpsBudget::with_clock(rt, script.alloc(), script.clock()) {
+        Ok(budget) => played(script, report, budget),
+        Err(AllocError) => script.over(report, "out of memory"),
+    }
 }

@@ -42,17 +42,24 @@ impl<R: Wait + RandomSource + AllocGlobal + Copy> Services for Retries<R> {
             "retry_limited" if script.knows(&[]) => retry::play_limited(self.rt, script, report),
             "retry_budget" if script.knows(&[]) => paid::play_budget(self.rt, script, report),
             "retry_backoff" if script.knows(&[]) => paid::play_backoff(script, report),
-            "budget" if script.knows(&[]) => budget::play(self.rt, script, report),
-            "usual_budget" if script.knows(&[]) => budget::play_usual(self.rt, script, report),
-            "backoff" if script.knows(&["refused"]) => backoff::play(script, report),
-            "spawn_ready" if script.knows(&["at_once", "by_turns"]) => spawn::play(
-                self.rt, script, report,
-            ),
-            "spawn_ready_layer" if script.knows(&["cloned"]) => spawn::play_layer(
-                self.rt, script, report,
-            ),
-            _ => play_hedge(self.rt, script, report),
+            _ => play_cores(self.rt, script, report),
         }
+    }
+}
+
+// Budgets and backoffs alone, and the services of `tower::spawn_ready`.
+fn play_cores<R: Wait + RandomSource + AllocGlobal + Copy>(
+    rt: R,
+    script: &Script<'_>,
+    report: &mut Report<'_>,
+) -> Result<(), AllocError> {
+    match script.name() {
+        "budget" if script.knows(&[]) => budget::play(rt, script, report),
+        "usual_budget" if script.knows(&[]) => budget::play_usual(rt, script, report),
+        "backoff" if script.knows(&["refused"]) => backoff::play(script, report),
+        "spawn_ready" if script.knows(&["at_once", "by_turns"]) => spawn::play(rt, script, report),
+        "spawn_ready_layer" if script.knows(&["cloned"]) => spawn::play_layer(rt, script, report),
+        _ => play_hedge(rt, script, report),
     }
 }
 

@@ -103,10 +103,6 @@ impl<'s> Party for Speaker<'s> {
         Ok(Some(String::new(self.words.alloc)))
     }
 
-    fn may_repeat(&self, _words: &str) -> bool {
-        false
-    }
-
     fn end(&mut self) {}
 }
 

@@ -8,17 +8,37 @@ use tests_support::log::Log;
 use tower::spawn_ready::{SlotCore, SlotReply, SlotStep};
 use tower_latch::{Latch, Token};
 
+/// How many shares of a latch there are before they are refused for want of memory, 255 for always, and whether the slot is aborted just before
+/// a service is put there, as if its handle were dropped meanwhile.
+#[derive(Drop)]
+pub struct Hitches {
+    pub shares: Cell<u8>,
+    pub aborts: Cell<bool>,
+}
+
+impl Hitches {
+    pub fn new() -> Hitches {
+        Hitches {
+            shares: Cell::new(u8::MAX),
+            aborts: Cell::new(false),
+        }
+    }
+}
+
 /// A latch over another. It notes its steps, shares and drop, and its shares may be refused.
 pub struct Told<'a, L: Drop> {
     log: &'a Log,
-    shares: &'a Cell<u8>,
+    hitches: &'a Hitches,
     inner: L,
 }
 
 impl<'a, L: Drop> Told<'a, L> {
-    /// The cell has how many shares there are before they are refused for want of memory; 255 is always.
-    pub fn new(log: &'a Log, shares: &'a Cell<u8>, inner: L) -> Told<'a, L> {
-        Told { log, shares, inner }
+    pub fn new(log: &'a Log, hitches: &'a Hitches, inner: L) -> Told<'a, L> {
+        Told {
+            log,
+            hitches,
+            inner,
+        }
     }
 }
 
@@ -37,13 +57,17 @@ fn word<S, E>(step: &SlotStep<S, E>) -> &'static str {
 impl<'a, S: Drop, E: Drop, L: Latch<SlotCore<S, E>>> Latch<SlotCore<S, E>> for Told<'a, L> {
     ghost gave = { λ latch step reply. L.gave latch.inner step reply };
 
-    ghost size = { λ latch. L.size latch.inner };
+    ghost terms = { λ latch. L.terms latch.inner };
 
     ghost its = { λ latch token. L.its latch.inner token };
 
     ghost honest = { λ latch step reply given. L.honest latch.inner step reply given };
 
     fn step(&self, step: SlotStep<S, E>) -> SlotReply<S, E> {
+        if matches!(step, SlotStep::Put(_)) && self.hitches.aborts.replace(false) {
+            self.log.note("Abort");
+            self.inner.step(SlotStep::Abort);
+        }
         self.log.note(word(&step));
         self.inner.step(step)
     }
@@ -67,19 +91,19 @@ impl<'a, S: Drop, E: Drop, L: Latch<SlotCore<S, E>>> Latch<SlotCore<S, E>> for T
     }
 
     fn share(&self) -> Result<Told<'a, L>, AllocError> {
-        let shares = self.shares.get();
+        let shares = self.hitches.shares.get();
         if shares == 0 {
             self.log.note("share refused");
             return Err(AllocError);
         }
         if shares < u8::MAX {
-            self.shares.set(shares - 1);
+            self.hitches.shares.set(shares - 1);
         }
         let inner = self.inner.share()?;
         self.log.note("latch shared");
         Ok(Told {
             log: self.log,
-            shares: self.shares,
+            hitches: self.hitches,
             inner,
         })
     }
@@ -90,7 +114,7 @@ impl<'a, L: Drop> Drop for Told<'a, L> {
         self.log.note("latch dropped");
         let Told {
             log: _,
-            shares: _,
+            hitches: _,
             inner,
         } = self;
         drop(inner);

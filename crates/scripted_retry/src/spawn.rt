@@ -2,23 +2,22 @@
 //! pending by turns. `spawn_ready_layer [cloned]`: what the layer, or its clone, makes.
 //! (Types with a lifetime are let into generic functions one after another: a bound at such a type isn't covered by the check.)
 ghost use Rattle.std.specs.Prelude.{IfOk};
-ghost use Rattle.tower.specs.SpawnReady.{New, view_of};
+ghost use Rattle.tower_pool.specs.SpawnReady.{New, Sound, view_of};
 
-use crate::slot::Told;
+use crate::slot::{Hitches, Told};
 use crate::tasks::{Spawner, Tasks, Working};
 use crate::turns::Turns;
 use futures::task::Solo;
 use scripted::report::Report;
 use scripted::script::{Numbers, Script};
 use std::alloc::{AllocError, AllocGlobal};
-use std::cell::Cell;
 use std::fmt::{Debug, Display};
 use std::random::RandomSource;
 use std::sync::Wait;
 use tests_support::run::task;
-use tower::spawn_ready::{SlotCore, SpawnReady};
+use tower::spawn_ready::{ReadyTask, SlotCore, SpawnReady};
 use tower_base::layer::Layer;
-use tower_base::service::{Service, Steps};
+use tower_base::service::{Executor, Service, Steps};
 use tower_latch::held::Viewed;
 use tower_latch::{Guarded, Latch};
 
@@ -54,10 +53,10 @@ where
     R: Wait + Copy,
     requires { S.sound service }
 {
-    let shares = Cell::new(u8::MAX);
+    let hitches = Hitches::new();
     let guarded = Guarded::new(rt, script.alloc(), SlotCore::new())?;
-    let latch = Told::new(script.stage().log, &shares, guarded);
-    over_latch(script, report, service, latch, &shares, at_once)
+    let latch = Told::new(script.stage().log, &hitches, guarded);
+    over_latch(script, report, service, latch, &hitches, at_once)
 }
 
 fn over_latch<S, L>(
@@ -65,7 +64,7 @@ fn over_latch<S, L>(
     report: &mut Report<'_>,
     service: S,
     latch: L,
-    shares: &Cell<u8>,
+    hitches: &Hitches,
     at_once: Option<&Solo>,
 ) -> Result<(), AllocError>
 where
@@ -80,7 +79,7 @@ where
         at_once,
     };
     let handle = SpawnReady::with_latch(service, spawner, latch);
-    played(script, report, handle, &tasks, shares)
+    played(script, report, handle, &tasks, hitches)
 }
 
 pub fn play_layer<R: Wait + Copy>(
@@ -104,14 +103,14 @@ where
     requires { S.sound service }
 {
     let tasks = Tasks::new(script.alloc());
-    let shares = Cell::new(u8::MAX);
+    let hitches = Hitches::new();
     let spawner = Spawner {
         log: script.stage().log,
         tasks: &tasks,
         at_once,
     };
     let handle = made(rt, script, service, spawner)?;
-    played(script, report, handle, &tasks, &shares)
+    worked(script, report, handle, &tasks, &hitches)
 }
 
 // What the layer, or its clone, makes.
@@ -135,12 +134,30 @@ where
     layer.layer(service)
 }
 
+// What a handle over any latch gives. (Over a lock that is named the check takes more steps than it has.)
+fn worked<S, X, L, T>(
+    script: &Script<'_>,
+    report: &mut Report<'_>,
+    handle: SpawnReady<S, u8, u8, X, L>,
+    tasks: &Tasks<T>,
+    hitches: &Hitches,
+) -> Result<(), AllocError>
+where
+    S: Service<u8, Response = u8, Error = u8>,
+    X: Executor<ReadyTask<S, u8, u8, L>> + Drop,
+    L: Latch<SlotCore<Viewed<S, u8>, u8>>,
+    T: Steps<Output = ()> + Drop,
+    requires { Sound S.sound X.Executor (view_of handle) }
+{
+    played(script, report, handle, tasks, hitches)
+}
+
 fn played<H, T>(
     script: &Script<'_>,
     report: &mut Report<'_>,
     handle: H,
     tasks: &Tasks<T>,
-    shares: &Cell<u8>,
+    hitches: &Hitches,
 ) -> Result<(), AllocError>
 where
     H: Service<u8, Response = u8>,
@@ -148,6 +165,6 @@ where
     T: Steps<Output = ()> + Drop,
     requires { H.sound handle }
 {
-    let mut working = Working::new(script, tasks, shares);
+    let mut working = Working::new(script, tasks, hitches);
     script.play_alone_with(report, handle, &Numbers, &mut working)
 }

@@ -1,5 +1,6 @@
 //! The tasks of a service, beside its handle.
 
+use crate::slot::Hitches;
 use futures::task::{Poll, Solo};
 use scripted::party::Party;
 use scripted::script::Script;
@@ -98,12 +99,13 @@ impl<'t, T: Steps<Output = ()> + Drop> Executor<T> for Spawner<'t, T> {
 }
 
 /// `task` polls the newest task, which is kept aside once it ended, `drop task` drops the newest one that didn't, `drop ended` those that
-/// did; `room N` says how many tasks are taken before others are given back, and `shares N` how many shares of the latch there are.
+/// did; `room N` says how many tasks are taken before others are given back, `shares N` how many shares of the latch there are, and `aborts` that
+/// the slot is aborted just before the next service is put there.
 #[derive(Drop)]
 pub struct Working<'s, 'a, T: Steps> {
     script: &'s Script<'a>,
     tasks: &'s Tasks<T>,
-    shares: &'s Cell<u8>,
+    hitches: &'s Hitches,
     ended: Vec<T>,
 }
 
@@ -111,12 +113,12 @@ impl<'s, 'a, T: Steps> Working<'s, 'a, T> {
     pub fn new(
         script: &'s Script<'a>,
         tasks: &'s Tasks<T>,
-        shares: &'s Cell<u8>,
+        hitches: &'s Hitches,
     ) -> Working<'s, 'a, T> {
         Working {
             script,
             tasks,
-            shares,
+            hitches,
             ended: Vec::new(script.alloc()),
         }
     }
@@ -153,21 +155,18 @@ impl<'s, 'a, T: Steps<Output = ()> + Drop> Party for Working<'s, 'a, T> {
             "task" => answer = self.poll()?,
             "drop task" => drop(self.tasks.take()),
             "drop ended" => self.ended.clear(),
+            "aborts" => self.hitches.aborts.set(true),
             _ => {
                 if let Some(room) = number_of(words, "room ") {
                     self.tasks.room.set(room);
                 } else if let Some(shares) = number_of(words, "shares ") {
-                    self.shares.set(shares);
+                    self.hitches.shares.set(shares);
                 } else {
                     return Ok(None);
                 }
             }
         }
         Ok(Some(answer.to_string(self.script.alloc())?))
-    }
-
-    fn may_repeat(&self, _words: &str) -> bool {
-        false
     }
 
     fn end(&mut self) {

@@ -45,7 +45,7 @@ impl<'a> Service<u8> for Turns<'a> {
         self.is_asked = !self.is_asked;
         if self.by_turns && !self.is_asked {
             self.log.note("s pending");
-            return cx.yield_now();
+            return self.log.pending(cx);
         }
         self.inner.poll_ready(cx)
     }

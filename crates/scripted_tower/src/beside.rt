@@ -43,10 +43,6 @@ impl<'s, 'a, W: Steps<Output = ()>> Party for Working<'s, 'a, W> {
         Ok(Some(answer.to_string(self.script.alloc())?))
     }
 
-    fn may_repeat(&self, _words: &str) -> bool {
-        false
-    }
-
     fn end(&mut self) {
         self.worker = None;
     }
@@ -83,10 +79,6 @@ where
             }
         }
         Ok(Some(String::new(alloc)))
-    }
-
-    fn may_repeat(&self, words: &str) -> bool {
-        words == "next"
     }
 
     fn end(&mut self) {

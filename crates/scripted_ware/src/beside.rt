@@ -27,10 +27,6 @@ impl<'a, L: Latch<LineCore>> Party for Permits<'a, L> {
         }
     }
 
-    fn may_repeat(&self, _words: &str) -> bool {
-        false
-    }
-
     fn end(&mut self) {
         let Some(share) = &self.share else {
             return;
@@ -69,10 +65,6 @@ where
             Poll::Ready(Err(error)) => Ok(Some(format!(in self.alloc; "error {error}")?)),
             Poll::Pending => Ok(Some("pending".to_string(self.alloc)?)),
         }
-    }
-
-    fn may_repeat(&self, words: &str) -> bool {
-        words == "other poll"
     }
 
     fn end(&mut self) {

@@ -38,10 +38,6 @@ impl<'s, 'a, F: Flow<Item = Result<u8, Error<u8>>>> Party for Calls<'s, 'a, F> {
         Ok(Some(String::new(alloc)))
     }
 
-    fn may_repeat(&self, words: &str) -> bool {
-        words == "next"
-    }
-
     fn end(&mut self) {
         self.left = None;
     }

@@ -99,6 +99,7 @@ fn lent<'a, L: Latch<LineCore>>(
     }
     if script.has("into_inner") {
         if let Poll::Ready(Err(_)) = polled::<u8, _>(script.solo(), &mut service) {
+            drop(service);
             return script.over(report, "out of memory");
         }
         drop(service.into_inner());
@@ -255,10 +256,6 @@ impl<'s, 'a, L: Latch<LineCore>> Party for Layers<'s, 'a, L> {
         };
         let answer = if is_made { "dropped" } else { "out of memory" };
         Ok(Some(answer.to_string(self.script.alloc())?))
-    }
-
-    fn may_repeat(&self, _words: &str) -> bool {
-        true
     }
 
     fn end(&mut self) {

@@ -12,6 +12,7 @@ use scripted::script::Script;
 use std::alloc::{AllocError, Global};
 use std::cell::Cell;
 use std::sync::Wait;
+use tests_support::run::end;
 use tests_support::slots::{put, take};
 use tower_latch::{Guarded, Latch};
 use tower_limit::limit::concurrency::{
@@ -73,7 +74,7 @@ impl<'s, L: Latch<LineCore>, B: Latch<LineCore>> Asked<'s, L, B> {
         };
         let mut cx = self.solo.begin();
         let answer = asker.poll_acquire(&mut cx);
-        cx.end(&answer);
+        end(cx, &answer);
         put(&mut self.askers, place, asker);
         match answer {
             Poll::Ready(Ok(permit)) => {
@@ -174,10 +175,6 @@ impl<'s, L: Latch<LineCore>, B: Latch<LineCore>> Party for Asked<'s, L, B> {
             },
             _ => Ok(None),
         }
-    }
-
-    fn may_repeat(&self, words: &str) -> bool {
-        words.starts_with("poll")
     }
 
     fn end(&mut self) {

@@ -4,8 +4,8 @@ use futures::task::Context;
 use std::alloc::{AllocError, Global};
 use std::sync::Arc;
 use std::sync::atomic::{AtomicU64, Ordering};
+use tower_buffer::buffer::{MailCore, MailReply, MailStep};
 use tower_latch::{Latch, Token};
-use tower_pool::buffer::{MailCore, MailReply, MailStep};
 
 /// How many places were given, and how many of them were sent into or given back.
 #[derive(Drop)]
@@ -69,7 +69,7 @@ impl<Q: Drop, F: Drop, E: Clone, L: Latch<MailCore<Q, F, E>>> Latch<MailCore<Q, 
     for Counted<L> {
     ghost gave = { λ latch step reply. L.gave latch.inner step reply };
 
-    ghost size = { λ latch. L.size latch.inner };
+    ghost terms = { λ latch. L.terms latch.inner };
 
     ghost its = { λ latch token. L.its latch.inner token };
 

@@ -12,10 +12,10 @@ use std::test::Fail;
 use tests_support::run::{called, polled, stepped, task};
 use tower_base::layer::Layer;
 use tower_base::service::{Executor, Service, Steps};
+use tower_buffer::buffer::error::{Closed, ServiceError};
+use tower_buffer::buffer::{Buffer, BufferLayer, Error, MailCore, Worker};
 use tower_latch::Guarded;
 use tower_latch::held::Pollable;
-use tower_pool::buffer::error::{Closed, ServiceError};
-use tower_pool::buffer::{Buffer, BufferLayer, Error, MailCore, Worker};
 
 /// Keeps one task, and gives any further one back.
 #[derive(Drop)]
@@ -179,7 +179,10 @@ where
     Ok(())
 }
 
-// So many clones have a place at once, and no more.
+// So many clones ask for a place.
+const CLONES: usize = 1501;
+
+// So many clones have a place at once, and no more, `CLONES` at most.
 fn places<R, B>(rt: R, buffer: B) -> Result<usize, Fail>
 where
     R: RandomSource + AllocGlobal + Copy,
@@ -189,14 +192,14 @@ where
 {
     let solo = task(&rt)?;
     let mut ready: Vec<B> = Vec::new(rt.alloc());
-    for place in 0..9usize {
+    for place in 0..CLONES {
         let mut copy = buffer.clone()?;
         if polled(&solo, &mut copy) != Poll::Ready(Ok(())) {
             return Ok(place);
         }
         ready.push(copy)?;
     }
-    Ok(9)
+    Ok(CLONES)
 }
 
 // What two buffers came to that were made with one bench.
@@ -280,14 +283,14 @@ where
     requires clones { (x y : B) → B.is_clone x y → B.sound x → B.sound y }
 {
     let buffer = made.ok_or("no buffer")?;
-    assert_eq!(rt; places(rt, buffer)?, bound);
+    assert_eq!(rt; places(rt, buffer)?, bound.min(CLONES));
     drop(other);
     Ok(())
 }
 
 #[test]
 fn each_constructor_makes_so_many_places(rt: HostRuntime) -> Result<(), Fail> {
-    for bound in 1..4usize {
+    for bound in [1usize, 2, 3, 1500, 4_294_967_296, usize::MAX] {
         match Buffer::pair(rt, rt.alloc(), Echo, bound) {
             Ok((buffer, worker)) => holds(rt, Some(buffer), worker, bound)?,
             Err(AllocError) => return Err("no pair".into()),

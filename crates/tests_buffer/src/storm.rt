@@ -17,10 +17,10 @@ use std::{io, thread};
 use tests_support::checks::Checks;
 use tower::util::{block_on, block_on_call, block_on_ready};
 use tower_base::service::{Polled, Service, Steps};
+use tower_buffer::buffer::{Buffer, Error, MailCore, Worker};
 use tower_latch::held::Pollable;
 use tower_latch::{Guarded, Latch};
 use tower_limit::limit::concurrency::{LineCore, Permit, PollSemaphore, Semaphore};
-use tower_pool::buffer::{Buffer, Error, MailCore, Worker};
 
 const CALLERS: u64 = 8;
 

@@ -14,7 +14,10 @@ use tower_latch::Latch;
 use tower_limit::limit::concurrency::{LineCore, Semaphore};
 use tower_limit::limit::{ConcurrencyLimit, ConcurrencyLimitLayer, GlobalConcurrencyLimitLayer};
 
-// How many calls are made before it isn't ready, 1001 at most, with all responses kept.
+// So many calls are tried.
+const CALLS: usize = 1501;
+
+// How many calls are made before it isn't ready, `CALLS` at most, with all responses kept.
 fn calls_in_flight<R, L>(
     rt: &R,
     mut service: ConcurrencyLimit<Scripted<'_>, L>,
@@ -25,13 +28,13 @@ where
 {
     let solo = task(rt)?;
     let mut responses = Vec::new(rt.alloc());
-    for count in 0..1001usize {
+    for count in 0..CALLS {
         match called(&solo, &mut service, 0) {
             Some(response) => responses.push(response)?,
             None => return Ok(count),
         }
     }
-    Ok(1001)
+    Ok(CALLS)
 }
 
 fn by_itself<R>(rt: R, inner: Scripted<'_>, max: usize) -> Result<usize, Fail>
@@ -62,12 +65,13 @@ fn each_constructor_makes_so_many_permits(rt: HostRuntime) -> Result<(), Fail> {
     let checks = Checks::new(rt.alloc());
     let log = Log::new(rt.alloc())?;
     let script = Script::new(&log);
-    for max in [0, 1, 1000] {
-        checks.same(&by_itself(rt, Scripted::new(&script, 's'), max)?, &max);
-        checks.same(&by_layer(rt, Scripted::new(&script, 's'), max)?, &max);
+    for max in [0, 1, 1500, 4_294_967_296, usize::MAX] {
+        let made = max.min(CALLS);
+        checks.same(&by_itself(rt, Scripted::new(&script, 's'), max)?, &made);
+        checks.same(&by_layer(rt, Scripted::new(&script, 's'), max)?, &made);
         checks.same(
             &by_global_layer(rt, Scripted::new(&script, 's'), max)?,
-            &max,
+            &made,
         );
         log.told(rt.alloc())?;
     }

@@ -19,8 +19,7 @@ fn two_holders_come_and_go(rt: HostRuntime) -> Result<(), Fail> {
         (CountStep::Give, CountReply::Unknown),
         (CountStep::Load, CountReply::Count(0)),
     ] {
-        assert_eq!(rt; core.step(step), reply, "at {step:?}");
-        assert!(rt; !CountCore::waits(&reply));
+        assert_eq!(rt; core.step(step).0, reply, "at {step:?}");
     }
     Ok(())
 }

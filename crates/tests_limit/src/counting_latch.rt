@@ -1,6 +1,7 @@
-//! Which steps a latch is asked for: five runs, each up to its last answer.
+//! Which steps a latch is asked for: six runs, each up to its last answer.
 
 use crate::nest::waits_ten_milliseconds;
+use futures::task::{Context, Poll};
 use std::alloc::{AllocError, AllocGlobal, Global};
 use std::cell::Cell;
 use std::fmt::Write;
@@ -15,7 +16,7 @@ use tests_support::service::Scripted;
 use tower_base::service::{Clock, Fraction, Service};
 use tower_latch::{Guarded, Latch};
 use tower_limit::limit::ConcurrencyLimit;
-use tower_limit::limit::concurrency::{LineCore, Semaphore};
+use tower_limit::limit::concurrency::{LineCore, Permit, PollSemaphore, Semaphore};
 use tower_limit::load::pending_requests::{Count, CountCore};
 use tower_limit::load::{CompleteOnResponse, Load, PendingRequests};
 use tower_retry::hedge::rotating_histogram::HistoCore;
@@ -114,6 +115,50 @@ fn check_limit<L: Latch<LineCore>>(
     Ok(())
 }
 
+// Requests a permit from each of `shares` shares, and gives all back together. Returns how many they were.
+fn gathered<L: Latch<LineCore>>(
+    alloc: Global,
+    semaphore: &Semaphore<L>,
+    shares: usize,
+    cx: &mut Context<'_>,
+) -> Result<usize, AllocError> {
+    let mut permits: Vec<Permit<L>> = Vec::new(alloc);
+    for _ in 0..shares {
+        let mut asking = PollSemaphore::new(semaphore.share()?);
+        if let Poll::Ready(permit) = asking.poll_acquire(cx) {
+            permits.push(permit?)?;
+        }
+    }
+    Ok(semaphore.release_all(permits))
+}
+
+// A semaphore of three permits: two are given back together, and a third is taken out of a response.
+fn check_release<L: Latch<LineCore>>(
+    rt: &HostRuntime,
+    checks: &Checks,
+    log: &Log,
+    latch: L,
+) -> Result<(), Fail> {
+    let (shares, script) = (Cell::new(u8::MAX), Script::new(log));
+    let semaphore = Semaphore::with_latch(Noting::new(log, &shares, latch), 3);
+    let mut limit = ConcurrencyLimit::with_semaphore(
+        Scripted::new(&script, 's'),
+        semaphore.share()?,
+    );
+    let solo = task(rt)?;
+    let mut cx = solo.begin();
+    let held = gathered(rt.alloc(), &semaphore, 2, &mut cx);
+    cx.cancel();
+    checks.same(&held?, &2);
+    check_steps(checks, rt.alloc(), log, "Join;Join;Release;Release;");
+    let response = called(&solo, &mut limit, 7u8).ok_or("not ready")?;
+    let permit = response.into_permit();
+    check_steps(checks, rt.alloc(), log, "Join;");
+    drop(permit);
+    check_steps(checks, rt.alloc(), log, "Release;");
+    Ok(())
+}
+
 // Of 101 withdrawals the last is refused, and so is one through a clone.
 fn check_budget<L: Latch<BudgetCore>, C: Clock>(
     rt: &HostRuntime,
@@ -199,7 +244,7 @@ impl Policy<u8> for Always {
     }
 }
 
-// Ten latencies are known, eight of one millisecond and two of ten, and a call waits as long as nine of ten took. Neither of its
+// A thousand latencies are known, 800 of one millisecond and 200 of ten, and a call waits as long as nine of ten took. Neither of its
 // two requests is answered.
 fn check_hedge<L: Latch<HistoCore>>(
     rt: &HostRuntime,
@@ -209,26 +254,28 @@ fn check_hedge<L: Latch<HistoCore>>(
 ) -> Result<(), Fail> {
     let (shares, moment, script) = (Cell::new(u8::MAX), Cell::new(0), Script::new(log));
     script.replies(&[Reply::Never]);
+    let mut latencies = Vec::new(rt.alloc());
+    let mut wanted = String::new(rt.alloc());
+    for place in 0..1000u64 {
+        let millis = if place < 800 { 1u64 } else { 10 };
+        latencies.push(millis)?;
+        let _ = write!(wanted, "Seed(0, {millis});");
+    }
+    wanted.push_str("Points(0);Quantile(0, Fraction { numerator: 9, divisor: 10 });")?;
     let made = Hedge::with_latch_and_mock_latencies(
         Noting::new(log, &shares, latch),
         Scripted::new(&script, 's'),
         Always,
-        10,
+        1000,
         Fraction::new(9, 10),
         Hand::new(log, &moment),
-        &[1, 1, 1, 1, 1, 1, 1, 1, 10, 10],
+        latencies.as_slice(),
     );
     match made {
         Ok(hedge) => checks.holds(waits_ten_milliseconds(&task(rt)?, &moment, hedge)),
         Err(AllocError) => return Err("no hedge".into()),
     }
-    check_steps(
-        checks,
-        rt.alloc(),
-        log,
-        "Seed(0, 1);Seed(0, 1);Seed(0, 1);Seed(0, 1);Seed(0, 1);Seed(0, 1);Seed(0, 1);Seed(0, 1);\
-         Seed(0, 10);Seed(0, 10);Points(0);Quantile(0, Fraction { numerator: 9, divisor: 10 });",
-    );
+    check_steps(checks, rt.alloc(), log, wanted.as_str());
     Ok(())
 }
 
@@ -239,6 +286,9 @@ fn counting_latch(rt: HostRuntime) -> Result<(), Fail> {
     let (shares, moment) = (Cell::new(u8::MAX), Cell::new(0));
     let one = || Guarded::new(rt, alloc, LineCore::new(alloc, 1));
     check_limit(&rt, &checks, &log, [one()?, one()?])?;
+    let three = Guarded::new(rt, alloc, LineCore::new(alloc, 3))?;
+    check_release(&rt, &checks, &log, three)?;
+    let _drops = log.told(alloc)?;
     let core = BudgetCore::new(alloc, 10_000_000_000, 10, Fraction::new(1, 5), 0)?;
     let latch = Noting::new(&log, &shares, Guarded::new(rt, alloc, core)?);
     let budget = TpsBudget::with_latch(latch, Hand::new(&log, &moment));

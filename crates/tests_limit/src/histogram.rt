@@ -24,8 +24,7 @@ fn steps<R: Abort + AllocGlobal + Copy>(
 {
     let mut core = HistoCore::new(rt.alloc(), period, 0);
     for (step, reply) in lines {
-        assert_eq!(rt; core.step(*step), *reply, "at {step:?}");
-        assert!(rt; !HistoCore::waits(reply));
+        assert_eq!(rt; core.step(*step).0, *reply, "at {step:?}");
     }
     Ok(())
 }
@@ -76,10 +75,10 @@ fn long_gaps_leave_nothing(rt: HostRuntime) -> Result<(), Fail> {
 fn quantiles_of_ten_seeds(rt: HostRuntime) -> Result<(), Fail> {
     let checks = Checks::new(rt.alloc());
     let mut core = HistoCore::new(rt.alloc(), 10, 0);
-    let none = core.step(HistoStep::Quantile(0, Fraction::new(9, 10)));
+    let none = core.step(HistoStep::Quantile(0, Fraction::new(9, 10))).0;
     checks.same(&none, &HistoReply::Millis(0));
     for millis in [1, 10, 1, 1, 1, 10, 1, 1, 1, 1] {
-        checks.same(&core.step(HistoStep::Seed(0, millis)), &HistoReply::Done);
+        checks.same(&core.step(HistoStep::Seed(0, millis)).0, &HistoReply::Done);
     }
     for (fraction, millis) in [
         (Fraction::new(9, 10), 10),
@@ -88,10 +87,14 @@ fn quantiles_of_ten_seeds(rt: HostRuntime) -> Result<(), Fail> {
         (Fraction::new(3, 1), 10),
     ] {
         let step = HistoStep::Quantile(9, fraction);
-        assert_eq!(rt; core.step(step), HistoReply::Millis(millis), "at {step:?}");
+        assert_eq!(rt;
+            core.step(step).0,
+            HistoReply::Millis(millis),
+            "at {step:?}"
+        );
     }
-    checks.same(&core.step(HistoStep::Points(9)), &HistoReply::Count(10));
-    checks.same(&core.step(HistoStep::Points(10)), &HistoReply::Count(0));
+    checks.same(&core.step(HistoStep::Points(9)).0, &HistoReply::Count(10));
+    checks.same(&core.step(HistoStep::Points(10)).0, &HistoReply::Count(0));
     checks.verdict()
 }
 
@@ -101,6 +104,31 @@ fn periods_that_fit(rt: HostRuntime) -> Result<(), Fail> {
     checks.holds(!HistoCore::fits(0));
     checks.holds(HistoCore::fits(1));
     checks.holds(HistoCore::fits(u64::MAX));
+    checks.verdict()
+}
+
+// 2,000 latencies, no two of one length, of which most are longer than an hour.
+#[test]
+fn many_long_latencies_are_kept(rt: HostRuntime) -> Result<(), Fail> {
+    let checks = Checks::new(rt.alloc());
+    let mut core = HistoCore::new(rt.alloc(), 10, 0);
+    for number in 0..2000u64 {
+        let millis = u64::MAX - number * 4_294_967_296;
+        checks.same(&core.step(HistoStep::Seed(0, millis)).0, &HistoReply::Done);
+        checks.same(
+            &core.step(HistoStep::Record(0, number)).0,
+            &HistoReply::Done,
+        );
+    }
+    let longest = HistoStep::Quantile(0, Fraction::new(1, 1));
+    checks.same(&core.step(longest).0, &HistoReply::Millis(u64::MAX));
+    checks.same(&core.step(HistoStep::Points(9)).0, &HistoReply::Count(2000));
+    checks.same(
+        &core.step(HistoStep::Points(10)).0,
+        &HistoReply::Count(2000),
+    );
+    let half = HistoStep::Quantile(10, Fraction::new(1, 2));
+    checks.same(&core.step(half).0, &HistoReply::Millis(999));
     checks.verdict()
 }
 

@@ -40,14 +40,15 @@ where
     assert!(rt; one.enter(|cx| first.poll_acquire(cx)).is_pending());
     assert!(rt; two.enter(|cx| second.poll_acquire(cx)).is_pending());
     checks.holds(!one.is_woken() && !two.is_woken());
+    // Only the one that gets the permit is woken.
     drop(permit);
     checks.holds(one.is_woken());
-    checks.holds(two.is_woken());
-    // A wait that is granted wakes the other one too.
-    assert!(rt; two.enter(|cx| second.poll_acquire(cx)).is_pending());
     checks.holds(!two.is_woken());
+    assert!(rt; two.enter(|cx| second.poll_acquire(cx)).is_pending());
     let permit = one.enter(|cx| first.poll_acquire(cx));
     checks.holds(is_ok(&permit));
+    checks.holds(!two.is_woken());
+    drop(permit);
     checks.holds(two.is_woken());
     checks.verdict()
 }

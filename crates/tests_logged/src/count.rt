@@ -2,7 +2,7 @@
 ghost use Rattle.std.specs.Prelude.{◌≡◌, Some};
 ghost use Rattle.tower_limit.specs.CountCore.{Opens};
 
-use crate::run::{Run, ended, last_apart};
+use crate::run::{Run, closed, ended, last_apart};
 use std::alloc::{AllocError, Global};
 use std::marker::Brand;
 use std::process::Abort;
@@ -82,4 +82,38 @@ fn eight_threads_one_count(rt: HostRuntime) -> Result<(), Fail> {
     let table = LogTable::new(alloc)?;
     let run = one_count::<Brand, _>(rt, alloc, Blank::new(9), table, CountCore::new())?;
     none_is_left(alloc, run.history.entries())
+}
+
+// So many steps through each of 200 passes.
+const TAKES: usize = 600;
+
+fn many_passes<K: Log<CountCore>, R: Wait + Abort + Copy>(
+    rt: R,
+    alloc: Global,
+    blank: Blank,
+    table: LogTable<CountStep, CountReply>,
+    count: CountCore,
+) -> Result<Run<CountStep, CountReply>, Fail>
+    requires name { blank.name ≡ K.name }
+    requires parts { (blank.parts ≡ K.parts) × (blank.parts ≡ 200) }
+    requires opening { K.opening ≡ Some count }
+    requires opens { Opens count }
+    requires table { table ≡ K.table }
+{
+    let (log, mut passes) = Logged::<CountCore, K, R>::open(rt, alloc, blank, table, count, 200)?;
+    for pass in passes.iter_mut() {
+        for _ in 0..TAKES {
+            log.step(pass, CountStep::Take)?;
+        }
+    }
+    closed(alloc, log, passes)
+}
+
+#[test]
+fn history_of_120000_steps(rt: HostRuntime) -> Result<(), Fail> {
+    let alloc = rt.alloc();
+    let table = LogTable::new(alloc)?;
+    let run = many_passes::<Brand, _>(rt, alloc, Blank::new(200), table, CountCore::new())?;
+    assert_eq!(rt; replay(alloc, run.history.entries())?, 120_000);
+    Ok(())
 }

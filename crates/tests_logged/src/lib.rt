@@ -1,4 +1,4 @@
-//! Tests of the library's cores under threads: behind `tower_latch::Logged`.
+//! Tests of the library's cores under threads: behind `tower_latch::Logged`; and of a count that is full.
 #![tactic(auto)]
 
 #[cfg(test)]
@@ -7,6 +7,8 @@ mod budget;
 mod count;
 #[cfg(test)]
 mod fixtures;
+#[cfg(test)]
+mod full_count;
 #[cfg(test)]
 mod histogram;
 #[cfg(test)]

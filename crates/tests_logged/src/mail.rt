@@ -1,6 +1,6 @@
 //! The mail of a buffer behind a logged latch, from threads.
 ghost use Rattle.std.specs.Prelude.{◌≡◌, Some};
-ghost use Rattle.tower_pool.specs.Mailbox.{Opens};
+ghost use Rattle.tower_buffer.specs.Mailbox.{Opens};
 
 use crate::fixtures::{LOOKS, rest};
 use crate::plain_mail::{PlainMail, Reply, Step};
@@ -14,8 +14,8 @@ use std::test::Fail;
 use std::thread;
 use std::thread::Threads;
 use std::time::Clock;
+use tower_buffer::buffer::{MailCore, MailReply, MailStep};
 use tower_latch::{Log, LogTable, Logged, Pass};
-use tower_pool::buffer::{MailCore, MailReply, MailStep};
 
 type Mail = MailCore<u64, u64, u64>;
 

@@ -3,8 +3,8 @@
 use crate::plain_line::PlainLine;
 use std::alloc::Global;
 use std::test::Fail;
+use tower_buffer::buffer::{MailReply, MailStep};
 use tower_limit::limit::concurrency::{LineReply, LineStep};
-use tower_pool::buffer::{MailReply, MailStep};
 
 pub type Step = MailStep<u64, u64, u64>;
 

@@ -61,7 +61,7 @@ fn same_as_plain(alloc: Global, max: usize) -> Result<(), Fail> {
         if plain.len() >= LONGEST && step == LineStep::Join {
             step = LineStep::Release;
         }
-        let reply = line.step(step);
+        let reply = line.step(step).0;
         if !plain.answers(step, reply)? {
             return Err("the plain line has another reply".into());
         }

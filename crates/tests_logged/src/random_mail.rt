@@ -4,8 +4,8 @@ use crate::plain_mail::{PlainMail, Reply, Step};
 use std::alloc::Global;
 use std::test::Fail;
 use tower_base::util::rng::{HasherRng, Rng};
+use tower_buffer::buffer::{MailCore, MailReply, MailStep};
 use tower_latch::Core;
-use tower_pool::buffer::{MailCore, MailReply, MailStep};
 
 const ROUNDS: u32 = 1_000;
 
@@ -63,7 +63,7 @@ fn round(alloc: Global, rng: &mut HasherRng, tally: &mut Tally) -> Result<(), Fa
     let mut plain = PlainMail::new(alloc, 4);
     for _ in 0..STEPS {
         let step = draw(rng);
-        let reply = mail.step(step);
+        let reply = mail.step(step).0;
         if !plain.answers(step, reply)? {
             return Err("the plain mail has another reply".into());
         }

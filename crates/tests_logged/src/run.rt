@@ -35,8 +35,8 @@ fn gathered<T: Drop>(
     Ok(all)
 }
 
-// Closes the log, and compares the receipts with its history.
-fn closed<C, K, R>(
+/// Closes the log, and compares the receipts with its history.
+pub fn closed<C, K, R>(
     alloc: Global,
     log: Logged<C, K, R>,
     passes: Vec<Pass<C, K>>,

@@ -1,6 +1,6 @@
 //! The slot of a spawned task behind a logged latch, from threads.
 ghost use Rattle.std.specs.Prelude.{◌≡◌, Some};
-ghost use Rattle.tower.specs.declared.spawn_ready.slot_core.Slot.{Slot as SlotCase};
+ghost use Rattle.tower_pool.specs.declared.spawn_ready.slot_core.Slot.{Slot as SlotCase};
 
 use crate::fixtures::{LOOKS, rest};
 use crate::run::{Run, ended, last_apart};

@@ -6,6 +6,8 @@ mod apart;
 #[cfg(test)]
 mod parts;
 #[cfg(test)]
+mod shares;
+#[cfg(test)]
 mod slot_core;
 #[cfg(test)]
 mod whole;

@@ -110,7 +110,7 @@ fn word<S, E>(step: &SlotStep<S, E>) -> &'static str {
 impl<'a, S: Drop, E: Drop, L: Latch<SlotCore<S, E>>> Latch<SlotCore<S, E>> for Told<'a, L> {
     ghost gave = { λ latch step reply. L.gave latch.inner step reply };
 
-    ghost size = { λ latch. L.size latch.inner };
+    ghost terms = { λ latch. L.terms latch.inner };
 
     ghost its = { λ latch token. L.its latch.inner token };
 

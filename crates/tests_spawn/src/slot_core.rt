@@ -15,7 +15,7 @@ type Reply = SlotReply<u8, u8>;
 fn answers(steps: &[(Step, Reply)]) -> bool {
     let mut slot = Slot::new();
     for (step, reply) in steps {
-        if slot.step(*step) != *reply {
+        if slot.step(*step).0 != *reply {
             return false;
         }
     }
@@ -85,7 +85,7 @@ fn aborted_slot_stays_so(rt: HostRuntime) -> Result<(), Fail> {
     ] {
         let mut slot = Slot::new();
         for step in before {
-            checks.holds(slot.step(*step) == Reply::Done);
+            checks.holds(slot.step(*step).0 == Reply::Done);
         }
         for (step, reply) in [
             (Step::Abort, Reply::Done),
@@ -99,27 +99,8 @@ fn aborted_slot_stays_so(rt: HostRuntime) -> Result<(), Fail> {
             (Step::Aborted, Reply::Truth(true)),
             (Step::Put(5), Reply::Back(5)),
         ] {
-            checks.holds(slot.step(step) == reply);
+            checks.holds(slot.step(step).0 == reply);
         }
-    }
-    checks.verdict()
-}
-
-#[test]
-fn waiting_and_not_aborted_ask_to_come_again(rt: HostRuntime) -> Result<(), Fail> {
-    let checks = Checks::new(rt.alloc());
-    checks.holds(Slot::waits(&Reply::Waiting));
-    checks.holds(Slot::waits(&Reply::Truth(false)));
-    for reply in [
-        Reply::Done,
-        Reply::Back(1),
-        Reply::Truth(true),
-        Reply::Service(1),
-        Reply::Error(1),
-        Reply::Lost,
-        Reply::Unknown,
-    ] {
-        checks.holds(!Slot::waits(&reply));
     }
     checks.verdict()
 }

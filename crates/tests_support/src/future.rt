@@ -4,7 +4,7 @@ ghost use Rattle.futures.specs.Poll.{IfReady, OnPending};
 
 use crate::log::{Log, Name};
 use crate::script::{Reply, Script};
-use futures::future::{Future, Pending, pending};
+use futures::future::Future;
 use futures::task::{Context, Poll};
 use std::alloc::AllocError;
 use tower_base::service::Steps;
@@ -12,7 +12,7 @@ use tower_base::service::Steps;
 // When the answer is there.
 #[derive(Clone, Copy)]
 pub(crate) enum When<'a> {
-    // After so many polls, each of which wakes its task.
+    // After so many polls, each of which wakes its task, unless the log is quiet.
     Polls(u8),
     Never,
     // Once the gate of this call is open. Nothing wakes the task.
@@ -26,7 +26,6 @@ pub struct After<'a, T> {
     log: &'a Log,
     name: Name,
     when: When<'a>,
-    idle: Pending<T>,
     answer: Option<T>,
 }
 
@@ -39,7 +38,6 @@ impl<'a, T> After<'a, T> {
             log,
             name: Name::new(letter),
             when: When::Polls(polls),
-            idle: pending(),
             answer: Some(answer),
         }
     }
@@ -72,7 +70,6 @@ pub(crate) fn planned<'a, T>(
         log,
         name: service.of_future(request),
         when,
-        idle: pending(),
         answer: Some(answer),
     }
 }
@@ -106,11 +103,11 @@ impl<'a, T: Drop> Steps for After<'a, T> {
         }
         self.log.note(format_args!("{} pending", self.name));
         match self.when {
-            When::Gate(_, _) | When::Later(_, _) => self.idle.poll(cx),
-            When::Never => cx.yield_now(),
+            When::Gate(_, _) | When::Later(_, _) => self.log.wait(cx),
+            When::Never => self.log.pending(cx),
             When::Polls(polls) => {
                 self.when = When::Polls(polls.saturating_sub(1));
-                cx.yield_now()
+                self.log.pending(cx)
             }
         }
     }
@@ -130,7 +127,6 @@ impl<'a, T: Clone> Clone for After<'a, T> {
             log: self.log,
             name,
             when: self.when,
-            idle: pending(),
             answer,
         })
     }
@@ -143,10 +139,8 @@ impl<'a, T: Drop> Drop for After<'a, T> {
             log: _,
             name: _,
             when: _,
-            idle,
             answer,
         } = self;
-        drop(idle);
         drop(answer);
     }
 }
@@ -156,7 +150,6 @@ pub struct Response<'a> {
     log: &'a Log,
     name: Name,
     when: When<'a>,
-    idle: Pending<Result<u8, u8>>,
     answer: Result<u8, u8>,
 }
 
@@ -168,7 +161,6 @@ impl<'a> Response<'a> {
             log: script.log,
             name: service.of_future(request),
             when,
-            idle: pending(),
             answer,
         }
     }
@@ -208,11 +200,11 @@ impl<'a> Steps for Response<'a> {
         }
         self.log.note(format_args!("{} pending", self.name));
         match self.when {
-            When::Gate(_, _) | When::Later(_, _) => self.idle.poll(cx),
-            When::Never => cx.yield_now(),
+            When::Gate(_, _) | When::Later(_, _) => self.log.wait(cx),
+            When::Never => self.log.pending(cx),
             When::Polls(polls) => {
                 self.when = When::Polls(polls.saturating_sub(1));
-                cx.yield_now()
+                self.log.pending(cx)
             }
         }
     }
@@ -225,9 +217,7 @@ impl<'a> Drop for Response<'a> {
             log: _,
             name: _,
             when: _,
-            idle,
             answer: _,
         } = self;
-        drop(idle);
     }
 }

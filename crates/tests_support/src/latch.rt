@@ -30,7 +30,7 @@ where
 {
     ghost gave = { λ latch step reply. L.gave latch.inner step reply };
 
-    ghost size = { λ latch. L.size latch.inner };
+    ghost terms = { λ latch. L.terms latch.inner };
 
     ghost its = { λ latch token. L.its latch.inner token };
 

@@ -1,5 +1,9 @@
 //! The one list of what happened.
+ghost use Rattle.std.specs.Prelude.{◌≡◌};
+ghost use Rattle.futures.specs.Task.{IsArmed, Keeps};
 
+use futures::future::{Future, Pending, pending};
+use futures::task::{Context, Poll};
 use std::alloc::{AllocError, Global};
 use std::cell::{Cell, RefCell};
 use std::fmt::{self, Display, Write};
@@ -7,11 +11,14 @@ use std::fmt::{self, Display, Write};
 // Room for the list, in bytes.
 const ROOM: usize = 8192;
 
-/// What happened to all parts of a test, in order, each as a few words before a semicolon.
+/// What happened to all parts of a test, in order, each as a few words before a semicolon. Parts that are pending wake their task, unless the
+/// log is quiet.
 #[derive(Drop)]
 pub struct Log {
     text: RefCell<String>,
     copies: Cell<u8>,
+    is_quiet: Cell<bool>,
+    idle: RefCell<Pending<()>>,
 }
 
 impl Log {
@@ -20,7 +27,46 @@ impl Log {
         Ok(Log {
             text: RefCell::new(String::with_capacity(alloc, ROOM)?),
             copies: Cell::new(0),
+            is_quiet: Cell::new(false),
+            idle: RefCell::new(pending()),
         })
+    }
+
+    /// From now on parts that are pending wait for what never comes, and wake nobody.
+    pub fn hush(&self) {
+        self.is_quiet.set(true);
+    }
+
+    /// Whether parts that are pending wake nobody.
+    pub fn is_quiet(&self) -> bool {
+        self.is_quiet.get()
+    }
+
+    /// A poll that is pending. Its task is woken, unless the log is quiet.
+    pub fn pending<T>(&self, cx: &mut Context<'_>) -> Poll<T>
+        ensures pending { result ≡ Poll.Pending }
+        ensures armed { IsArmed cx.new }
+        ensures kept { Keeps cx.old cx.new }
+    {
+        if self.is_quiet() {
+            return self.wait(cx);
+        }
+        cx.yield_now()
+    }
+
+    /// A poll that is pending. Nothing wakes its task.
+    pub fn wait<T>(&self, cx: &mut Context<'_>) -> Poll<T>
+        ensures pending { result ≡ Poll.Pending }
+        ensures armed { IsArmed cx.new }
+        ensures kept { Keeps cx.old cx.new }
+    {
+        match self.idle.try_borrow_mut() {
+            Ok(mut idle) => {
+                let _: Poll<()> = idle.poll(cx);
+                Poll::Pending
+            }
+            Err(_) => cx.yield_now(),
+        }
     }
 
     /// Adds an event: `log.note(format_args!("f asked {x}"))`.

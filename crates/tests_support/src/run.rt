@@ -1,8 +1,9 @@
 //! Polls and calls by hand, and transcripts as text.
 ghost use Rattle.std.specs.Prelude.{IfSome};
 ghost use Rattle.futures.specs.Poll.{OnPending};
+ghost use Rattle.futures.specs.Task.{IsArmed};
 
-use futures::task::{Doorbell, Poll, Solo};
+use futures::task::{Context, Doorbell, Poll, Solo};
 use std::alloc::{AllocError, AllocGlobal, Global};
 use std::fmt::{Display, Write};
 use std::io;
@@ -18,6 +19,19 @@ pub fn task<R: RandomSource + AllocGlobal>(rt: &R) -> io::Result<Solo> {
     Solo::new(rt, Doorbell::spinning())
 }
 
+/// Ends a poll that gave this answer. Its task stays, to be polled again.
+pub fn end<T>(mut cx: Context<'_>, answer: &Poll<T>)
+    requires { OnPending answer.now (IsArmed cx) }
+{
+    match answer {
+        Poll::Pending => cx.park(),
+        Poll::Ready(_) => {
+            let _: Poll<()> = cx.yield_now();
+            cx.park();
+        }
+    }
+}
+
 /// One poll of readiness, with what the service means by its answer: a call may follow.
 pub fn readiness<Request, S: Service<Request>>(
     solo: &Solo,
@@ -29,7 +43,7 @@ pub fn readiness<Request, S: Service<Request>>(
 {
     let mut cx = solo.begin();
     let answer = service.poll_ready(&mut cx);
-    cx.end(&answer);
+    end(cx, &answer);
     answer
 }
 
@@ -76,8 +90,19 @@ pub fn stepped<F: Steps>(solo: &Solo, future: &mut F) -> Poll<F::Output>
 {
     let mut cx = solo.begin();
     let answer = future.step(&mut cx);
-    cx.cancel();
+    end(cx, &answer);
     answer
+}
+
+/// Whether the task was woken since its last poll began, which was pending.
+pub fn is_woken(solo: &Solo) -> bool {
+    match solo.sleep() {
+        Some(asleep) => {
+            asleep.end();
+            false
+        }
+        None => true,
+    }
 }
 
 /// The answer of a future, which is dropped, or none after so many polls.

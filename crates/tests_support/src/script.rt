@@ -8,7 +8,7 @@ use std::cell::Cell;
 #[derive(Clone, Copy, Debug, PartialEq, Eq)]
 pub enum Mood {
     Willing,
-    /// Pending, and its task is woken.
+    /// Pending, and its task is woken, unless the log is quiet.
     Busy,
     Broken(u8),
 }
@@ -22,7 +22,7 @@ pub fn mood_of(text: &str) -> Option<Mood> {
     }
 }
 
-/// What a call's future answers. While it is pending its task is woken, but by `Gated`.
+/// What a call's future answers. While it is pending its task is woken, but by `Gated` and `Later`, and unless the log is quiet.
 #[derive(Clone, Copy, Debug, PartialEq, Eq)]
 pub enum Reply {
     /// The request, after so many pending polls.

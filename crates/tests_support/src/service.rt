@@ -42,7 +42,7 @@ fn told_mood(script: &Script<'_>, name: Name, cx: &mut Context<'_>) -> Poll<Resu
         }
         Mood::Busy => {
             script.log.note(format_args!("{name} pending"));
-            cx.yield_now()
+            script.log.pending(cx)
         }
         Mood::Broken(error) => {
             script.log.note(format_args!("{name} error {error}"));

@@ -74,7 +74,7 @@ impl<'a> Flow for Requests<'a> {
             return Poll::Ready(None);
         }
         self.log.note("requests pending");
-        cx.yield_now()
+        self.log.pending(cx)
     }
 }
 

@@ -5,8 +5,8 @@ use std::alloc::{AllocError, Global};
 use std::fmt::Write;
 use std::test::Fail;
 use tests_support::checks::Checks;
+use tower_buffer::buffer::{MailCore, MailReply, MailStep};
 use tower_latch::Core;
-use tower_pool::buffer::{MailCore, MailReply, MailStep};
 
 const BOOM: u8 = 66;
 
@@ -63,7 +63,7 @@ fn replies(alloc: Global, bound: usize, script: &str) -> Result<String, AllocErr
         replies.push_str(step)?;
         match step_of(step) {
             Some(step) => {
-                let reply = mail.step(step);
+                let reply = mail.step(step).0;
                 let _ = write!(replies, " => {reply:?}");
             }
             None => replies.push_str(" isn't a step")?,
@@ -193,16 +193,16 @@ fn messages_are_lost_with_the_worker(rt: HostRuntime) -> Result<(), Fail> {
 fn ten_thousand_wait_and_leave(rt: HostRuntime) -> Result<(), Fail> {
     let checks = Checks::new(rt.alloc());
     let mut mail = Mail::new(rt.alloc(), 1);
-    checks.same(&mail.step(Step::Reserve), &Reply::Place);
+    checks.same(&mail.step(Step::Reserve).0, &Reply::Place);
     for key in 0..10_000u64 {
-        checks.same(&mail.step(Step::Reserve), &Reply::Waiting(key));
+        checks.same(&mail.step(Step::Reserve).0, &Reply::Waiting(key));
     }
     for later in 0..10_000u64 {
-        checks.same(&mail.step(Step::Cancel(9_999 - later)), &Reply::Done);
+        checks.same(&mail.step(Step::Cancel(9_999 - later)).0, &Reply::Done);
     }
-    checks.same(&mail.step(Step::Look(0)), &Reply::Unknown);
-    checks.same(&mail.step(Step::Unreserve), &Reply::Done);
-    checks.same(&mail.step(Step::Reserve), &Reply::Place);
+    checks.same(&mail.step(Step::Look(0)).0, &Reply::Unknown);
+    checks.same(&mail.step(Step::Unreserve).0, &Reply::Done);
+    checks.same(&mail.step(Step::Reserve).0, &Reply::Place);
     checks.verdict()
 }
 
@@ -212,40 +212,14 @@ fn ten_thousand_are_sent_and_forgotten(rt: HostRuntime) -> Result<(), Fail> {
     let checks = Checks::new(rt.alloc());
     let mut mail = Mail::new(rt.alloc(), 10_000);
     for id in 0..10_000u64 {
-        checks.same(&mail.step(Step::Reserve), &Reply::Place);
-        checks.same(&mail.step(Step::Send(7)), &Reply::Sent(id));
+        checks.same(&mail.step(Step::Reserve).0, &Reply::Place);
+        checks.same(&mail.step(Step::Send(7)).0, &Reply::Sent(id));
     }
     for later in 0..10_000u64 {
-        checks.same(&mail.step(Step::Forget(9_999 - later)), &Reply::Done);
+        checks.same(&mail.step(Step::Forget(9_999 - later)).0, &Reply::Done);
     }
-    checks.same(&mail.step(Step::Take), &Reply::Cleared);
-    checks.same(&mail.step(Step::Take), &Reply::Empty);
-    checks.same(&mail.step(Step::Reserve), &Reply::Place);
-    checks.verdict()
-}
-
-#[test]
-fn waiting_and_empty_ask_to_come_again(rt: HostRuntime) -> Result<(), Fail> {
-    let checks = Checks::new(rt.alloc());
-    for (reply, waits) in [
-        (Reply::Waiting(0), true),
-        (Reply::Empty, true),
-        (Reply::Done, false),
-        (Reply::Place, false),
-        (Reply::Memory, false),
-        (Reply::Failed(BOOM), false),
-        (Reply::Closed, false),
-        (Reply::Sent(0), false),
-        (Reply::Message(0, 1), false),
-        (Reply::Cleared, false),
-        (Reply::End, false),
-        (Reply::Truth(true), false),
-        (Reply::Back(1), false),
-        (Reply::Future(1), false),
-        (Reply::Lost, false),
-        (Reply::Unknown, false),
-    ] {
-        checks.same(&(Mail::waits(&reply), reply), &(waits, reply));
-    }
+    checks.same(&mail.step(Step::Take).0, &Reply::Cleared);
+    checks.same(&mail.step(Step::Take).0, &Reply::Empty);
+    checks.same(&mail.step(Step::Reserve).0, &Reply::Place);
     checks.verdict()
 }

@@ -4,8 +4,8 @@ use std::alloc::AllocError;
 use std::fmt::Write;
 use std::test::Fail;
 use tests_support::checks::Checks;
+use tower_buffer::buffer::{MailCore, MailStep};
 use tower_latch::Core;
-use tower_pool::buffer::{MailCore, MailStep};
 
 // An error whose clones are refused.
 #[derive(Debug, Drop)]
@@ -43,7 +43,7 @@ fn place_stays_reserved_without_a_clone_of_the_error(rt: HostRuntime) -> Result<
         Step::Unreserve,
         Step::Outcome(0),
     ] {
-        let reply = mail.step(step);
+        let reply = mail.step(step).0;
         write!(replies, "{reply:?};")?;
     }
     checks.same(

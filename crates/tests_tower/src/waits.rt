@@ -1,13 +1,16 @@
 //! `ServiceExt` and `BlockOnExt`: their methods that wait.
 
 use futures::executor::block_on;
+use futures::future::{Ready, ok};
 use std::cell::Cell;
+use std::convert::Infallible;
 use std::test::Fail;
 use tests_support::checks::Checks;
 use tests_support::log::Log;
 use tests_support::run::{awaited, task};
 use tests_support::script::{Mood, Reply, Script};
 use tests_support::service::Scripted;
+use tower::util::service_fn;
 use tower::{BlockOnExt, Service, ServiceExt};
 
 #[test]
@@ -63,7 +66,7 @@ fn oneshot_waits_and_calls_once(rt: HostRuntime) -> Result<(), Fail> {
     );
     checks.told(
         &log,
-        "s pending;s ready;s called 6;s(6) pending;s dropped;s(6) ready;s(6) dropped;",
+        "s pending;s ready;s called 6;s dropped;s(6) pending;s(6) ready;s(6) dropped;",
     );
     checks.verdict()
 }
@@ -91,5 +94,20 @@ fn waits_on_a_borrowed_service(rt: HostRuntime) -> Result<(), Fail> {
         &log,
         "s ready;s called 7;s(7) ready;s(7) dropped;s ready;s called 8;s(8) ready;s(8) dropped;",
     );
+    checks.verdict()
+}
+
+#[test]
+fn each_of_many_requests_is_answered(rt: HostRuntime) -> Result<(), Fail> {
+    let checks = Checks::new(rt.alloc());
+    let mut echo = service_fn(|n: u64| -> Ready<Result<u64, Infallible>> { ok(n) });
+    let requests: Vec<u64> = (0..1500).collect(rt.alloc())?;
+    let right = Cell::new(0u64);
+    echo.block_on_each(&rt, requests, |answer: Result<u64, Infallible>| {
+        if answer == Ok(right.get()) {
+            right.set(right.get().wrapping_add(1));
+        }
+    })?;
+    checks.same(&right.get(), &1500);
     checks.verdict()
 }

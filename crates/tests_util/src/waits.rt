@@ -15,7 +15,7 @@ use tests_support::checks::Checks;
 use tests_support::log::Log;
 use tests_support::script::{Mood, Reply, Script};
 use tests_support::service::Scripted;
-use tower::util::{block_on_call, block_on_each, block_on_ready, service_fn};
+use tower::util::{Waiter, block_on_call, block_on_each, block_on_ready, service_fn};
 use tower_base::service::{Service, Steps};
 use tower_limit::limit::ConcurrencyLimit;
 use tower_limit::limit::concurrency::Semaphore;
@@ -70,8 +70,9 @@ fn error_leaves_the_service(rt: HostRuntime) -> Result<(), Fail> {
 }
 
 #[test]
-fn ten_calls_each_of_a_ready_service(rt: HostRuntime) -> Result<(), Fail> {
+fn one_waiter_for_ten_calls_each_of_a_ready_service(rt: HostRuntime) -> Result<(), Fail> {
     let checks = Checks::new(rt.alloc());
+    let mut waiter = Waiter::new(&rt)?;
     let alloc = rt.alloc();
     let log = Log::new(alloc)?;
     let script = Script::new(&log);
@@ -79,7 +80,8 @@ fn ten_calls_each_of_a_ready_service(rt: HostRuntime) -> Result<(), Fail> {
     let mut service = Scripted::new(&script, 'a');
     for request in 0..10 {
         script.moods(&[Mood::Busy, Mood::Willing]);
-        checks.same(&block_on_call(&mut service, &rt, request)?, &Ok(request));
+        let answer = waiter.block_on_call(&rt, &mut service, request)?;
+        checks.same(&answer, &Ok(request));
         let told = format!(in alloc;
             "a pending;a ready;a called {request};a({request}) pending;a({request}) ready;a({request}) dropped;"
         )?;
@@ -202,7 +204,7 @@ impl Steps for Late {
 }
 
 // However often a poll is pending, the wait doesn't give up. The thread sleeps before it polls again what only woke itself: a
-// millisecond but for the first five times.
+// millisecond but for the first six times, of which the first is at once.
 #[test]
 fn wait_outlasts_many_pending_polls(rt: HostRuntime) -> Result<(), Fail> {
     let checks = Checks::new(rt.alloc());

@@ -7,4 +7,5 @@ mod rng;
 mod service;
 mod silent;
 mod sleep;
+mod spawners;
 mod system;

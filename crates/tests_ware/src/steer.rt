@@ -1,4 +1,4 @@
-//! `tower::steer`: a closure as a picker.
+//! `tower::steer`: a closure as a picker. It is asked once for each call.
 ghost use Rattle.std.specs.Prelude.{◌<◌, length};
 
 use std::test::Fail;
@@ -18,12 +18,15 @@ fn closure_picks(rt: HostRuntime) -> Result<(), Fail> {
     let services = vec![in rt.alloc(); Scripted::new(&script, 'a'), Scripted::new(&script, 'b')]?;
     let last = |_request: &u8, services: &[Scripted<'_>]| -> usize
         ensures { 0 < length services.now → result < length services.now }
-    { services.len().saturating_sub(1) };
+    {
+        log.note("picked");
+        services.len().saturating_sub(1)
+    };
     let steer = Steer::new(rt.alloc(), services, PickerFn::new(last))?;
     checks.same(&fire(&solo, steer, 6), &Some(Ok(6)));
     checks.told(
         &log,
-        "a ready;b ready;b called 6;b(6) ready;b(6) dropped;a dropped;b dropped;",
+        "a ready;b ready;picked;b called 6;b(6) ready;b(6) dropped;a dropped;b dropped;",
     );
     checks.verdict()
 }

@@ -10,7 +10,7 @@ use Rattle.futures.specs.declared.task.Poll.{Poll}
 use Rattle.futures.specs.declared.task.Poll.TheVariants.{Ready, Pending}
 use Rattle.indexmap.specs.IndexMap.{insert_entry, set_value_at, swap_remove_entry}
 use Rattle.tower_base.specs.Passes.{Goes, Passes}
-use Rattle.tower_base.specs.Projection.{AtMostOnce, ByAction, RunInside}
+use Rattle.tower_base.specs.Projection.{AtMostOnce, ByAction}
 use Rattle.tower_base.specs.ProjectionLemmas.{no_action, one_poll, one_call}
 use Rattle.tower_base.specs.ServiceRun.{Relations, relations, Action, Takes}
 use Rattle.tower_base.specs.declared.service.Service.{Ghosts as ServiceOf}
@@ -24,10 +24,10 @@ use Rattle.tower_pool.specs.declared.ready_cache.error.Failed.{Failed}
 use Rattle.tower_pool.specs.declared.ready_cache.error.Error.{Error as CacheError}
 use Rattle.tower_pool.specs.declared.ready_cache.error.Error.TheVariants.{Failed as EndpointFailed, Memory as NoRoom}
 use Rattle.tower_ware.proofs.RunsLemmas.{after}
-use Rattle.tower.proofs.BalanceLemmas.{inserts_less, inserted_now}
-use Rattle.tower.specs.Balance.{AfterChanges, AfterCheck, AfterFound, AfterPromotion, BalanceView, Called, Changed, ChangedAt, Chooses, Chosen, CountedPass, Inserted, IsReady, Pass, PassAt, Polled, PromotesAfter, Reads, ReadsAll, pushed}
+use Rattle.tower_pool.proofs.BalanceLemmas.{inserts_less, inserted_now}
+use Rattle.tower_pool.specs.Balance.{AfterChanges, AfterCheck, AfterFound, AfterPromotion, BalanceView, Called, ChangedAt, Chooses, CountedPass, IsReady, PassAt, Polled, PromotesAfter, Reads, ReadsAll, pushed}
 use Rattle.tower.specs.Projections.{EachEndpoint, LedTo, MayBeEndpoint}
-use Rattle.tower.specs.declared.balance.error.Error.{Error}
+use Rattle.tower_pool.specs.declared.balance.error.Error.{Error}
 
 module _ {K S : Type 0} (P : S → Type 0) where
   abbrev Each : List (K × S) → Type 0

@@ -1,7 +1,5 @@
-pub mod BalanceLemmas
 pub mod BalanceRuns
-pub mod MakeLemmas
-pub mod SlotRuns
 pub mod SpawnReadyRuns
+pub mod WaitRates
 pub mod WaitsLemmas
 pub mod WorkerRuns

@@ -1,5 +1,5 @@
 -- What a `SpawnReady` is asked is a run of the service that is here, and a poll of a task one of the service in it.
-use Rattle.std.proofs.Common.{◌≡◌, ◌⊎◌, ℕ, zero, suc, Bool, true, false, inl, inr, ⊎_elim, refl, ap, sym, ◌∙◌, subst, List, [], Option, Some, None, Result, Ok, Err}
+use Rattle.std.proofs.Common.{◌≡◌, ℕ, zero, suc, Bool, true, false, inl, inr, ⊎_elim, refl, ap, sym, ◌∙◌, subst, [], Option, Some, None, Result, Ok, Err}
 use Rattle.futures.specs.declared.task.Poll.{Poll}
 use Rattle.futures.specs.declared.task.Poll.TheVariants.{Ready, Pending}
 use Rattle.tower_base.specs.Passes.{Goes}
@@ -10,18 +10,18 @@ use Rattle.tower_latch.specs.declared.Latch.{Ghosts as LatchOf}
 use Rattle.tower_base.specs.declared.service.Executor.{Ghosts as ExecutorOf}
 use Rattle.tower_base.specs.declared.service.Service.{Ghosts as ServiceOf}
 use Rattle.tower_ware.proofs.RunsLemmas.{after}
-use Rattle.tower.specs.Projections.{FromHere, IsHereAgain, RunsHere, EndsWith, RunsInTask}
-use Rattle.tower.specs.SpawnReady.{SpawnReadyView, AfterReadiness, Drives, TaskStepped, AfterReply, AfterSpawn, HandsOver, AfterPoll, PassAt, Pass, Polled, Called, tells}
-use Rattle.tower.specs.declared.spawn_ready.error.Error.{Error}
-use Rattle.tower.specs.declared.spawn_ready.slot_core.Slot.{Slot}
-use Rattle.tower.specs.declared.spawn_ready.slot_core.SlotStep.{SlotStep}
-use Rattle.tower.specs.declared.spawn_ready.slot_core.SlotStep.TheVariants.{Look, Aborted}
-use Rattle.tower.specs.declared.spawn_ready.slot_core.SlotReply.{SlotReply}
-use Rattle.tower.specs.declared.spawn_ready.slot_core.SlotReply.TheVariants.{Done, Back, Truth, Waiting, Service, Error as Failed, Lost, Unknown}
-use Rattle.tower.specs.declared.spawn_ready.task.Held.{Held}
-use Rattle.tower.specs.declared.spawn_ready.task.ReadyTask.{ReadyTask}
+use Rattle.tower.specs.Projections.{FromHere, IsHereAgain, RunsHere, RunsInTask}
+use Rattle.tower_pool.specs.SpawnReady.{SpawnReadyView, AfterReadiness, Drives, TaskStepped, AfterReply, AfterSpawn, HandsOver, AfterPoll, PassAt, Pass, Polled, Called, tells}
+use Rattle.tower_pool.specs.declared.spawn_ready.error.Error.{Error}
+use Rattle.tower_pool.specs.declared.spawn_ready.slot_core.Slot.{Slot}
+use Rattle.tower_pool.specs.declared.spawn_ready.slot_core.SlotStep.{SlotStep}
+use Rattle.tower_pool.specs.declared.spawn_ready.slot_core.SlotStep.TheVariants.{Look, Aborted}
+use Rattle.tower_pool.specs.declared.spawn_ready.slot_core.SlotReply.{SlotReply}
+use Rattle.tower_pool.specs.declared.spawn_ready.slot_core.SlotReply.TheVariants.{Done, Back, Truth, Waiting, Service, Error as Failed, Lost, Unknown}
+use Rattle.tower_pool.specs.declared.spawn_ready.task.Held.{Held}
+use Rattle.tower_pool.specs.declared.spawn_ready.task.ReadyTask.{ReadyTask}
 
-module _ {S Q A E F L : Type 0} (s : ServiceOf S Q A E F) (l : LatchOf L (Slot S E) (SlotStep S E) (SlotReply S E)) where
+module _ {S Q A E F L : Type 0} (s : ServiceOf S Q A E F) (l : LatchOf L (Slot S E) (SlotStep S E) (SlotReply S E) (Unit {0})) where
   extended : (old : Option S) (mid new : S) → FromHere s l old mid → RunInside (relations s) (λ x. x ≡ []) mid new → FromHere s l old new
   extended (Some service) mid new first second = after (relations s) service mid new first second
   extended None mid new first second = first

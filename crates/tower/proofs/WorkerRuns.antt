@@ -1,18 +1,18 @@
 -- A poll of a buffer's worker is a run of its service, with the requests of messages alone.
-use Rattle.std.proofs.Common.{◌≡◌, ℕ, zero, suc, Bool, true, false, inl, inr, ⊎_elim, refl, ap, sym, ◌∙◌, subst, List, [], ◌∷◌, ◌++◌, Option, Some, None, IfSome, Result, Ok, Err}
+use Rattle.std.proofs.Common.{◌≡◌, ℕ, zero, suc, Bool, true, false, inl, inr, ⊎_elim, refl, sym, subst, List, [], ◌∷◌, ◌++◌, Option, Some, None, IfSome, Result, Ok, Err}
 use Rattle.std.specs.List.{AllByRecursion}
 use Rattle.futures.specs.declared.task.Poll.{Poll}
 use Rattle.futures.specs.declared.task.Poll.TheVariants.{Ready, Pending}
 use Rattle.tower_base.specs.Passes.{Goes}
-use Rattle.tower_base.specs.ServiceRun.{Relations, relations, Action, requests}
+use Rattle.tower_base.specs.ServiceRun.{relations, Action, requests}
 use Rattle.tower_base.specs.Projection.{RunInside}
 use Rattle.tower_base.specs.ProjectionLemmas.{joined, requests_joined, no_action, one_poll}
 use Rattle.tower_base.specs.declared.service.Service.{Ghosts as ServiceOf}
-use Rattle.tower_pool.specs.Worker.{WorkerView, AfterLive, AfterMessage, AfterPoll, AfterTake, Pass, PassAt, Serves, Stepped}
-use Rattle.tower_pool.specs.declared.buffer.mail.MailStep.{MailStep}
-use Rattle.tower_pool.specs.declared.buffer.mail.MailStep.TheVariants.{Take}
-use Rattle.tower_pool.specs.declared.buffer.mail.MailReply.{MailReply}
-use Rattle.tower_pool.specs.declared.buffer.mail.MailReply.TheVariants.{Message, Cleared, Empty, End, Truth, Unknown}
+use Rattle.tower_buffer.specs.Worker.{WorkerView, AfterLive, AfterMessage, AfterPoll, AfterTake, Pass, PassAt, Serves, Stepped}
+use Rattle.tower_buffer.specs.declared.buffer.mail.MailStep.{MailStep}
+use Rattle.tower_buffer.specs.declared.buffer.mail.MailStep.TheVariants.{Take}
+use Rattle.tower_buffer.specs.declared.buffer.mail.MailReply.{MailReply}
+use Rattle.tower_buffer.specs.declared.buffer.mail.MailReply.TheVariants.{Message, Cleared, Empty, End, Truth, Unknown}
 use Rattle.tower.specs.Projections.{IsMessage, RunsInWorker}
 
 all_append : {X : Type 0} (P : X → Type 0) (xs ys : List X) → AllByRecursion P xs → AllByRecursion P ys → AllByRecursion P (xs ++ ys)

@@ -1,9 +1,5 @@
-pub mod Balance
-pub mod BalanceReady
-pub mod MakeBalance
 pub mod Projections
-pub mod Slot
-pub mod SlotLaws
-pub mod SpawnReady
-pub mod SpawnReadyReady
+pub mod Refusal
+pub mod WaitRuns
+pub mod WaitRunsLemmas
 pub mod Waits

@@ -1,12 +1,12 @@
 -- Which actions on hedges, a `SpawnReady` and a `Balance` reach the services inside, and what a buffer's worker does to its service.
-use Rattle.std.proofs.Common.{◌≡◌, ◌⊎◌, ℕ, true, Contains, inl, inr, refl, ap, subst, sym, Option, Some, None, Result, Ok, Err, List, []}
+use Rattle.std.proofs.Common.{◌≡◌, ◌⊎◌, ℕ, true, Contains, inl, inr, refl, ap, subst, sym, Option, Some, None, Result, Ok, List, []}
 use Rattle.std.specs.Bool.{⊤}
 use Rattle.std.specs.List.{AllByRecursion}
 use Rattle.std.specs.declared.clone.Clone.{Ghosts as CloneOf}
 use Rattle.std.specs.declared.convert.Infallible.{Infallible}
 use Rattle.futures.specs.declared.task.Poll.{Poll}
 use Rattle.futures.specs.declared.task.Poll.TheVariants.{Ready, Pending}
-use Rattle.tower_base.specs.ServiceRun.{Relations, relations, Action, Takes}
+use Rattle.tower_base.specs.ServiceRun.{Relations, relations, Action}
 use Rattle.tower_base.specs.Projection.{Once, MappedOrNone, Never, Projects, RunInside}
 use Rattle.tower_base.specs.ProjectionLemmas.{forwards, no_action, one_poll, one_call}
 use Rattle.tower_base.specs.Sleep.{SleepView}
@@ -29,20 +29,20 @@ use Rattle.tower_util.specs.declared.util.oneshot.State.TheVariants.{NotReady}
 use Rattle.tower_ware.specs.declared.filter.error.Error.{Error as FilterError}
 use Rattle.tower_limit.specs.Discover.{Found, MayInsert}
 use Rattle.tower_pool.specs.ReadyCache.{PendingView}
-use Rattle.tower_pool.specs.Worker.{WorkerView}
-use Rattle.tower_pool.specs.declared.buffer.mail.MailStep.{MailStep}
-use Rattle.tower_pool.specs.declared.buffer.mail.MailStep.TheVariants.{Take}
-use Rattle.tower_pool.specs.declared.buffer.mail.MailReply.{MailReply}
-use Rattle.tower_pool.specs.declared.buffer.mail.MailReply.TheVariants.{Message}
-use Rattle.tower.specs.Balance.{BalanceView, Sound as BalanceSound}
-use Rattle.tower.specs.SpawnReady as Sp
-use Rattle.tower.specs.declared.spawn_ready.error.Error.{Error as SpawnError}
-use Rattle.tower.specs.declared.spawn_ready.slot_core.Slot.{Slot}
-use Rattle.tower.specs.declared.spawn_ready.slot_core.SlotStep.{SlotStep}
-use Rattle.tower.specs.declared.spawn_ready.slot_core.SlotStep.TheVariants.{Put, PutError, Look, Aborted}
-use Rattle.tower.specs.declared.spawn_ready.slot_core.SlotReply.{SlotReply}
-use Rattle.tower.specs.declared.spawn_ready.slot_core.SlotReply.TheVariants.{Service}
-use Rattle.tower.specs.declared.spawn_ready.task.Held.{Held}
+use Rattle.tower_buffer.specs.Worker.{WorkerView}
+use Rattle.tower_buffer.specs.declared.buffer.mail.MailStep.{MailStep}
+use Rattle.tower_buffer.specs.declared.buffer.mail.MailStep.TheVariants.{Take}
+use Rattle.tower_buffer.specs.declared.buffer.mail.MailReply.{MailReply}
+use Rattle.tower_buffer.specs.declared.buffer.mail.MailReply.TheVariants.{Message}
+use Rattle.tower_pool.specs.Balance.{BalanceView, Sound as BalanceSound}
+use Rattle.tower_pool.specs.SpawnReady as Sp
+use Rattle.tower_pool.specs.declared.spawn_ready.error.Error.{Error as SpawnError}
+use Rattle.tower_pool.specs.declared.spawn_ready.slot_core.Slot.{Slot}
+use Rattle.tower_pool.specs.declared.spawn_ready.slot_core.SlotStep.{SlotStep}
+use Rattle.tower_pool.specs.declared.spawn_ready.slot_core.SlotStep.TheVariants.{Put, PutError, Look, Aborted}
+use Rattle.tower_pool.specs.declared.spawn_ready.slot_core.SlotReply.{SlotReply}
+use Rattle.tower_pool.specs.declared.spawn_ready.slot_core.SlotReply.TheVariants.{Service}
+use Rattle.tower_pool.specs.declared.spawn_ready.task.Held.{Held}
 
 -- The policy of a `Select`, at some value of it, may make this copy of the request.
 abbrev pub Copies : {P Q : Type 0} → SelectPolicyOf P Q → Q → Q → Type 0
@@ -104,7 +104,7 @@ module _ {N Q A E F : Type 0} (n : ServiceOf N Q A (SelectError E (DelayError (F
   hedge old (Action.poll answer) new takes = one_poll (relations n) old new takes.inner takes.polled refl
   hedge old (Action.call request future) new takes = one_call (relations n) old new request future takes.0 takes.1 refl
 
-module _ {S Q A E F L : Type 0} (s : ServiceOf S Q A E F) (l : LatchOf L (Slot S E) (SlotStep S E) (SlotReply S E)) where
+module _ {S Q A E F L : Type 0} (s : ServiceOf S Q A E F) (l : LatchOf L (Slot S E) (SlotStep S E) (SlotReply S E) (Unit {0})) where
   -- a run without calls, from the service that was here
   abbrev pub FromHere : Option S → S → Type 0
   FromHere (Some old) new = RunInside (relations s) (λ x. x ≡ []) old new

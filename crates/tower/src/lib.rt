@@ -1,20 +1,20 @@
 //! Middleware for services, each proved against its machine: the Rust's `tower`.
 #![tactic(auto)]
 
-pub mod balance;
 pub mod builder;
 pub mod layer;
 pub mod projection;
-pub mod spawn_ready;
 pub mod util;
 
 pub use builder::ServiceBuilder;
 pub use layer::Layer;
 pub use tower_base::service::Service;
 pub use tower_base::{drive, run, service};
+pub use tower_buffer::buffer;
 pub use tower_latch as latch;
 pub use tower_limit::{discover, limit, load};
-pub use tower_pool::{buffer, ready_cache};
+pub use tower_pool::{balance, ready_cache, spawn_ready};
+pub use tower_refusal::{Cause, Own, Refusal, StackError};
 pub use tower_retry::{hedge, retry};
 pub use tower_util::make;
 pub use tower_util::make::MakeService;

@@ -4,22 +4,22 @@
 ghost use Rattle.tower_base.specs.ServiceRun.{Takes, relations};
 ghost use Rattle.tower_base.specs.Projection.{AtMostOnce, ByAction, MappedOrNone, Never, Once, Projects};
 ghost use Rattle.tower_retry.specs.Delay.{Stepped as DelayStepped};
-ghost use Rattle.tower_pool.specs.Worker.{Stepped as WorkerStepped};
-ghost use Rattle.tower.specs.Balance.{view_of as view_of_balance};
+ghost use Rattle.tower_buffer.specs.Worker.{Stepped as WorkerStepped};
+ghost use Rattle.tower_pool.specs.Balance.{view_of as view_of_balance};
 ghost use Rattle.tower.specs.Projections.{Copies, EachEndpoint, LedTo, MayBeEndpoint, RunsHere, RunsInDelay, RunsInTask, RunsInWorker};
-ghost use Rattle.tower.specs.SpawnReady.{TaskStepped, view_of};
+ghost use Rattle.tower_pool.specs.SpawnReady.{TaskStepped, view_of};
 
-use crate::balance::p2c::Balance;
-use crate::spawn_ready::{ReadyTask, SlotCore, SpawnReady};
 use std::convert::Infallible;
 use std::hash::Hash;
 use tower_base::service::{Clock, Executor, Service, Steps};
 use tower_base::util::rng::Rng;
+use tower_buffer::buffer::MailCore;
 use tower_latch::Latch;
 use tower_latch::held::{Pollable, Viewed};
 use tower_limit::discover::Discover;
 use tower_limit::load::Load;
-use tower_pool::buffer::MailCore;
+use tower_pool::balance::p2c::Balance;
+use tower_pool::spawn_ready::{ReadyTask, SlotCore, SpawnReady};
 use tower_retry::hedge::Flat;
 use tower_retry::hedge::delay::{self, Delay};
 use tower_retry::hedge::latency::{Latency, Record};

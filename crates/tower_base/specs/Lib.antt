@@ -8,6 +8,7 @@ pub mod Driver
 pub mod Ends
 pub mod Gives
 pub mod GivesLemmas
+pub mod LastPass
 pub mod Links
 pub mod LinksLends
 pub mod Monotonic

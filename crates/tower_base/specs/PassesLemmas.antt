@@ -34,3 +34,21 @@ module _ {V A : Type 0} (pass : V → Option A → V → Type 0) where
   pub passes_last : (tired answer : A) (old new : V) → ¬ (answer ≡ tired) → (p : Passes pass tired old answer new)
       → pass p.last (Some answer) new
   passes_last tired answer old new other p = ⊎_elim (λ answered. answered.1) (λ out. absurd (other out.1)) p.ends
+
+module _ {V A : Type 0} (pass other : V → Option A → V → Type 0) where
+  -- Passes of one kind that are of another kind too go as that one.
+  pub goes_map : ((old : V) (answer : Option A) (new : V) → pass old answer new → other old answer new) → (n : ℕ) (old new : V)
+      → Goes pass n old new → Goes other n old new
+  unfolding Goes
+  goes_map map zero old new went = went
+  goes_map map (suc n) old new went = (went.0, goes_map map n old went.0 went.1, map went.0 None new went.2)
+
+  -- A poll that consists of passes of one kind consists of those of another, if each is one.
+  pub passes_map : ((old : V) (answer : Option A) (new : V) → pass old answer new → other old answer new) → (tired : A) (old : V) (answer : A) (new : V)
+      → Passes pass tired old answer new → Passes other tired old answer new
+  passes_map map tired old answer new p = record {
+    count = p.count;
+    last = p.last;
+    went = goes_map map p.count old p.last p.went;
+    ends = ⊎_elim (λ h. inl (h.0, map p.last (Some answer) new h.1)) (λ h. inr h) p.ends;
+  }

@@ -181,6 +181,22 @@ impl<T> Links<T> {
         stands_linked(place)
     }
 
+    /// Returns the value under the key, whether it is in the order or not, as `get` does. Reaches one
+    /// entry, and counts no touch.
+    pub fn peek(&self, key: usize) -> Option<&T>
+        ensures { option_copied result ≡ get self.now.entries key }
+    {
+        self.cells.peek(key)
+    }
+
+    /// Returns whether the value under the key is in the order, as `is_linked` does. Reaches one entry,
+    /// and counts no touch.
+    pub fn peek_linked(&self, key: usize) -> bool
+        ensures { result ≡ has self.now.order key }
+    {
+        stands_linked(self.cells.peek_place(key))
+    }
+
     /// Replaces the value under the key, and returns the old one.
     pub fn replace(&mut self, key: usize, value: T) -> T
         requires { ContainsKey self.old.entries key }

@@ -1,7 +1,8 @@
 //! Services, the futures and streams that they use, clocks and executors.
-ghost use Rattle.std.specs.Prelude.{◌≡◌, ◌≢◌, ⊤, ℕ, Result, Ok, ◌↔◌, IsTrue, IfErr, OnSome, Option};
-ghost use Rattle.futures.specs.Task.{Covers, Keeps, IsArmed};
+ghost use Rattle.std.specs.Prelude.{◌≡◌, ◌≢◌, ◌⊎◌, ⊤, ℕ, true, Result, Ok, ◌↔◌, IsTrue, IfErr, OnSome, Option};
+ghost use Rattle.futures.specs.Task.{Covers, Hears, Keeps, IsArmed};
 ghost use Rattle.futures.specs.Poll.{OnPending, IfReady};
+ghost use Rattle.futures.specs.declared.task.context.Context.{Context};
 ghost use Rattle.futures.specs.declared.task.Poll.{Poll};
 ghost use Rattle.tower_base.specs.Monotonic.{IsMonotonic};
 ghost use Rattle.futures.specs.declared.task.Poll.TheVariants.{Ready};
@@ -10,12 +11,14 @@ mod plain;
 mod polled;
 mod sleep;
 mod spawners;
+mod stepping;
 mod system;
 
 use futures::stream::Stream;
 use futures::task::{Context, Poll};
 pub use polled::Polled;
 pub use sleep::Sleep;
+pub use stepping::Stepping;
 pub use system::SystemClock;
 
 /// A future whose poll is specified by a relation, which proofs about its users may use.
@@ -82,15 +85,21 @@ pub trait Service<Request>: Drop {
     // A poll of readiness may return this and leave the second value.
     ghost polled: { Self → Poll (Result (Unit {0}) Self.Error) → Self → Type 0 } = { λ _ _ _. ⊤ };
 
+    // Holds for each source that a pending poll of readiness waits for. If this is left out, it isn't
+    // known where it waits.
+    ghost needs: { Self → ℕ → Type 0 } = { λ _ _. ⊥ };
+
     // A call with the request may return this future and leave the second value.
     ghost called: { Self → Request → Self.Future → Self → Type 0 } = { λ _ _ _ _. ⊤ };
 
-    /// Polls the service's readiness for a call. An error means that the service can't be used any more.
+    /// Polls the service's readiness for a call. An error means that the service can't be used any more,
+    /// but for one that says otherwise: a `Reconnect` and a `Balance` go on.
     fn poll_ready(&mut self, cx: &mut Context<'_>) -> Poll<Result<(), Self::Error>>
         requires { sound self.old }
         ensures polled { polled self.old result self.new }
         ensures sound { sound self.new }
         ensures armed { OnPending result (IsArmed cx.new) }
+        ensures heard { OnPending result ((s : ℕ) → needs self.new s → Hears cx.new s) }
         ensures kept { Keeps cx.old cx.new };
 
     /// Calls the service with the request, and returns the future of its response.
@@ -118,6 +127,13 @@ pub trait Clock: Drop {
     // known to agree.
     ghost shared: { Self → Self → Type 0 } = { λ _ _. ⊤ };
 
+    // Holds for each source at which `wake_at` leaves the task.
+    ghost hears: { Self → ℕ → Type 0 } = { λ _ _. ⊤ };
+
+    // The context shows that the task is polled again by this moment. If this is left out, it isn't
+    // known.
+    ghost wakes_by: { Self → ℕ → Context → Type 0 } = { λ _ _ _. ⊤ };
+
     /// Reads the clock and returns the current moment, in nanoseconds.
     fn now(&mut self) -> u64
         ensures moment { result ≡ reading self.new }
@@ -126,6 +142,19 @@ pub trait Clock: Drop {
     /// Returns another handle to the same clock. It doesn't allocate, and doesn't read the clock.
     fn share(&self) -> Self
         ensures { shared self.now result };
+
+    /// Has the task polled again at the deadline, or soon after it, or sooner: a moment of this clock, in
+    /// nanoseconds. Doesn't read the clock. If this is left out, the task is polled again at once, and so
+    /// is busy all the while.
+    fn wake_at(&mut self, _deadline: u128, cx: &mut Context<'_>)
+        ensures registered { Covers cx.new (hears self.new) }
+        ensures timed { (cx.new.is_woken ≡ true) ⊎ wakes_by self.new _deadline cx.new }
+        ensures kept { Keeps cx.old cx.new }
+        ensures same { reading self.new ≡ reading self.old }
+        ensures unread { (first : Self) → read first self.old → read first self.new }
+    {
+        let _pending: Poll<()> = cx.yield_now();
+    }
 }
 
 /// A clock that never goes back: no reading is before the last one.

@@ -1,10 +1,11 @@
 //! Rounds of the line of permits itself.
 
-use futures::task::{Context, Poll};
+use futures::task::{Context, Doorbell, Poll, Solo};
 use std::alloc::{AllocError, AllocGlobal, Global};
+use std::random::RandomSource;
 use std::sync::Wait;
-use tower::latch::Core;
-use tower::limit::concurrency::{LineCore, LineReply, LineStep, PollSemaphore, Semaphore};
+use tower::latch::{Core, Guarded};
+use tower::limit::concurrency::{LineCore, LineReply, LineStep, Permit, PollSemaphore, Semaphore};
 
 /// What a round asks of a line of no permits.
 #[derive(Clone, Copy)]
@@ -40,7 +41,7 @@ impl Line {
     pub fn sum(self, alloc: Global, waiters: u64, count: u64) -> Result<u64, AllocError> {
         let mut core = LineCore::new(alloc, 0);
         for _ in 0..waiters {
-            if core.step(LineStep::Join) == LineReply::Memory {
+            if core.step(LineStep::Join).0 == LineReply::Memory {
                 return Err(AllocError);
             }
         }
@@ -54,15 +55,15 @@ impl Line {
     // One round. The waiters' keys are counted from 0 on, and who joins gets the key that was left last.
     fn round(self, core: &mut LineCore, waiters: u64, number: u64) -> u64 {
         match self {
-            Line::Look => number_of(core.step(LineStep::Look(waiters.wrapping_sub(1)))),
+            Line::Look => number_of(core.step(LineStep::Look(waiters.wrapping_sub(1))).0),
             Line::JoinCancel => {
-                let key = number_of(core.step(LineStep::Join));
-                key.wrapping_add(number_of(core.step(LineStep::Cancel(key))))
+                let key = number_of(core.step(LineStep::Join).0);
+                key.wrapping_add(number_of(core.step(LineStep::Cancel(key)).0))
             }
             Line::CancelOldest => {
                 let oldest = number.checked_rem(waiters).unwrap_or(0);
-                let left = number_of(core.step(LineStep::Cancel(oldest)));
-                left.wrapping_add(number_of(core.step(LineStep::Join)))
+                let left = number_of(core.step(LineStep::Cancel(oldest)).0);
+                left.wrapping_add(number_of(core.step(LineStep::Join).0))
             }
         }
     }
@@ -95,27 +96,57 @@ pub fn take_give<R: Wait + AllocGlobal + Copy>(
     Ok(sum)
 }
 
-/// So many wait for the permit of a semaphore of one. In a round the holder gives it back, the next one takes it, and the
-/// giver waits behind all others. It answers the sum of the rounds in which the next one had it.
-pub fn contended<R: Wait + AllocGlobal + Copy>(
+/// Asks for a permit, as a task of its own.
+#[derive(Drop)]
+struct Asker<R: Wait + Copy> {
+    asking: PollSemaphore<Guarded<LineCore, R>>,
+    task: Solo,
+}
+
+impl<R: Wait + RandomSource + AllocGlobal + Copy> Asker<R> {
+    fn new(rt: R, semaphore: Semaphore<Guarded<LineCore, R>>) -> Result<Asker<R>, AllocError> {
+        match Solo::new(&rt, Doorbell::spinning()) {
+            Ok(task) => Ok(Asker {
+                asking: PollSemaphore::new(semaphore),
+                task,
+            }),
+            Err(_) => Err(AllocError),
+        }
+    }
+
+    // Polls once.
+    fn ask(&mut self) -> Option<Permit<Guarded<LineCore, R>>> {
+        let mut cx = self.task.begin();
+        let polled = self.asking.poll_acquire(&mut cx);
+        cx.cancel();
+        match polled {
+            Poll::Ready(Ok(permit)) => Some(permit),
+            _ => None,
+        }
+    }
+}
+
+/// So many tasks wait for the permit of a semaphore of one. In a round the holder gives it back, which
+/// wakes the next task; that one takes it, and the giver waits behind all others. Returns the sum of the
+/// rounds in which the next one had it.
+pub fn contended<R: Wait + RandomSource + AllocGlobal + Copy>(
     rt: R,
-    cx: &mut Context<'_>,
     waiters: usize,
     count: u64,
 ) -> Result<u64, AllocError> {
     let semaphore = Semaphore::new(rt, rt.alloc(), 1)?;
-    let mut asking = Vec::new(rt.alloc());
+    let mut askers = Vec::new(rt.alloc());
     for _ in 0..waiters {
-        asking
-            .push(PollSemaphore::new(semaphore.share()?))
+        askers
+            .push(Asker::new(rt, semaphore.share()?)?)
             .map_err(|_| AllocError)?;
     }
-    asking
-        .push(PollSemaphore::new(semaphore))
+    askers
+        .push(Asker::new(rt, semaphore)?)
         .map_err(|_| AllocError)?;
     let mut held = None;
-    for one in asking.iter_mut() {
-        if let Poll::Ready(Ok(permit)) = one.poll_acquire(cx) {
+    for asker in askers.iter_mut() {
+        if let Some(permit) = asker.ask() {
             held = Some(permit);
         }
     }
@@ -124,14 +155,14 @@ pub fn contended<R: Wait + AllocGlobal + Copy>(
         held = None;
         let giver = at;
         at = if at < waiters { at + 1 } else { 0 };
-        if let Some(next) = asking.get_mut(at) {
-            if let Poll::Ready(Ok(permit)) = next.poll_acquire(cx) {
-                held = Some(permit);
-                sum = sum.wrapping_add(number);
-            }
+        if let Some(next) = askers.get_mut(at) {
+            held = next.ask();
         }
-        if let Some(giver) = asking.get_mut(giver) {
-            drop(giver.poll_acquire(cx));
+        if held.is_some() {
+            sum = sum.wrapping_add(number);
+        }
+        if let Some(giver) = askers.get_mut(giver) {
+            drop(giver.ask());
         }
     }
     drop(held);

@@ -14,6 +14,7 @@ mod retries;
 mod rounds;
 mod sizes;
 mod stacks;
+mod waits;
 
 use fault::Fault;
 use futures::task::{Context, Doorbell, Solo};
@@ -71,7 +72,7 @@ fn rounds_of<R, O>(
     out: &mut O,
 ) -> Result<(), Fault>
 where
-    R: Wait + AllocGlobal + Copy,
+    R: Wait + RandomSource + AllocGlobal + Copy,
     O: Write,
 {
     let stack = Stack::named(name).ok_or(Fault::Usage)?;

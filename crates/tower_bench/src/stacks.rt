@@ -6,10 +6,11 @@ use crate::flights::Flight;
 use crate::inner::{Echo, Maker, Pace};
 use crate::lines::Line;
 use crate::rounds::{AtOnce, Course, InFlight, rounds};
-use crate::{buffers, hedges, lines, maps, retries};
+use crate::{buffers, hedges, lines, maps, retries, waits};
 use futures::future::{ok, ready};
 use futures::task::Context;
 use std::alloc::{AllocError, AllocGlobal};
+use std::random::RandomSource;
 use std::sync::Wait;
 use tower::Service;
 use tower::filter::{Filter, PredicateFn};
@@ -57,12 +58,16 @@ pub enum Stack {
     SpawnReady,
     /// A semaphore alone: a permit is taken and given back.
     Semaphore,
-    /// A semaphore of one, with so many waiters.
+    /// A semaphore of one, for which so many tasks wait.
     Contended(usize),
     /// The line of permits alone, with so many waiters.
     Line(Line, u64),
     /// A balancer or a cache, with so many endpoints.
     Pool(Pool, usize),
+    /// `block_on_call` under a timeout, by one waiter.
+    Waiter,
+    /// The same, by a waiter for each call.
+    WaiterAnew,
     /// Responses that are under way in a table.
     Flight(Flight),
 }
@@ -89,6 +94,8 @@ impl Stack {
             b"buffer_64" => Some(Stack::Buffer),
             b"spawn_ready" => Some(Stack::SpawnReady),
             b"semaphore_take_give" => Some(Stack::Semaphore),
+            b"block_on_call" => Some(Stack::Waiter),
+            b"block_on_call_anew" => Some(Stack::WaiterAnew),
             _ => Stack::of_parts(name),
         }
     }
@@ -112,7 +119,7 @@ impl Stack {
     }
 
     /// Makes so many rounds, and answers the sum of their responses.
-    pub fn sum<R: Wait + AllocGlobal + Copy>(
+    pub fn sum<R: Wait + RandomSource + AllocGlobal + Copy>(
         self,
         rt: R,
         cx: &mut Context<'_>,
@@ -157,9 +164,17 @@ impl Stack {
             Stack::Buffer => buffers::buffered(rt, cx, count),
             Stack::SpawnReady => buffers::spawned(rt, cx, &pace, count),
             Stack::Semaphore => lines::take_give(rt, cx, count),
-            Stack::Contended(waiters) => lines::contended(rt, cx, waiters, count),
+            Stack::Contended(waiters) => lines::contended(rt, waiters, count),
             Stack::Line(line, waiters) => line.sum(rt.alloc(), waiters, count),
             Stack::Pool(pool, endpoints) => pool.sum(rt, cx, &pace, endpoints, count),
+            Stack::Waiter => {
+                let service = Timeout::new(Echo, 10, pace.clock());
+                waits::by_one(&rt, service, &pace, count)
+            }
+            Stack::WaiterAnew => {
+                let service = Timeout::new(Echo, 10, pace.clock());
+                Ok(waits::anew(&rt, service, &pace, count))
+            }
             Stack::Flight(flight) => flight.run(rt, cx, &InFlight::new(rt, count)),
         }
     }

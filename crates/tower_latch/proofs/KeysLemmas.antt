@@ -1,11 +1,12 @@
 -- Lists of keys, of which no key stands twice.
-use Rattle.std.proofs.Common.{◌≡◌, ℕ, ◌+◌, ◌<◌, ◌≤◌, zero, suc, Bool, true, false, ◌&&◌, ◌||◌, not, eqb, List, [], ◌∷◌, ◌++◌, length, Some, slice_get, remove, refl, sym, ap, subst, ◌∙◌, inl, inr, arith}
+use Rattle.std.proofs.Common.{◌≡◌, ℕ, ◌+◌, ◌<◌, ◌≤◌, zero, suc, Bool, true, false, ◌&&◌, ◌||◌, not, eqb, List, [], ◌∷◌, ◌++◌, length, Some, ◌⊎◌, slice_get, remove, refl, sym, ap, subst, ◌∙◌, inl, inr, arith}
 use Rattle.std.proofs.lemmas.Bool.Decides.{eqb_tells}
 use Rattle.std.proofs.lemmas.Bool.{eq-eqb}
 use Rattle.std.proofs.lemmas.List.Folds.{list_any-append}
 use Rattle.std.proofs.lemmas.List.Elements.{filter-append}
 use Rattle.tower_base.specs.Order.{has, without, Apart}
 use Rattle.tower_latch.specs.Waiters.{are_apart}
+use Rattle.tower_latch.specs.declared.Wakes.TheVariants.{One}
 
 -- that keys are apart, as a fact and as a `Bool`
 pub apart_is : (keys : List ℕ) → are_apart keys ≡ true → Apart keys
@@ -183,3 +184,25 @@ pub apart_join : (a b : List ℕ) → Apart a → Apart b → ((key : ℕ) → h
 apart_join [] b apart others cross = others
 apart_join (x ∷ a) b apart others cross =
     (has_append a b x ∙ rw (apart.0, cross x (has_first x a)) refl, apart_join a b apart.1 others (λ key h. cross key (or_right (eqb key x) (has a key) h)))
+
+-- what is in a list is in it without a key, or is that key
+pub still_in : (order : List ℕ) (key at : ℕ) (new : List ℕ) → new ≡ without order key → has order at ≡ true → (has new at ≡ true) ⊎ (key ≡ at)
+still_in order key at new is had =
+    elim (eqb_tells at key) [
+      | inl same ↦ inr (sym same.1)
+      | inr differs ↦ inl (ap (λ l. has l at) is ∙ has_without_other order key at differs.0 ∙ had)
+    ]
+
+-- the one that was taken out of a list isn't in it
+pub one_gone : (old new : List ℕ) (gone : ℕ) → new ≡ without old gone → (key : ℕ) → One gone ≡ One key → ¬ (has new key ≡ true)
+one_gone old new gone is key same h =
+    let it : gone ≡ key = cc same in
+    not_both (has new key) h (ap (λ l. has l key) is ∙ ap (has (without old gone)) (sym it) ∙ has_without_same old gone)
+
+-- what is in a list without a key was in it before
+pub was_in : (old new : List ℕ) (key at : ℕ) → new ≡ without old key → has new at ≡ true → has old at ≡ true
+was_in old new key at is holds =
+    elim (eqb_tells at key) [
+      | inl same ↦ absurd (not_both (has new at) holds (ap (λ l. has l at) is ∙ ap (has (without old key)) same.1 ∙ has_without_same old key))
+      | inr differs ↦ sym (has_without_other old key at differs.0) ∙ sym (ap (λ l. has l at) is) ∙ holds
+    ]

@@ -6,3 +6,5 @@ pub mod Places
 pub mod Reaching
 pub mod WaitQueues
 pub mod Waiters
+pub mod Crowds
+pub mod Settling

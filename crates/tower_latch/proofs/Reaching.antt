@@ -1,8 +1,7 @@
 -- Runs of cores.
-use Rattle.std.proofs.Common.{◌≡◌, Bool, true, List, [], ◌∷◌, ◌++◌, refl, subst, inl, inr}
+use Rattle.std.proofs.Common.{List, [], ◌∷◌, ◌++◌, refl, subst}
 use Rattle.std.proofs.Math.Logic.{∥∥₁_map}
 use Rattle.tower_latch.specs.Latch.{Serves, Reached}
-use Rattle.tower_latch.specs.Guarded.{Rests}
 
 module _ {C S R : Type 0} (opens : C → Type 0) (steps : C → S → R → C → Type 0) where
   pub goes_on : (first old new : C) (s : S) (r : R) (served : List (S × R)) → Serves steps first served old → steps old s r new
@@ -13,12 +12,3 @@ module _ {C S R : Type 0} (opens : C → Type 0) (steps : C → S → R → C �
   -- a run goes on by one step
   pub reached_on : (old new : C) (s : S) (r : R) → steps old s r new → ∥ Reached opens steps old ∥₁ → ∥ Reached {S = S} {R = R} opens steps new ∥₁
   reached_on old new s r step had = ∥∥₁_map had (λ h. (h.0, h.1 ++ (s, r) ∷ [], h.2, goes_on h.0 old new s r h.1 h.3 step))
-
-  -- wakers may be kept after a step whose reply waits
-  pub rests_waiting : {W : Type 0} (is_wait : R → Bool) (old new : C) (s : S) (r : R) (waiters : List W) → steps old s r new → ∥ Reached opens steps old ∥₁
-      → is_wait r ≡ true → ∥ Rests {S = S} {R = R} opens steps is_wait new waiters ∥₁
-  rests_waiting is_wait old new s r waiters step had waits = ∣ inr (old, s, r, had, step, waits) ∣₁
-
-  -- none is kept
-  pub rests_empty : {W : Type 0} (is_wait : R → Bool) (core : C) (waiters : List W) → waiters ≡ [] → ∥ Rests {S = S} {R = R} opens steps is_wait core waiters ∥₁
-  rests_empty is_wait core waiters none = ∣ inl none ∣₁

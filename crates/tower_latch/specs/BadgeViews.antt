@@ -11,11 +11,7 @@ abbrev pub is_away : List View → Bool
 is_away (v ∷ []) = is_without v.has
 is_away _ = false
 
--- the number of places that it has, and the number that there are
+-- the number of places that it has
 abbrev pub out_by : List View → ℕ
 out_by (v ∷ []) = v.out
 out_by _ = 0
-
-abbrev pub size_by : List View → ℕ
-size_by (v ∷ []) = v.size
-size_by _ = 0

@@ -9,11 +9,8 @@ use Rattle.tower_latch.specs.declared.guarded.table.View.{View}
 use Rattle.tower_latch.specs.declared.guarded.token.Token.{Token}
 
 -- a seat with no place and without the core
-abbrev pub fresh : ℕ → View
-fresh size = record { size = size; out = 0; has = false; held = 0 }
-
-abbrev pub spent_view : View
-spent_view = fresh 0
+abbrev pub fresh : View
+fresh = record { out = 0; has = false; held = 0 }
 
 abbrev pub with_those : View → View → View
 with_those v w = record v { out = v.out + w.out }
@@ -28,18 +25,19 @@ has_of v = one_if v.has
 abbrev pub out_of : View → ℕ
 out_of v = v.out
 
-module _ {K : Type 0} (size out : K → ℕ) where
+-- `is` tells which cores it may be.
+module _ {K : Type 0} (is : K → Type 0) (out : K → ℕ) where
   -- If the word is 0, nobody has the core, which is at home, and all seats together have as many places as it counts. Otherwise one seat
   -- has the core, and knows how many places all seats have.
-  abbrev pub Agree : ℕ → State K View → Type 0
-  Agree tokens s = (w : ℕ) × (h : Option K) × (s.words ≡ w ∷ []) × (s.homes ≡ h ∷ [])
-      × (w ≡ 0 → (sum_by has_of s.views ≡ 0) × ((k : K) × (h ≡ some k) × (size k ≡ tokens) × (out k ≡ sum_by out_of s.views)))
+  abbrev pub Agree : State K View → Type 0
+  Agree s = (w : ℕ) × (h : Option K) × (s.words ≡ w ∷ []) × (s.homes ≡ h ∷ [])
+      × (w ≡ 0 → (sum_by has_of s.views ≡ 0) × ((k : K) × (h ≡ some k) × is k × (out k ≡ sum_by out_of s.views)))
       × (w ≢ 0 → sum_by has_of s.views ≡ 1)
       × ((by : ℕ) (v : View) → get_elem? s.views by ≡ some v → v.has ≡ true → v.held ≡ sum_by out_of s.views)
 
   -- The seat had this view, and has the core now.
   abbrev pub Holds : View → Me K View → Type 0
-  Holds v me = (k : K) × (me ≡ (record v { has = true; held = out k }, (0, k) ∷ [])) × (size k ≡ v.size)
+  Holds v me = (k : K) × (me ≡ (record v { has = true; held = out k }, (0, k) ∷ [])) × is k
 
   -- The same for a seat that was a badge.
   abbrev pub HoldsBadge : List View → Me K View → Type 0
@@ -50,12 +48,12 @@ module _ {K : Type 0} (size out : K → ℕ) where
   Taken at old found new = (found ≡ 0 → Holds old.0 new) × (found ≢ 0 → new ≡ old)
 
   -- The seat has the core, and knows how many places it counts.
-  abbrev pub HasCore : ℕ → Me K View → Type 0
-  HasCore tokens me = (k : K) × (me.1 ≡ (0, k) ∷ []) × (size k ≡ tokens) × (me.0.held ≡ out k)
+  abbrev pub HasCore : Me K View → Type 0
+  HasCore me = (k : K) × (me.1 ≡ (0, k) ∷ []) × is k × (me.0.held ≡ out k)
 
   -- The core may go back: it counts the places of the others, and any number for the seat.
-  abbrev pub MayFree : ℕ → Me K View → Type 0
-  MayFree tokens me = (k : K) × (me.1 ≡ (0, k) ∷ []) × (size k ≡ tokens) × (me.0.held ≤ me.0.out + out k)
+  abbrev pub MayFree : Me K View → Type 0
+  MayFree me = (k : K) × (me.1 ≡ (0, k) ∷ []) × is k × (me.0.held ≤ me.0.out + out k)
 
 module _ {K : Type 0} (out : K → ℕ) where
   -- The seat no longer has the core, and has those of the places that the core counts and others don't have.

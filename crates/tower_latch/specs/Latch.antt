@@ -1,5 +1,5 @@
 -- Runs of cores.
-use Rattle.std.specs.Prelude.{◌≡◌, ℕ, List, [], ◌∷◌}
+use Rattle.std.specs.Prelude.{◌≡◌, List, [], ◌∷◌}
 
 module _ {C S R : Type 0} where
   -- From the old value the steps, one after another, have these replies and lead to the new one.
@@ -11,9 +11,9 @@ module _ {C S R : Type 0} where
   abbrev pub Reached : (C → Type 0) → (C → S → R → C → Type 0) → C → Type 0
   Reached opens steps core = (first : C) × (served : List (S × R)) × opens first × Serves steps first served core
 
-  -- In some run from an opening value, of a core of this size, the step has this reply.
-  abbrev pub Came : (C → Type 0) → (C → S → R → C → Type 0) → (C → ℕ) → ℕ → S → R → Type 0
-  Came opens steps size tokens step reply = (old : C) × (new : C) × ∥ Reached opens steps old ∥₁ × steps old step reply new × (size old ≡ tokens)
+  -- In some run from an opening value, of a core with these terms, the step has this reply.
+  abbrev pub Came : {T : Type 0} → (C → Type 0) → (C → S → R → C → Type 0) → (C → T) → T → S → R → Type 0
+  Came opens steps terms its step reply = (old : C) × (new : C) × ∥ Reached opens steps old ∥₁ × steps old step reply new × (terms old ≡ its)
 
 -- A core that stands for plain values by the relation `stands`, and the machine of the plain values.
 module _ {C M S R : Type 0} (stands : C → M → Type 0) (machine : M → S → R → M → Type 0) where

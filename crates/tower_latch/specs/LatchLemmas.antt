@@ -16,6 +16,11 @@ module _ {C M S R : Type 0} (stands : C → M → Type 0) (machine : M → S →
 pub none_held : {C : Type 0} (opens : C → Type 0) (core : C) → opens core → ◌≡◌ {A = ℕ} 0 0
 none_held opens core opened = refl
 
-pub no_places : {C S R : Type 0} (steps : C → S → R → C → Type 0) (old : C) (step : S) (reply : R) (new : C) → steps old step reply new
-    → (◌≡◌ {A = ℕ} 0 0) × (◌≡◌ {A = ℕ} (0 + 0) (0 + 0)) × (0 ≤ 0)
-no_places steps old step reply new made = (refl, refl, omega arith)
+pub no_places : {C S R T : Type 0} (terms : C → T) (steps : C → S → R → C → Type 0) → ((old : C) (step : S) (reply : R) (new : C) → steps old step reply new → terms new ≡ terms old)
+    → (old : C) (step : S) (reply : R) (new : C) → steps old step reply new → (terms new ≡ terms old) × (◌≡◌ {A = ℕ} (0 + 0) (0 + 0)) × (0 ≤ 0)
+no_places terms steps same old step reply new made = (same old step reply new made, refl, omega arith)
+
+-- a core without places and without terms
+pub no_terms : {C S R : Type 0} (steps : C → S → R → C → Type 0) (old : C) (step : S) (reply : R) (new : C) → steps old step reply new
+    → (◌≡◌ {A = Unit {0}} tt tt) × (◌≡◌ {A = ℕ} (0 + 0) (0 + 0)) × (0 ≤ 0)
+no_terms steps = no_places (λ _. tt) steps (λ old step reply new made. refl)

@@ -10,3 +10,7 @@ pub mod Tokens
 pub mod Turns
 pub mod WaitQueue
 pub mod Waiters
+pub mod Wakes
+pub mod LatchMachine
+pub mod Group
+pub mod Woken

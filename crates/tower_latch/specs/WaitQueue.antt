@@ -1,6 +1,7 @@
 -- Which plain queues a `WaitQueue` stands for.
-use Rattle.std.specs.Prelude.{◌≡◌, ◌+◌, ℕ, List, ◌++◌, length}
+use Rattle.std.specs.Prelude.{◌≡◌, ◌+◌, ℕ, true, List, ◌++◌, length}
 use Rattle.tower_base.specs.Links.{LinksView}
+use Rattle.tower_base.specs.Order.{has}
 use Rattle.tower_latch.specs.Turns.{Turns}
 use Rattle.tower_latch.specs.Waiters.{Waits}
 use Rattle.tower_latch.specs.declared.wait_queue.WaitQueue.{WaitQueue}
@@ -33,3 +34,7 @@ StandsFor queue = StandsAs queue.granted queue.waiters
 -- From each plain queue that the old one stands for, the change leads to one that the new one stands for.
 abbrev pub Follows : WaitQueue → (Turns → Turns → Type 0) → WaitQueue → Type 0
 Follows old change new = (plain : Turns) → StandsFor old plain → (next : Turns) × change plain next × StandsFor new next
+
+-- Whoever looks with this key is told to wait.
+abbrev pub stalls : WaitQueue → ℕ → Type 0
+stalls queue key = has queue.waiters.order key ≡ true

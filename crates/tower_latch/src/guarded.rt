@@ -1,21 +1,22 @@
 //! A lock around a core.
-ghost use Rattle.std.specs.Prelude.{◌≡◌, ◌↔◌, ◌≤◌, ◌+◌, true, false, [], ◌∷◌, None, IfOk, IsTrue, MatchOption};
+ghost use Rattle.std.specs.Prelude.{◌≡◌, ◌≤◌, ◌+◌, ◌⊎◌, ℕ, true, false, [], ◌∷◌, IfOk, IsTrue, IsSomeAnd, None};
 ghost use Rattle.std.specs.Arc.{arc_value};
-ghost use Rattle.futures.specs.Task.{IsArmed, Keeps};
+ghost use Rattle.futures.specs.Task.{Hears, IsArmed, Keeps};
 ghost use Rattle.tower_latch.specs.Latch.{Reached, Came};
-ghost use Rattle.tower_latch.specs.Guarded.{GuardedView, Rests, IsKept, Counted};
+ghost use Rattle.tower_latch.specs.Guarded.{GuardedView, Settled, IsAlone, Counted};
+ghost use Rattle.tower_latch.specs.LatchMachine.{Turns, Waits};
 ghost use Rattle.tower_latch.specs.CoreTable.{fresh, Holds, HoldsBadge, HasCore, MayFree, LeavesBadge, places};
-ghost use Rattle.tower_latch.specs.BadgeViews.{size_by};
 
+mod crowd;
 mod table;
 mod token;
 mod waiters;
 
-use crate::guarded::table::{CoreTable, Frees, Gathers, Seat, Takes};
-use crate::{Core, Latch};
+use crate::guarded::table::{CoreTable, Frees, Gathers, Known, Seat, Takes};
+use crate::{Core, Latch, Wakes};
 use futures::task::{Context, Source};
 use std::alloc::{AllocError, Global};
-use std::marker::Model;
+use std::marker::{Brand, Model};
 use std::sync::atomic::{AtomicU64, Ordering};
 use std::sync::{Arc, Wait};
 pub use token::Token;
@@ -23,9 +24,9 @@ use waiters::{Waiters, Woken};
 
 /// A `Latch` that is a lock around a core.
 ///
-/// Wakers are kept beside the core, one for each task that waits through a share. A step whose reply
-/// doesn't wait wakes all of them, once the lock is free. If there is no memory to keep a waker, its
-/// task is woken at once.
+/// Wakers are kept beside the core by key, one for each task that waits there through a share. A step
+/// wakes those whom it names, once the lock is free. If there is no memory to keep a waker, its task is
+/// woken at once.
 #[derive(Drop)]
 pub struct Guarded<C: Core, R> {
     rt: R,
@@ -35,9 +36,9 @@ pub struct Guarded<C: Core, R> {
 }
 
 impl<C: Core, R> Model for Guarded<C, R> {
-    ghost Value = { GuardedView };
+    ghost Value = { GuardedView C.Terms };
 
-    ghost view = { λ g. record { share = g.share; table = (arc_value g.shared).table.shared.table_id; size = (arc_value g.shared).table.shared.key } };
+    ghost view = { λ g. record { share = g.share; source = (arc_value g.shared).source.id; table = (arc_value g.shared).table.shared.table_id; terms = (arc_value g.shared).table.shared.key } };
 }
 
 #[derive(Drop)]
@@ -55,9 +56,9 @@ pub struct Kept<C: Core> {
     waiters: Waiters,
     // A run from an opening core leads to this core.
     ghost reached: { ∥ Reached C.opens C.steps core ∥₁ },
-    // If a waker is kept, the last reply waits.
-    ghost rests: { ∥ Rests C.opens C.steps C.is_wait core waiters ∥₁ },
-    ghost within: { C.out core ≤ C.size core },
+    // Each key at which somebody waits stalls.
+    ghost settled: { ∥ Settled C.stalls core waiters ∥₁ },
+    ghost within: { C.out core ≤ C.size (C.terms core) },
 }
 
 impl<C: Core, R: Wait + Copy> Guarded<C, R> {
@@ -65,12 +66,12 @@ impl<C: Core, R: Wait + Copy> Guarded<C, R> {
     pub fn new(rt: R, alloc: Global, core: C) -> Result<Guarded<C, R>, AllocError>
         requires { C.opens core }
         ensures first { IfOk result (λ latch. ⟦<Guarded<C, R> as Latch<C>>⟧.is_first latch) }
-        ensures size { IfOk result (λ latch. ⟦<Guarded<C, R> as Latch<C>>⟧.size latch ≡ C.size core) }
+        ensures terms { IfOk result (λ latch. ⟦<Guarded<C, R> as Latch<C>>⟧.terms latch ≡ C.terms core) }
     {
-        let size = core.capacity();
+        let terms = core.terms();
         let mut slots = Vec::new(alloc);
         slots.push(Kept::new(alloc, core))?;
-        let Ok((table, _seat)) = CoreTable::<C>::new(alloc, &[0], slots, &size) else {
+        let Ok((table, _seat)) = CoreTable::<C>::new(alloc, &[0], slots, &terms) else {
             return Err(AllocError);
         };
         let shared = Shared {
@@ -87,64 +88,81 @@ impl<C: Core, R: Wait + Copy> Guarded<C, R> {
 
     // Locks, and takes the core.
     #[inline(always)]
-    fn lock(&self) -> Seat<C>
-        ensures has { Holds (λ k. C.size k.core) (λ k. C.out k.core) (fresh self.now.size) result.me }
+    fn lock<K: Known<C::Terms>>(&self) -> Seat<C>
+        requires { K.are self.now.terms }
+        ensures has { Holds (λ k. K.are (C.terms k.core)) (λ k. C.out k.core) fresh result.me }
         ensures its { result.table_id ≡ self.now.table }
     {
-        let (found, mut seat) = self.shared.table.shared.swap_new_seat::<Takes>(0, 1);
+        let (found, mut seat) = self.shared.table.shared.swap_new_seat::<Takes<K>>(0, 1);
         if found != 0 {
-            self.shared.lock_late(self.rt, &mut seat);
+            self.shared.lock_late::<R, K>(self.rt, &mut seat);
         }
         seat
     }
 
     // Locks, and takes the core for the token's holder.
     #[inline(always)]
-    fn lock_with(&self, token: Token) -> Seat<C>
+    fn lock_with<K: Known<C::Terms>>(&self, token: Token) -> Seat<C>
+        requires known { K.are self.now.terms }
         requires its { token.badge.table_id ≡ self.now.table }
-        requires size { size_by token.badge.views ≡ self.now.size }
-        ensures has { HoldsBadge (λ k. C.size k.core) (λ k. C.out k.core) token.badge.views result.me }
+        ensures has { HoldsBadge (λ k. K.are (C.terms k.core)) (λ k. C.out k.core) token.badge.views result.me }
         ensures its { result.table_id ≡ self.now.table }
     {
         let mut seat = token.into_seat::<C>();
-        if self.shared.table.shared.swap::<Takes>(&mut seat, 0, 1) != 0 {
-            self.shared.lock_late(self.rt, &mut seat);
+        if self.shared.table.shared.swap::<Takes<K>>(&mut seat, 0, 1) != 0 {
+            self.shared.lock_late::<R, K>(self.rt, &mut seat);
         }
         seat
     }
 
-    // Makes one step, with wakers beside the core.
+    // Makes one step, with wakers beside the core. They are woken once the lock is free. Apart from the
+    // steps of `Latch`, so that those have no place for the woken if no waker is kept.
     #[inline(always)]
-    fn step_and_wake(&self, seat: Seat<C>, step: C::Step) -> (C::Reply, Token)
+    fn step_and_wake(&self, mut seat: Seat<C>, step: C::Step) -> (C::Reply, Token)
         requires admitted { C.admits step }
         requires paid { (reply : C.Reply) → C.paid step reply ≤ seat.me.0.out }
         requires its { seat.table_id ≡ self.now.table }
         requires has { seat.me.0.has ≡ true }
-        requires core { HasCore (λ k. C.size k.core) (λ k. C.out k.core) self.now.size seat.me }
-        ensures came { Came C.opens C.steps C.size self.now.size step result.0 }
+        requires core { HasCore (λ k. C.terms k.core ≡ self.now.terms) (λ k. C.out k.core) seat.me }
+        ensures came { Came C.opens C.steps C.terms self.now.terms step result.0 }
         ensures its { result.1.badge.table_id ≡ self.now.table }
-        ensures size { size_by result.1.badge.views ≡ seat.me.0.size }
         ensures places { places result.1 + C.paid step result.0 ≡ seat.me.0.out + C.gained result.0 }
+        ensures held { (old : C) × (new : C) × C.steps old step result.0 new × (seat.me.0.out ≤ C.out old) }
     {
-        self.shared.step_and_wake(seat, step)
+        let kept = seat.slot_mut(&self.shared.table.shared, 0);
+        let mut woken = Woken::nobody();
+        let reply = kept.step(step, &mut woken);
+        let token = self.free(seat);
+        woken.wake(&token);
+        (reply, token)
     }
 
     // Makes one step of a task that may wait, with wakers beside the core.
     #[inline(always)]
-    fn wait_or_wake(&self, seat: Seat<C>, step: C::Step, cx: &mut Context<'_>) -> (C::Reply, Token)
+    fn wait_or_wake(
+        &self,
+        mut seat: Seat<C>,
+        step: C::Step,
+        cx: &mut Context<'_>,
+    ) -> (C::Reply, Token)
         requires admitted { C.admits step }
         requires paid { (reply : C.Reply) → C.paid step reply ≤ seat.me.0.out }
         requires its { seat.table_id ≡ self.now.table }
         requires has { seat.me.0.has ≡ true }
-        requires core { HasCore (λ k. C.size k.core) (λ k. C.out k.core) self.now.size seat.me }
-        ensures came { Came C.opens C.steps C.size self.now.size step result.0 }
+        requires core { HasCore (λ k. C.terms k.core ≡ self.now.terms) (λ k. C.out k.core) seat.me }
+        ensures came { Came C.opens C.steps C.terms self.now.terms step result.0 }
         ensures armed { C.is_wait result.0 ≡ true → IsArmed cx.new }
+        ensures heard { C.is_wait result.0 ≡ true → Hears cx.new self.now.source }
         ensures keeps { Keeps cx.old cx.new }
         ensures its { result.1.badge.table_id ≡ self.now.table }
-        ensures size { size_by result.1.badge.views ≡ seat.me.0.size }
         ensures places { places result.1 + C.paid step result.0 ≡ seat.me.0.out + C.gained result.0 }
     {
-        self.shared.wait_or_wake(seat, step, self.share, cx)
+        let kept = seat.slot_mut(&self.shared.table.shared, 0);
+        let mut woken = Woken::nobody();
+        let reply = kept.wait(step, self.share, &self.shared.source, cx, &mut woken);
+        let token = self.free(seat);
+        woken.wake(&token);
+        (reply, token)
     }
 
     // Puts the core back.
@@ -152,7 +170,7 @@ impl<C: Core, R: Wait + Copy> Guarded<C, R> {
     fn free(&self, seat: Seat<C>) -> Token
         requires its { seat.table_id ≡ self.now.table }
         requires has { seat.me.0.has ≡ true }
-        requires core { MayFree (λ k. C.size k.core) (λ k. C.out k.core) self.now.size seat.me }
+        requires core { MayFree (λ k. C.terms k.core ≡ self.now.terms) (λ k. C.out k.core) seat.me }
         ensures its { result.badge.table_id ≡ self.now.table }
         ensures left { LeavesBadge (λ k. C.out k.core) seat.me result.badge.views }
     {
@@ -166,16 +184,16 @@ impl<C: Core> Shared<C> {
     // Waits for the core, which another holder has.
     #[cold]
     #[inline(never)]
-    fn lock_late<R: Wait + Copy>(&self, rt: R, seat: &mut Seat<C>)
+    fn lock_late<R: Wait + Copy, K: Known<C::Terms>>(&self, rt: R, seat: &mut Seat<C>)
+        requires known { K.are self.now.table.shared.key }
         requires free { seat.old.me ≡ (seat.old.me.0, []) }
         requires without { seat.old.me.0.has ≡ false }
-        requires size { seat.old.me.0.size ≡ self.now.table.shared.key }
         requires its { seat.old.table_id ≡ self.now.table.shared.table_id }
-        ensures has { Holds (λ k. C.size k.core) (λ k. C.out k.core) seat.old.me.0 seat.new.me }
+        ensures has { Holds (λ k. K.are (C.terms k.core)) (λ k. C.out k.core) seat.old.me.0 seat.new.me }
         ensures its { seat.new.table_id ≡ seat.old.table_id }
     {
         for _ in rt.forever() {
-            if self.table.shared.swap::<Takes>(seat, 0, 2) == 0 {
+            if self.table.shared.swap::<Takes<K>>(seat, 0, 2) == 0 {
                 return;
             }
             self.table.shared.park(&rt, 0, 2);
@@ -183,57 +201,25 @@ impl<C: Core> Shared<C> {
         unreachable!()
     }
 
-    // Makes one step, with wakers beside the core. They are woken once the lock is free, unless the
-    // reply waits.
+    // Makes the step of a token's holder, with wakers beside the core. It is a call, so that whoever drops
+    // a permit saves no registers for it.
     #[cold]
     #[inline(never)]
-    fn step_and_wake(&self, mut seat: Seat<C>, step: C::Step) -> (C::Reply, Token)
+    fn give_and_wake(&self, mut seat: Seat<C>, step: C::Step) -> (C::Reply, Token)
         requires admitted { C.admits step }
         requires paid { (reply : C.Reply) → C.paid step reply ≤ seat.me.0.out }
         requires its { seat.table_id ≡ self.now.table.shared.table_id }
         requires has { seat.me.0.has ≡ true }
-        requires core { HasCore (λ k. C.size k.core) (λ k. C.out k.core) self.now.table.shared.key seat.me }
-        ensures came { Came C.opens C.steps C.size self.now.table.shared.key step result.0 }
+        requires core { HasCore (λ k. C.terms k.core ≡ self.now.table.shared.key) (λ k. C.out k.core) seat.me }
+        ensures came { Came C.opens C.steps C.terms self.now.table.shared.key step result.0 }
         ensures its { result.1.badge.table_id ≡ self.now.table.shared.table_id }
-        ensures size { size_by result.1.badge.views ≡ seat.me.0.size }
         ensures places { places result.1 + C.paid step result.0 ≡ seat.me.0.out + C.gained result.0 }
+        ensures held { (old : C) × (new : C) × C.steps old step result.0 new × (seat.me.0.out ≤ C.out old) }
     {
-        let (reply, woken) = seat.slot_mut(&self.table.shared, 0).step(step);
+        let mut woken = Woken::nobody();
+        let reply = seat.slot_mut(&self.table.shared, 0).step(step, &mut woken);
         let token = self.free(seat);
-        if let Some(woken) = woken {
-            woken.wake(&token);
-        }
-        (reply, token)
-    }
-
-    // Makes one step of a task that may wait, with wakers beside the core. If the reply waits, keeps the
-    // waker of the task at this share; otherwise the wakers are woken once the lock is free.
-    #[inline(always)]
-    fn wait_or_wake(
-        &self,
-        mut seat: Seat<C>,
-        step: C::Step,
-        share: u64,
-        cx: &mut Context<'_>,
-    ) -> (C::Reply, Token)
-        requires admitted { C.admits step }
-        requires paid { (reply : C.Reply) → C.paid step reply ≤ seat.me.0.out }
-        requires its { seat.table_id ≡ self.now.table.shared.table_id }
-        requires has { seat.me.0.has ≡ true }
-        requires core { HasCore (λ k. C.size k.core) (λ k. C.out k.core) self.now.table.shared.key seat.me }
-        ensures came { Came C.opens C.steps C.size self.now.table.shared.key step result.0 }
-        ensures armed { C.is_wait result.0 ≡ true → IsArmed cx.new }
-        ensures keeps { Keeps cx.old cx.new }
-        ensures its { result.1.badge.table_id ≡ self.now.table.shared.table_id }
-        ensures size { size_by result.1.badge.views ≡ seat.me.0.size }
-        ensures places { places result.1 + C.paid step result.0 ≡ seat.me.0.out + C.gained result.0 }
-    {
-        let kept = seat.slot_mut(&self.table.shared, 0);
-        let (reply, woken) = kept.wait(step, share, &self.source, cx);
-        let token = self.free(seat);
-        if let Some(woken) = woken {
-            woken.wake(&token);
-        }
+        woken.wake(&token);
         (reply, token)
     }
 
@@ -242,7 +228,7 @@ impl<C: Core> Shared<C> {
     fn free(&self, mut seat: Seat<C>) -> Token
         requires its { seat.table_id ≡ self.now.table.shared.table_id }
         requires has { seat.me.0.has ≡ true }
-        requires core { MayFree (λ k. C.size k.core) (λ k. C.out k.core) self.now.table.shared.key seat.me }
+        requires core { MayFree (λ k. C.terms k.core ≡ self.now.table.shared.key) (λ k. C.out k.core) seat.me }
         ensures its { result.badge.table_id ≡ self.now.table.shared.table_id }
         ensures left { LeavesBadge (λ k. C.out k.core) seat.me result.badge.views }
     {
@@ -252,6 +238,16 @@ impl<C: Core> Shared<C> {
         Token {
             badge: seat.into_badge(),
         }
+    }
+}
+
+impl Token {
+    /// Ends a token of no places.
+    #[inline(always)]
+    pub fn end(self)
+        requires { places self ≡ 0 }
+    {
+        let Token { badge: _ } = self;
     }
 }
 
@@ -270,7 +266,7 @@ impl<C: Core> Kept<C> {
     // Returns whether no waker is kept.
     #[inline(always)]
     fn is_alone(&self) -> bool
-        ensures { IsTrue result ↔ (self.now.waiters ≡ []) }
+        ensures { IsTrue result → IsAlone self.now.waiters }
     {
         self.waiters.is_empty()
     }
@@ -278,7 +274,7 @@ impl<C: Core> Kept<C> {
     // Shows that no more places are held than there are.
     #[inline(always)]
     fn looked_at(&self)
-        ensures { C.out self.now.core ≤ C.size self.now.core }
+        ensures { C.out self.now.core ≤ C.size (C.terms self.now.core) }
     {
         let _kept = self;
     }
@@ -287,12 +283,13 @@ impl<C: Core> Kept<C> {
     #[inline(always)]
     fn step_alone(&mut self, step: C::Step) -> C::Reply
         requires admitted { C.admits step }
-        requires alone { self.old.waiters ≡ [] }
-        ensures came { Came C.opens C.steps C.size (C.size self.old.core) step result }
-        ensures counted { Counted C.size C.out C.paid C.gained self.old.core step result self.new.core }
-        ensures left { self.new.waiters ≡ [] }
+        requires alone { IsAlone self.old.waiters }
+        ensures came { Came C.opens C.steps C.terms (C.terms self.old.core) step result }
+        ensures counted { Counted C.terms C.out C.paid C.gained self.old.core step result self.new.core }
+        ensures machine { Turns C.Core self.old.core self.old.waiters step result None self.new.core self.new.waiters }
     {
-        self.core.step(step)
+        let (reply, _) = self.core.step(step);
+        reply
     }
 
     // Makes one step, with no waker beside the core. If the reply waits, keeps the waker of the task at
@@ -306,39 +303,38 @@ impl<C: Core> Kept<C> {
         cx: &mut Context<'_>,
     ) -> C::Reply
         requires admitted { C.admits step }
-        requires alone { self.old.waiters ≡ [] }
-        ensures came { Came C.opens C.steps C.size (C.size self.old.core) step result }
-        ensures counted { Counted C.size C.out C.paid C.gained self.old.core step result self.new.core }
+        requires alone { IsAlone self.old.waiters }
+        ensures came { Came C.opens C.steps C.terms (C.terms self.old.core) step result }
+        ensures counted { Counted C.terms C.out C.paid C.gained self.old.core step result self.new.core }
         ensures armed { C.is_wait result ≡ true → IsArmed cx.new }
+        ensures heard { C.is_wait result ≡ true → Hears cx.new source.now.id }
         ensures keeps { Keeps cx.old cx.new }
-        ensures waits { C.is_wait result ≡ true → IsKept share cx.old cx.new self.new.waiters }
-        ensures left { C.is_wait result ≡ false → self.new.waiters ≡ [] }
+        ensures machine { Waits C.Core share cx.old self.old.core self.old.waiters step result None cx.new self.new.core self.new.waiters }
     {
-        let reply = self.core.step(step);
-        if C::waits(&reply) {
-            self.waiters.keep(share, source, cx);
-        }
+        let (reply, wakes) = self.core.step(step);
+        let Wakes::Wait(key) = wakes else {
+            return reply;
+        };
+        self.waiters.keep(key, share, source, cx);
         reply
     }
 
-    // Makes one step. If the reply waits, the wakers stay; otherwise they are returned.
-    fn step(&mut self, step: C::Step) -> (C::Reply, Option<Woken>)
-        requires { C.admits step }
-        ensures came { Came C.opens C.steps C.size (C.size self.old.core) step result.0 }
-        ensures counted { Counted C.size C.out C.paid C.gained self.old.core step result.0 self.new.core }
-        ensures waits { C.is_wait result.0 ≡ true → (result.1 ≡ None) × (self.new.waiters ≡ self.old.waiters) }
-        ensures left { C.is_wait result.0 ≡ false → self.new.waiters ≡ [] }
-        ensures handed { C.is_wait result.0 ≡ false → MatchOption result.1 (self.old.waiters ≡ []) (λ woken. woken ≡ self.old.waiters) }
+    // Makes one step, and takes the wakers of those whom it names.
+    #[inline(always)]
+    fn step(&mut self, step: C::Step, woken: &mut Woken) -> C::Reply
+        requires admitted { C.admits step }
+        requires nobody { woken.old ≡ None }
+        ensures came { Came C.opens C.steps C.terms (C.terms self.old.core) step result }
+        ensures counted { Counted C.terms C.out C.paid C.gained self.old.core step result self.new.core }
+        ensures machine { Turns C.Core self.old.core self.old.waiters step result woken.new self.new.core self.new.waiters }
     {
-        let reply = self.core.step(step);
-        if C::waits(&reply) {
-            return (reply, None);
-        }
-        (reply, self.waiters.take())
+        let (reply, named) = self.core.step(step);
+        self.waiters.take(named, &self.core, woken);
+        reply
     }
 
-    // Makes one step. If the reply waits, keeps the waker of the task at this share; otherwise returns
-    // the wakers.
+    // Makes one step, and takes the wakers of those whom it names. If the reply waits, keeps the waker of
+    // the task at this share.
     #[inline(always)]
     fn wait(
         &mut self,
@@ -346,56 +342,62 @@ impl<C: Core> Kept<C> {
         share: u64,
         source: &Source,
         cx: &mut Context<'_>,
-    ) -> (C::Reply, Option<Woken>)
-        requires { C.admits step }
-        ensures came { Came C.opens C.steps C.size (C.size self.old.core) step result.0 }
-        ensures counted { Counted C.size C.out C.paid C.gained self.old.core step result.0 self.new.core }
-        ensures armed { C.is_wait result.0 ≡ true → IsArmed cx.new }
+        woken: &mut Woken,
+    ) -> C::Reply
+        requires admitted { C.admits step }
+        requires nobody { woken.old ≡ None }
+        ensures came { Came C.opens C.steps C.terms (C.terms self.old.core) step result }
+        ensures counted { Counted C.terms C.out C.paid C.gained self.old.core step result self.new.core }
+        ensures armed { C.is_wait result ≡ true → IsArmed cx.new }
+        ensures heard { C.is_wait result ≡ true → Hears cx.new source.now.id }
         ensures keeps { Keeps cx.old cx.new }
-        ensures waits { C.is_wait result.0 ≡ true → IsKept share cx.old cx.new self.new.waiters }
-        ensures left { C.is_wait result.0 ≡ false → self.new.waiters ≡ [] }
-        ensures handed { C.is_wait result.0 ≡ false → MatchOption result.1 (self.old.waiters ≡ []) (λ woken. woken ≡ self.old.waiters) }
+        ensures machine { Waits C.Core share cx.old self.old.core self.old.waiters step result woken.new cx.new self.new.core self.new.waiters }
     {
-        let reply = self.core.step(step);
-        if !C::waits(&reply) {
-            return (reply, self.waiters.take());
-        }
-        self.waiters.keep(share, source, cx);
-        (reply, None)
+        let (reply, wakes) = self.core.step(step);
+        self.waiters.take(wakes, &self.core, woken);
+        let Wakes::Wait(key) = wakes else {
+            return reply;
+        };
+        self.waiters.keep(key, share, source, cx);
+        reply
     }
 }
 
 impl<C: Core, R: Wait + Copy> Latch<C> for Guarded<C, R> {
-    // In some run of a core of this size from an opening one, the step had this reply.
-    ghost gave = { λ latch step reply. Came C.opens C.steps C.size latch.size step reply };
+    // In some run of a core with these terms from an opening one, the step had this reply.
+    ghost gave = { λ latch step reply. Came C.opens C.steps C.terms latch.terms step reply };
 
     ghost is_first = { λ latch. latch.share ≡ 0 };
 
     // Both latches share one core, since they have the same table.
-    ghost shares = { λ latch made. IfOk made (λ other. (other.table ≡ latch.table) × (other.size ≡ latch.size)) };
+    ghost shares = { λ latch made. IfOk made (λ other. (other.table ≡ latch.table) × (other.terms ≡ latch.terms) × (other.source ≡ latch.source)) };
 
-    ghost size = { λ latch. latch.size };
+    ghost terms = { λ latch. latch.terms };
 
-    ghost its = { λ latch token. (token.badge.table_id ≡ latch.table) × (size_by token.badge.views ≡ latch.size) };
+    ghost source = { λ latch s. s ≡ latch.source };
+
+    ghost its = { λ latch token. token.badge.table_id ≡ latch.table };
 
     ghost honest = { λ _ _ _ given. given };
 
-    // Usually no waker is kept, and then no list of wakers is taken.
+    // Usually no waker is kept.
     #[inline(always)]
     fn step(&self, step: C::Step) -> C::Reply {
-        let mut seat = self.lock();
+        let mut seat = self.lock::<Brand>();
         let kept = seat.slot_mut(&self.shared.table.shared, 0);
         if kept.is_alone() {
             let reply = kept.step_alone(step);
-            self.free(seat);
+            self.free(seat).end();
             return reply;
         }
-        self.step_and_wake(seat, step).0
+        let (reply, token) = self.step_and_wake(seat, step);
+        token.end();
+        reply
     }
 
     #[inline(always)]
     fn wait(&self, step: C::Step, cx: &mut Context<'_>) -> (C::Reply, Token) {
-        let mut seat = self.lock();
+        let mut seat = self.lock::<Brand>();
         let kept = seat.slot_mut(&self.shared.table.shared, 0);
         if kept.is_alone() {
             let reply = kept.wait_alone(step, self.share, &self.shared.source, cx);
@@ -406,21 +408,21 @@ impl<C: Core, R: Wait + Copy> Latch<C> for Guarded<C, R> {
 
     #[inline(always)]
     fn give(&self, step: C::Step, token: Token) -> (C::Reply, Token) {
-        let mut seat = self.lock_with(token);
+        let mut seat = self.lock_with::<Brand>(token);
         let kept = seat.slot_mut(&self.shared.table.shared, 0);
         if kept.is_alone() {
             let reply = kept.step_alone(step);
             return (reply, self.free(seat));
         }
-        self.step_and_wake(seat, step)
+        self.shared.give_and_wake(seat, step)
     }
 
     fn empty(&self) -> Token {
-        self.free(self.lock())
+        self.free(self.lock::<Brand>())
     }
 
     fn merge(&self, token: Token, other: Token) -> Token {
-        let mut seat = self.lock_with(token);
+        let mut seat = self.lock_with::<Brand>(token);
         seat.slot_mut(&self.shared.table.shared, 0).looked_at();
         self.shared
             .table

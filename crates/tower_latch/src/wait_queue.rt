@@ -1,8 +1,10 @@
 //! A queue of those who wait for grants, in the order of asking.
-ghost use Rattle.std.specs.Prelude.{◌≡◌, ◌<◌, ◌≤◌, ◌+◌, IsOk, length, true};
+ghost use Rattle.std.specs.Prelude.{◌≡◌, ◌<◌, ◌≤◌, ◌+◌, IsOk, IfOk, length, true};
 ghost use Rattle.slab.specs.Slab.{slab_len};
+ghost use Rattle.tower_base.specs.Order.{has};
 ghost use Rattle.tower_latch.specs.Waiters.{IsPresent, are_apart, outside};
 
+use crate::Wakes;
 use std::alloc::{AllocError, Global};
 use tower_base::links::Links;
 
@@ -34,7 +36,8 @@ pub struct WaitQueue {
 
 impl WaitQueue {
     ghost use Rattle.tower_latch.specs.Turns.{Admits, Enters, Leaves, Looks, empty};
-    ghost use Rattle.tower_latch.specs.WaitQueue.{Follows, StandsFor, granted, room, size, touches, waiting};
+    ghost use Rattle.tower_latch.specs.WaitQueue.{Follows, StandsFor, granted, room, size, stalls, touches, waiting};
+    ghost use Rattle.tower_latch.specs.Wakes.{NamesAll, OneGoesOn, StallsOn};
 
     /// Creates an empty queue. It allocates nothing until the first `wait`.
     pub fn new(alloc: Global) -> WaitQueue
@@ -64,11 +67,22 @@ impl WaitQueue {
         self.waiters.len()
     }
 
+    /// Returns whether the waiter with this key has no grant, so that `look` would tell it to wait. It
+    /// reaches one entry, which isn't counted.
+    #[inline(always)]
+    pub fn is_waiting(&self, key: u64) -> bool
+        ensures { result ≡ has self.now.waiters.order key }
+    {
+        self.waiters.peek_linked(key as usize)
+    }
+
     /// Adds a waiter behind all others, and returns its key. Returns an error if allocation fails.
     #[inline(always)]
     pub fn wait(&mut self) -> Result<u64, AllocError>
         ensures follows { Follows self.old (λ old new. Enters old result new) self.new }
         ensures succeeds { size self.old < room self.old → IsOk result }
+        ensures stalls { IfOk result (λ key. stalls self.new key) }
+        ensures names { StallsOn stalls self.old self.new }
         ensures room { room self.old ≤ room self.new }
         ensures touches { touches self.new ≤ touches self.old + 2 }
     {
@@ -81,6 +95,9 @@ impl WaitQueue {
     #[inline(always)]
     pub fn look(&mut self, key: u64) -> Turn
         ensures follows { Follows self.old (λ old new. Looks old key result new) self.new }
+        ensures stalls { result ≡ Turn.Waiting → stalls self.new key }
+        ensures told { stalls self.old key → result ≡ Turn.Waiting }
+        ensures names { StallsOn stalls self.old self.new }
         ensures room { room self.new ≡ room self.old }
         ensures touches { touches self.new ≤ touches self.old + 4 }
     {
@@ -95,37 +112,44 @@ impl WaitQueue {
     }
 
     /// Removes the waiter with this key, granted or not. If it had a grant, that goes to the next
-    /// waiter. Returns whether there was such a waiter.
+    /// waiter. Returns whether there was such a waiter, and names the one that left, or the one that got
+    /// its grant.
     #[inline(always)]
-    pub fn leave(&mut self, key: u64) -> bool
-        ensures follows { Follows self.old (λ old new. Leaves old key result new) self.new }
+    pub fn leave(&mut self, key: u64) -> (bool, Wakes)
+        ensures follows { Follows self.old (λ old new. Leaves old key result.0 new) self.new }
+        ensures names { NamesAll stalls self.old self.new result.1 }
+        ensures one { OneGoesOn stalls self.new result.1 }
         ensures room { room self.new ≡ room self.old }
         ensures touches { touches self.new ≤ touches self.old + 5 }
     {
         let waiting = self.waiters.len();
         let Some(()) = self.waiters.remove(key as usize) else {
-            return false;
+            return (false, Wakes::Nobody);
         };
         if self.waiters.len() == waiting {
             self.granted -= 1;
-            self.admit();
+            return (true, self.admit());
         }
-        true
+        (true, Wakes::One(key as usize))
     }
 
-    /// Gives a grant to the first waiter that has none, if there is one.
+    /// Gives a grant to the first waiter that has none, if there is one, and names it.
     #[inline(always)]
-    pub fn admit(&mut self)
+    pub fn admit(&mut self) -> Wakes
         ensures follows { Follows self.old Admits self.new }
+        ensures names { NamesAll stalls self.old self.new result }
+        ensures one { OneGoesOn stalls self.new result }
+        ensures fewer { StallsOn stalls self.new self.old }
         ensures room { room self.new ≡ room self.old }
-        ensures touches { touches self.new ≤ touches self.old + 2 }
+        ensures touches { touches self.new ≤ 2 + touches self.old }
     {
         let Some(first) = self.waiters.front() else {
-            return;
+            return Wakes::Nobody;
         };
         // The granted waiters fit in the capacity, so their number fits in a `usize`.
         let _capacity = self.waiters.capacity();
         self.waiters.unlink(first);
         self.granted += 1;
+        Wakes::One(first)
     }
 }

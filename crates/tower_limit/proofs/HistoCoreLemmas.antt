@@ -12,8 +12,8 @@ use Rattle.std.proofs.lemmas.Bool.Decides.{nat_tests}
 use Rattle.std.proofs.lemmas.List.Sums.{sum_by-cons}
 use Rattle.tower_latch.specs.Latch.{StepsAs}
 use Rattle.tower_base.specs.declared.service.Fraction.{Fraction}
-use Rattle.tower_limit.specs.Histogram.{Histogram, Point, added, read_at, present_of, sorted, quantile, rank, most, Takes, Steps}
-use Rattle.tower_limit.specs.HistoCore.{times, tallied, flat, Adds, Stands, StandsFor}
+use Rattle.tower_limit.specs.Histogram.{Histogram, Point, added, read_at, present_of, sorted, quantile, rank, times, most, Takes, Steps}
+use Rattle.tower_limit.specs.HistoCore.{tallied, flat, Adds, Stands, StandsFor}
 use Rattle.tower_limit.specs.declared.hedge.rotating_histogram.histo_core.HistoCore.{HistoCore}
 use Rattle.tower_limit.specs.declared.hedge.rotating_histogram.steps.HistoReply.{HistoReply}
 use Rattle.tower_limit.specs.declared.hedge.rotating_histogram.steps.HistoStep.{HistoStep}
@@ -165,7 +165,7 @@ module _ (moment duration number : ℕ) (first second : Tally) (h : Histogram) (
   )
   takes_next millis Memory after adds = (
     h,
-    (rw s.present (few second _ s.written adds.0), refl),
+    (rw s.present (few second _ s.written adds.0), refl, rw s.present (s.written millis ∙ adds.2)),
     record {
       made = s.made;
       period = s.period;
@@ -208,7 +208,7 @@ module _ (moment duration number : ℕ) (first second : Tally) (h : Histogram) (
   )
   takes_present millis Memory after adds = (
     h,
-    (rw s.present (few first _ s.read adds.0), refl),
+    (rw s.present (few first _ s.read adds.0), refl, rw s.present (s.read millis ∙ adds.2)),
     record {
       made = s.made;
       period = s.period;

@@ -2,8 +2,8 @@
 use Rattle.std.proofs.Common.{◌≡◌, ℕ, ◌+◌, ◌<◌, ◌≤◌, true, false, Bool, List, [], ◌∷◌, length, refl, ◌∙◌, ap, sym, arith, zero, suc}
 use Rattle.std.specs.Prelude.{nat_eq, nat_le, if◌then◌else◌, slice_index_or, ⊤}
 use Rattle.std.proofs.lemmas.Bool.Decides.{nat_tests}
-use Rattle.tower_limit.specs.Histogram.{placed, sorted}
-use Rattle.tower_limit.specs.HistoCore.{times, repeated}
+use Rattle.tower_limit.specs.Histogram.{placed, sorted, times}
+use Rattle.tower_limit.specs.HistoCore.{repeated}
 
 -- each number is w at least
 abbrev pub Above : ℕ → List ℕ → Type 0

@@ -8,6 +8,7 @@ pub mod Lines
 pub mod Permits
 pub mod Places
 pub mod RateBound
+pub mod RateNeeds
 pub mod RateRuns
 pub mod RateStands
 pub mod Replies

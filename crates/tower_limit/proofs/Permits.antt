@@ -1,5 +1,5 @@
 -- Whose permits a share acquires: what a loop that gathers permits for `release_all` cites.
-use Rattle.std.proofs.Common.{◌≡◌, ℕ, Option, Result, Ok, Err, inl, inr, subst}
+use Rattle.std.proofs.Common.{◌≡◌, ℕ, Option, Result, Ok, inl, inr, subst}
 use Rattle.std.specs.declared.alloc.AllocError.{AllocError}
 use Rattle.futures.specs.declared.task.Poll.{Poll}
 use Rattle.futures.specs.declared.task.Poll.TheVariants.{Ready}
@@ -10,7 +10,7 @@ use Rattle.tower_limit.specs.declared.limit.concurrency.line_core.LineStep.{Line
 use Rattle.tower_limit.specs.declared.limit.concurrency.line_core.LineReply.{LineReply}
 use Rattle.tower_limit.specs.declared.limit.concurrency.line_core.LineReply.TheVariants.{Granted, Waiting, Left, Count, Unknown, Memory}
 
-module _ {L : Type 0} (l : LatchOf L LineCore LineStep LineReply) where
+module _ {L : Type 0} (l : LatchOf L LineCore LineStep LineReply ℕ) where
   replied : (old : PollSemaphoreView L) (share : L) (reply : LineReply) (permit : PermitView L) (key : Option ℕ) → Replies l old share reply (Ready (Ok permit)) key → permit.latch ≡ share
   replied old share Granted permit key told = told.0
   replied old share (Waiting place) permit key told = absurd told

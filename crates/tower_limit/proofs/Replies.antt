@@ -1,14 +1,14 @@
 -- Which replies a line gives.
-use Rattle.std.proofs.Common.{◌≡◌, ◌⊎◌, ◌≤◌, ℕ, Option, None, Some, inl, inr, refl, ap, arith, ◌∙◌, subst}
+use Rattle.std.proofs.Common.{◌≡◌, ◌⊎◌, ◌≤◌, ℕ, suc, List, [], ◌∷◌, Option, None, Some, inl, inr, refl, ap, arith, ◌∙◌, subst}
 use Rattle.tower_latch.specs.Latch.{StepsAs}
 use Rattle.tower_limit.proofs.Lines.{stepped}
-use Rattle.tower_limit.specs.LineCore.{StandsFor}
+use Rattle.tower_limit.specs.LineCore.{StandsFor, holders}
 use Rattle.tower_limit.specs.Concurrency.{step_of}
-use Rattle.tower_limit.specs.LineTokens.{paid}
+use Rattle.tower_limit.specs.LineTokens.{paid, gained}
 use Rattle.tower_limit.specs.declared.limit.concurrency.line_core.LineCore.{LineCore}
-use Rattle.tower_limit.specs.Line.{Steps, LineSteps}
+use Rattle.tower_limit.specs.Line.{At, Line, Steps, LineSteps, Ticket}
 use Rattle.tower_limit.specs.declared.limit.concurrency.line_core.LineStep.{LineStep}
-use Rattle.tower_limit.specs.declared.limit.concurrency.line_core.LineStep.TheVariants.{Join, Look, Release, Free}
+use Rattle.tower_limit.specs.declared.limit.concurrency.line_core.LineStep.TheVariants.{Join, Look, Cancel, Release, Free}
 use Rattle.tower_limit.specs.declared.limit.concurrency.line_core.LineReply.{LineReply}
 use Rattle.tower_limit.specs.declared.limit.concurrency.line_core.LineReply.TheVariants.{Granted, Waiting, Left, Count, Unknown, Memory}
 
@@ -63,3 +63,60 @@ unasked step reply g asked told = elim told [
       (subst (λ (s : LineStep). Gave s (Count count.0)) asked.1
       (subst (λ (r : LineReply). Gave step r) count.1 g))
 ]
+
+counts_gain : (max : ℕ) (line next : List Ticket) (reply : LineReply) → Steps max line Free reply next → gained reply ≡ 0
+counts_gain max line next (Count n) t = refl
+counts_gain max line next Granted t = absurd t
+counts_gain max line next (Waiting k) t = absurd t
+counts_gain max line next Left t = absurd t
+counts_gain max line next Unknown t = absurd t
+counts_gain max line next Memory t = absurd t
+
+cancels_gain : (max key : ℕ) (line next : List Ticket) (reply : LineReply) → Steps max line (Cancel key) reply next → gained reply ≡ 0
+cancels_gain max key line next Left t = refl
+cancels_gain max key line next Unknown t = refl
+cancels_gain max key line next Granted t = absurd t
+cancels_gain max key line next (Waiting k) t = absurd t
+cancels_gain max key line next (Count n) t = absurd t
+cancels_gain max key line next Memory t = absurd t
+
+-- a count grants nothing
+pub free_gains_none : (old : LineCore) (reply : LineReply) (new : LineCore) → StepsAs StandsFor LineSteps old Free reply new → gained reply ≡ 0
+free_gains_none old reply new s = let t = stepped old new Free reply s in counts_gain t.0.max t.0.tickets t.1.tickets reply t.2.1
+
+-- who leaves is granted nothing
+pub cancel_gains_none : (key : ℕ) (old : LineCore) (reply : LineReply) (new : LineCore) → StepsAs StandsFor LineSteps old (Cancel key) reply new → gained reply ≡ 0
+cancel_gains_none key old reply new s = let t = stepped old new (Cancel key) reply s in cancels_gain t.0.max key t.0.tickets t.1.tickets reply t.2.1
+
+leaves_gain : (max : ℕ) (line next : List Ticket) (reply : LineReply) → Steps max line Release reply next → gained reply ≡ 0
+leaves_gain max line next Left t = refl
+leaves_gain max line next Unknown t = refl
+leaves_gain max line next Granted t = absurd t
+leaves_gain max line next (Waiting k) t = absurd t
+leaves_gain max line next (Count n) t = absurd t
+leaves_gain max line next Memory t = absurd t
+
+-- who gives a permit back is granted none
+pub release_gains_none : (old : LineCore) (reply : LineReply) (new : LineCore) → StepsAs StandsFor LineSteps old Release reply new → gained reply ≡ 0
+release_gains_none old reply new s = let t = stepped old new Release reply s in leaves_gain t.0.max t.0.tickets t.1.tickets reply t.2.1
+
+holder_at : (line : List Ticket) → 1 ≤ holders line → (place : ℕ) × At line place Ticket.held
+holder_at [] some = absurd (omega (arith, some))
+holder_at (Ticket.held ∷ line) some = (0, refl)
+holder_at (Ticket.waits key ∷ line) some = let there = holder_at line some in (suc there.0, there.1)
+
+releases : (max : ℕ) (line next : List Ticket) (reply : LineReply) → 1 ≤ holders line → Steps max line Release reply next → (paid Release reply ≡ 1) × (gained reply ≡ 0)
+releases max line next Left some t = (refl, refl)
+releases max line next Unknown some t = let there = holder_at line some in absurd (t.0 there.0 there.1)
+releases max line next Granted some t = absurd t
+releases max line next (Waiting k) some t = absurd t
+releases max line next (Count n) some t = absurd t
+releases max line next Memory some t = absurd t
+
+-- if somebody holds a permit, a release gives one back
+pub release_pays : (old : LineCore) (reply : LineReply) (new : LineCore) → StepsAs StandsFor LineSteps old Release reply new → 1 ≤ old.held
+    → (paid Release reply ≡ 1) × (gained reply ≡ 0)
+release_pays old reply new (stood, follows) some =
+    let line : Line = stood.0 in
+    let next = follows line stood.1 in
+    releases line.max line.tickets next.0.tickets reply (omega (arith, stood.1.1.2.0, some)) next.1.1

@@ -53,8 +53,16 @@ idle inner semaphore = record { inner = inner; asking = record { semaphore = sem
 -- an idle `ConcurrencyLimit` around the service, over a semaphore of its own with `max` permits
 pub record New {S L : Type 0} (places : L → ℕ) (service : S) (max : ℕ) (made : ConcurrencyLimitView S L) : Type 0 where
   pub number : made.asking.semaphore.max ≡ max
-  pub size : places made.asking.semaphore.latch ≡ max
+  pub terms : places made.asking.semaphore.latch ≡ max
   pub round : made ≡ idle service made.asking.semaphore
+
+-- What a pending poll of readiness waits for: a permit, at the sources of its latch, or the inner service if a permit is held.
+abbrev pub NeedsAt : {P : Type 0} → Option P → Type 0 → Type 0 → Type 0
+NeedsAt (Some permit) inner latch = inner
+NeedsAt None inner latch = latch
+
+abbrev pub Needs : {S L : Type 0} → (S → ℕ → Type 0) → (L → ℕ → Type 0) → ConcurrencyLimitView S L → ℕ → Type 0
+Needs needs source v s = NeedsAt v.permit (needs v.inner s) (source v.asking.semaphore.latch s)
 
 -- The result is that allocation failed.
 abbrev pub RanOut : {T : Type 0} → Poll (Result T AllocError) → Type 0
@@ -62,11 +70,11 @@ RanOut (Ready (Err e)) = Unit {0}
 RanOut (Ready (Ok x)) = ⊥
 RanOut Pending = ⊥
 
-module _ {L : Type 0} (l : LatchOf L LineCore LineStep LineReply) where
+module _ {L : Type 0} (l : LatchOf L LineCore LineStep LineReply ℕ) where
   -- The second latch is a share of the first: what it gave, the first gave, and their tokens are the same.
   pub record Shares (latch other : L) : Type 0 where
     pub gives : (step : LineStep) (reply : LineReply) → l.gave other step reply → l.gave latch step reply
-    pub size : l.size other ≡ l.size latch
+    pub terms : l.terms other ≡ l.terms latch
     pub its : (token : Token) → l.its other token → l.its latch token
     pub takes : (token : Token) → l.its latch token → l.its other token
 

@@ -1,4 +1,5 @@
 -- What `ConcurrencyLimit` lends.
+use Rattle.std.specs.Prelude.{ℕ}
 use Rattle.std.specs.Borrow.{Lends, MutBor, Fml}
 use denote.RattleType.{RattleType}
 use Rattle.tower_latch.specs.declared.Latch.{Ghosts as LatchOf}
@@ -9,5 +10,5 @@ use Rattle.tower_limit.specs.declared.limit.concurrency.line_core.LineReply.{Lin
 use Rattle.tower_limit.specs.contracts.limit.concurrency.service.ConcurrencyLimit.{the_row}
 
 -- t ends with the last value behind r as its inner service.
-abbrev pub LendsInner : (S L : RattleType) → LatchOf L.Denot LineCore LineStep LineReply → MutBor (ConcurrencyLimitView S.Denot L.Denot) → MutBor S.Denot → Fml
+abbrev pub LendsInner : (S L : RattleType) → LatchOf L.Denot LineCore LineStep LineReply ℕ → MutBor (ConcurrencyLimitView S.Denot L.Denot) → MutBor S.Denot → Fml
 LendsInner S L latch t r = Lends (the_row S L latch) S t r (λ w. record t.now { inner = w })

@@ -1,5 +1,5 @@
 -- After a poll that returns `Ok` there is a permit, and the inner service is ready.
-use Rattle.std.specs.Prelude.{Result, Ok, Err, IsSome, refl}
+use Rattle.std.specs.Prelude.{ℕ, Result, Ok, Err, IsSome, refl}
 use Rattle.std.specs.declared.alloc.AllocError.{AllocError}
 use Rattle.futures.specs.declared.task.Poll.{Poll}
 use Rattle.futures.specs.declared.task.Poll.TheVariants.{Ready, Pending}
@@ -12,7 +12,7 @@ use Rattle.tower_limit.specs.declared.limit.concurrency.line_core.LineCore.{Line
 use Rattle.tower_limit.specs.declared.limit.concurrency.line_core.LineStep.{LineStep}
 use Rattle.tower_limit.specs.declared.limit.concurrency.line_core.LineReply.{LineReply}
 
-module _ {L : Type 0} (l : LatchOf L LineCore LineStep LineReply) where
+module _ {L : Type 0} (l : LatchOf L LineCore LineStep LineReply ℕ) where
   module _ {S Q A E F : Type 0} (s : ServiceOf S Q A E F) where
     went : (got : Poll (Result (PermitView L) AllocError)) (old new : ConcurrencyLimitView S L) → ((v w : S) → s.polled v (Ready (Ok tt)) w → s.ready w)
         → Goes l s got old (Ready (Ok tt)) new → IsSome new.permit × s.ready new.inner

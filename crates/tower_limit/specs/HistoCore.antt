@@ -3,16 +3,11 @@ use Rattle.std.specs.Prelude.{◌≡◌, ◌<◌, ℕ, zero, suc, ◌+◌, ◌�
 use Rattle.std.specs.Option.{unwrap_or}
 use Rattle.std.specs.Ordering.{nat_cmp}
 use Rattle.std.specs.BTreeMap.{get}
-use Rattle.tower_limit.specs.Histogram.{Histogram, blank, read_at, most}
+use Rattle.tower_limit.specs.Histogram.{Histogram, blank, read_at, times, most}
 use Rattle.tower_limit.specs.declared.hedge.rotating_histogram.histo_core.HistoCore.{HistoCore}
 use Rattle.tower_limit.specs.declared.hedge.rotating_histogram.steps.HistoReply.{HistoReply}
 use Rattle.tower_limit.specs.declared.hedge.rotating_histogram.steps.HistoReply.TheVariants.{Done, Memory, Full}
 use Rattle.tower_limit.specs.declared.hedge.rotating_histogram.tally.Tally.{Tally}
-
--- how often a number is in a list
-abbrev pub times : ℕ → List ℕ → ℕ
-times v [] = 0
-times v (x ∷ rest) = (if nat_eq x v then 1 else 0) + times v rest
 
 -- how often a tally has a number
 abbrev pub tallied : Tally → ℕ → ℕ
@@ -28,10 +23,10 @@ abbrev pub flat : List (ℕ × ℕ) → List ℕ
 flat [] = []
 flat (e ∷ rest) = repeated e.1 e.0 (flat rest)
 
--- After `Done` one more number is tallied. After any other reply nothing changes.
+-- After `Done` one more number is tallied. After any other reply nothing changes. `Memory` comes only for a number that wasn't tallied before.
 abbrev pub Adds : Tally → ℕ → HistoReply → Tally → Type 0
 Adds old millis Done new = (old.total < most) × ((v : ℕ) → tallied new v ≡ (if nat_eq millis v then 1 else 0) + tallied old v)
-Adds old millis Memory new = (old.total < most) × ((v : ℕ) → tallied new v ≡ tallied old v)
+Adds old millis Memory new = (old.total < most) × ((v : ℕ) → tallied new v ≡ tallied old v) × (tallied old millis ≡ 0)
 Adds old millis Full new = (old.total ≡ most) × ((v : ℕ) → tallied new v ≡ tallied old v)
 Adds old millis reply new = ⊥
 

@@ -55,14 +55,20 @@ rank total part = min total (max 1 (div_ceil (total * part.numerator) part.divis
 abbrev pub quantile : Fraction → List ℕ → ℕ
 quantile part xs = slice_index_or (sorted xs) (rank (length xs) part - 1) 0
 
+-- how often a number is in a list
+abbrev pub times : ℕ → List ℕ → ℕ
+times v [] = 0
+times v (x ∷ rest) = (if nat_eq x v then 1 else 0) + times v rest
+
 -- the greatest number of points of a period
 abbrev pub most : ℕ
 most = 2 ^ 64 - 1
 
--- A point is added. It is left out if its period is full, or if allocation fails.
+-- A point is added. It is left out if its period is full, or if allocation fails, which is possible only at the first point of that many
+-- milliseconds in its period.
 abbrev pub Takes : Histogram → ℕ → ℕ → HistoReply → Histogram → Type 0
 Takes old period millis Done new = (length (read_at period old.points) < most) × (new ≡ added old period millis)
-Takes old period millis Memory new = (length (read_at period old.points) < most) × (new ≡ old)
+Takes old period millis Memory new = (length (read_at period old.points) < most) × (new ≡ old) × (times millis (read_at period old.points) ≡ 0)
 Takes old period millis Full new = (length (read_at period old.points) ≡ most) × (new ≡ old)
 -- No other reply is given.
 Takes old period millis reply new = ⊥

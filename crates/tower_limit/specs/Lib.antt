@@ -7,6 +7,7 @@ pub mod CountCore
 pub mod Discover
 pub mod DiscoverLemmas
 pub mod HistoCore
+pub mod HistoCoreTerms
 pub mod Histogram
 pub mod Holders
 pub mod Line

@@ -70,3 +70,13 @@ LineSteps old step reply new = (new.max ≡ old.max)
 abbrev pub is_waiting : LineReply → Bool
 is_waiting (Waiting key) = true
 is_waiting _ = false
+
+-- the key at which the caller waits
+abbrev pub key_of : LineReply → ℕ
+key_of (Waiting key) = key
+key_of _ = 0
+
+-- The step asks again at this key.
+abbrev pub Asks : LineStep → ℕ → Type 0
+Asks (Look asked) key = asked ≡ key
+Asks _ key = ⊥

@@ -36,7 +36,7 @@ pub record New {S L C : Type 0} (is_first : L → Type 0) (service : S) (complet
   pub same : made.completion ≡ completion
   pub first : is_first made.latch
 
-module _ {L : Type 0} (l : LatchOf L CountCore CountStep CountReply) where
+module _ {L : Type 0} (l : LatchOf L CountCore CountStep CountReply (Unit {0})) where
   -- The second latch is a share that the first one created: what it gave, the first gave.
   pub record IsShare (latch other : L) : Type 0 where
     pub shared : l.shares latch (Ok other)

@@ -1,5 +1,5 @@
 -- What each middleware passes on to its inner service.
-use Rattle.std.proofs.Common.{IsSome, List, [], refl, Result, Ok, Err}
+use Rattle.std.proofs.Common.{ℕ, IsSome, List, [], refl, Result, Ok, Err}
 use Rattle.std.specs.declared.alloc.AllocError.{AllocError}
 use Rattle.futures.specs.declared.task.Poll.{Poll}
 use Rattle.futures.specs.declared.task.Poll.TheVariants.{Ready, Pending}
@@ -21,7 +21,7 @@ use Rattle.tower_limit.specs.declared.load.pending_requests.count_core.CountStep
 use Rattle.tower_limit.specs.declared.load.pending_requests.count_core.CountReply.{CountReply}
 
 module _ {S Q A E F : Type 0} (s : ServiceOf S Q A E F) where
-  module _ {L : Type 0} (l : LatchOf L LineCore LineStep LineReply) where
+  module _ {L : Type 0} (l : LatchOf L LineCore LineStep LineReply ℕ) where
     abbrev limit_of : Relations (C.ConcurrencyLimitView S L) Q (LimitError E) (C.ResponseFutureView F L)
     limit_of = record { ready = λ v. IsSome v.permit × s.ready v.inner; polled = C.Polled l s; called = C.Called s }
 
@@ -42,7 +42,7 @@ module _ {S Q A E F : Type 0} (s : ServiceOf S Q A E F) where
     pub constant : Projects constant_of (relations s) (λ k. k.inner) Once
     constant = forwards constant_of (relations s) (λ k. k.inner) (λ old new answer p. (answer, p.polled)) (λ old new request future h. (future, h.ready, h.called))
 
-  module _ {L N : Type 0} (l : LatchOf L CountCore CountStep CountReply) where
+  module _ {L N : Type 0} (l : LatchOf L CountCore CountStep CountReply (Unit {0})) where
     abbrev pending_of : Relations (P.PendingRequestsView S L N) Q E (TrackCompletionFutureView F N (P.HandleView L))
     pending_of = record { ready = λ p. s.ready p.service; polled = P.Polled l s; called = P.Called l s }
 

@@ -1,5 +1,6 @@
 -- The machine of `limit::rate`.
-use Rattle.std.specs.Prelude.{◌≡◌, ◌+◌, ◌-◌, ◌<◌, ◌||◌, ℕ, Bool, true, false, not, List, [], ◌∷◌, length, take, slice_index, nat_le, if◌then◌else◌, Result}
+use Rattle.std.specs.Prelude.{◌≡◌, ◌+◌, ◌-◌, ◌<◌, ◌||◌, ◌&&◌, ◌⊎◌, ℕ, Bool, true, false, not, List, [], ◌∷◌, length, take, slice_index, nat_eq, nat_le, if◌then◌else◌, Result}
+use Rattle.futures.specs.declared.task.context.Context.{Context}
 use Rattle.futures.specs.declared.task.Poll.{Poll}
 use Rattle.futures.specs.declared.task.Poll.TheVariants.{Pending}
 use Rattle.tower_base.specs.declared.service.Service.{Ghosts as ServiceOf}
@@ -48,6 +49,10 @@ oldest plain = slice_index plain.moments (plain.num - 1)
 abbrev pub passes : Calls → ℕ → Bool
 passes plain moment = if is_limited plain then nat_le (oldest plain + plain.per) moment else true
 
+-- A poll passes from this moment on, and not before.
+abbrev pub PassesFrom : Calls → ℕ → Type 0
+PassesFrom plain opens = (moment : ℕ) → passes plain moment ≡ nat_le opens moment
+
 -- whether a call may be made
 abbrev pub may_call : Calls → Bool
 may_call plain = not (is_limited plain) || plain.passed
@@ -71,6 +76,18 @@ pub record StandsFor (core : RateCoreView) (plain : Calls) : Type 0 where
 -- The core stands for calls of which P holds.
 abbrev pub Stands : RateCoreView → (Calls → Type 0) → Type 0
 Stands core P = (plain : Calls) × StandsFor core plain × P plain
+
+-- whether the limit, and not the inner service, is what a pending poll waits for
+abbrev pub is_shut : RateCoreView → Bool
+is_shut core = nat_eq (length core.kept) core.num && not core.passed
+
+-- What a pending poll of readiness waits for: the limit, at the sources of the clock, or the inner service.
+abbrev pub NeedsAt : Bool → Type 0 → Type 0 → Type 0
+NeedsAt true inner clock = clock
+NeedsAt false inner clock = inner
+
+abbrev pub Needs : {S C : Type 0} → (S → ℕ → Type 0) → (C → ℕ → Type 0) → RateLimitView S C → ℕ → Type 0
+Needs needs hears l s = NeedsAt (is_shut l.core) (needs l.inner s) (hears l.clock s)
 
 module _ {S C Q A E F : Type 0} (s : ServiceOf S Q A E F) (c : ClockOf C) where
   -- The inner service is polled once, or the result is pending without a poll.
@@ -97,6 +114,12 @@ module _ {S C Q A E F : Type 0} (s : ServiceOf S Q A E F) (c : ClockOf C) where
     pub read : c.read old.clock new.clock
     pub joins : (plain : Calls) → StandsFor old.core plain → StandsFor new.core (after_call plain (c.reading new.clock))
     pub called : s.called old.inner request future new.inner
+
+-- If the calls so far let no poll pass at the moment of this one, its task asked to be polled again, or is polled again by the moment from
+-- which on a poll passes.
+abbrev pub WokenInTime : {S C : Type 0} → ClockOf C → RateLimitView S C → RateLimitView S C → Context → Type 0
+WokenInTime c old new cx = (plain : Calls) → StandsFor old.core plain → passes plain (c.reading new.clock) ≡ false
+    → (opens : ℕ) × PassesFrom plain opens × ((cx.is_woken ≡ true) ⊎ c.wakes_by new.clock opens cx)
 
 -- a new rate limit of a service with this clock, which isn't read
 pub record New {S C : Type 0} (num per : ℕ) (service : S) (clock : C) (made : RateLimitView S C) : Type 0 where

@@ -1,6 +1,6 @@
 //! Services that come and go: the Rust's `tower::discover`.
-ghost use Rattle.std.specs.Prelude.{⊤, Option, Result};
-ghost use Rattle.futures.specs.Task.{IsArmed, Keeps};
+ghost use Rattle.std.specs.Prelude.{⊤, ℕ, Option, Result};
+ghost use Rattle.futures.specs.Task.{Hears, IsArmed, Keeps};
 ghost use Rattle.futures.specs.Poll.{OnPending};
 ghost use Rattle.futures.specs.declared.task.Poll.{Poll};
 ghost use Rattle.tower_limit.specs.declared.discover.Change.{Change};
@@ -34,6 +34,10 @@ pub trait Discover: Drop {
     // A poll may return this and leave the second value.
     ghost discovered: { Self → Poll (Option (Result (Change Self.Key Self.Service) Self.Error)) → Self → Type 0 };
 
+    // Holds for each source that a pending poll waits for. If this is left out, it isn't known where it
+    // waits.
+    ghost needs: { Self → ℕ → Type 0 } = { λ _ _. ⊥ };
+
     /// Returns the next change, an error, or the end (`None`). An error isn't the end. After the end it
     /// needn't be polled again.
     fn poll_discover(
@@ -44,5 +48,6 @@ pub trait Discover: Drop {
         ensures discovered { discovered self.old result self.new }
         ensures sound { sound self.new }
         ensures armed { OnPending result (IsArmed cx.new) }
+        ensures heard { OnPending result ((s : ℕ) → needs self.new s → Hears cx.new s) }
         ensures kept { Keeps cx.old cx.new };
 }

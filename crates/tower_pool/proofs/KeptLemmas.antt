@@ -13,6 +13,11 @@ use Rattle.tower_pool.proofs.PendingLemmas.{alike, apart_back, apart_cancel, apa
 use Rattle.tower_pool.proofs.PlaceLemmas.{as_long}
 use Rattle.tower_pool.proofs.PendingPlaces.{like}
 
+-- what follows from what is known of an error
+pub by_err : {X E : Type 0} {P Q : Type 0} → (r : Result X E) → (P → Q) → OnErr r P → OnErr r Q
+by_err (Ok x) f h = tt
+by_err (Err e) f h = f h
+
 or_true : (b : Bool) → (b || true) ≡ true
 or_true true = refl
 or_true false = refl

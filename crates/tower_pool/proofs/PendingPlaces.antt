@@ -1,8 +1,8 @@
 -- What a slab in the order of waiting stands for, with the places of keys.
-use Rattle.std.proofs.Common.{◌≤◌, ◌<◌, unwrap_or, Result, Ok, Err, OnOk, OnErr, slice_index_or, count_by, ℕ, suc, ◌+◌, ◌≡◌, ◌≢◌, ◌⊎◌, Bool, true, false, cond, not, ◌&&◌, ◌||◌, eqb, List, [], ◌∷◌, ◌++◌, Option, Some, None, is_some, IsSomeAnd, IfSome, length, length-append, if◌then◌else◌, refl, sym, ap, ◌∙◌, subst, ⊎_elim, inl, inr, true≢false, arith}
+use Rattle.std.proofs.Common.{◌≤◌, ◌<◌, unwrap_or, Result, Ok, Err, OnOk, OnErr, slice_index_or, count_by, ℕ, suc, ◌+◌, ◌≡◌, ◌≢◌, ◌⊎◌, Bool, true, false, cond, not, ◌&&◌, ◌||◌, eqb, List, [], ◌∷◌, ◌++◌, Option, Some, None, is_some, IsSomeAnd, IfNone, IfSome, length, length-append, if◌then◌else◌, refl, sym, ap, ◌∙◌, subst, ⊎_elim, inl, inr, true≢false, arith}
 use Rattle.std.proofs.Math.Nat.{le-min, min-le_left, min-le_right}
 use Rattle.std.proofs.lemmas.Bool.Decides.{eqb_tells}
-use Rattle.std.proofs.lemmas.Bool.{eq-eqb}
+use Rattle.std.proofs.lemmas.Bool.{cases_order, eq-eqb}
 use Rattle.std.proofs.lemmas.List.Folds.{list_any-append}
 use Rattle.std.specs.Cmp.{IsEquivalence}
 use Rattle.std.specs.HashMap.{HashMap, Updates as HashUpdates}
@@ -495,6 +495,17 @@ module _ {K S : Type 0} (eq : K → K → Bool) where
       pub fits_all : (items : List (PendingView K S)) (more : ℕ) → stored eq es links ++ last_of last ≡ items → length items + more < 18446744073709551616 → HasRoomFor new.entries more → length items + more ≤ room_of new.entries.capacity
       fits_all items more is small fits = le-min (omega (arith, ap length is, length_all, one_last last, ap length order, stands_room.placed.count, fits)) (omega (arith, small))
 
+    -- room for so many was missing, if it was refused
+    pub room_missed : (items : List (PendingView K S)) (more room : ℕ) → stored eq es links ++ last_of last ≡ items → room_of links.entries.capacity ≡ room
+        → (HasRoomFor links.entries more → ⊥) → room ≤ length items + more
+    room_missed items more room is fits refused = elim (cases_order (slab_len links.entries + more) links.entries.capacity) [
+      | inl same ↦ absurd (refused (omega (arith, same)))
+      | inr other ↦ elim other [
+        | inl before ↦ absurd (refused (omega (arith, before)))
+        | inr after ↦ omega (arith, after, ap length is, length_all, h.placed.count, fits, min-le_left (links.entries.capacity + 1) 18446744073709551615)
+      ]
+    ]
+
     -- there is room for it in the slab
     module _ (e : K × S × Bool) (some : last ≡ Some e) (items : List (PendingView K S)) (room : ℕ) (is : stored eq es links ++ last_of last ≡ items) (fits : room_of links.entries.capacity ≡ room) (less : length items < room) where
       pub has_room : HasRoomFor links.entries 1
@@ -506,6 +517,10 @@ module _ {K S : Type 0} (eq : K → K → Bool) where
       -- once it stands there
       pub stored_last : (now : List (PendingView K S)) → now ≡ stored eq es links ++ entry_of e ∷ [] → now ≡ items
       stored_last now more = more ∙ (λ j. stored eq es links ++ last_of (sym some j)) ∙ is
+
+pub when_none : {X : Type 0} {P : Type 0} → (o : Option X) → P → IfNone o P
+when_none None h = h
+when_none (Some x) h = tt
 
 pub when_refused : {X E : Type 0} → (r : Result X E) (P : Type 0) → is_ok r ≡ false → OnErr r P → P
 when_refused (Ok x) P e h = absurd (true≢false e)

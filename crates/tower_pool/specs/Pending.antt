@@ -1,23 +1,30 @@
 -- The pending endpoints of a `ReadyCache`: a slab whose entries are in the order of waiting, a last endpoint that may be stored beside it, and a
 -- place for each key.
-use Rattle.std.specs.Prelude.{min, ℕ, ◌≡◌, ◌+◌, ◌<◌, Bool, true, false, not, ◌||◌, eqb, List, [], ◌∷◌, Option, Some, None, is_some, length, IfSome, IsSomeAnd}
+use Rattle.std.specs.Prelude.{min, ℕ, ◌≡◌, ◌⊎◌, ◌+◌, ◌<◌, ◌≤◌, Bool, true, false, not, ◌||◌, eqb, List, [], ◌∷◌, Option, Some, None, is_some, length, IfSome, IsSomeAnd}
 use Rattle.std.specs.Map.{lookup}
+use Rattle.std.specs.declared.clone.Clone.{Ghosts as CloneOf}
 use Rattle.slab.specs.Slab.{get, slab_len}
 use Rattle.tower_base.specs.Links.{LinksView}
 use Rattle.tower_base.specs.Order.{Apart, has}
 use Rattle.tower_pool.specs.ReadyCache.{CacheInvariant, PendingView, ReadyCacheView}
 
--- What contracts see: the pending endpoints, longest waiting first, the keys' places, how many endpoints there is room for, and how many entries of
--- the slab were reached so far.
+-- What contracts see: the pending endpoints, longest waiting first, the keys' places, how many endpoints there is room for, how many more keys there
+-- is room for, and how many entries of the slab were reached so far.
 pub record PendingListView (K S : Type 0) : Type 0 where
   pub items : List (PendingView K S)
   pub places : List (K × Option ℕ)
   pub room : ℕ
+  pub spare : ℕ
   pub touches : ℕ
 
 -- whether the key has a place
 abbrev pub knows : {K S : Type 0} → (K → K → Bool) → PendingListView K S → K → Bool
 knows eq v k = is_some (lookup (eq k) v.places)
+
+-- Room for an endpoint of this key, and so for `more` endpoints, may have been refused: a clone of the key may fail; or the key has no place, and no
+-- further key fits; or no further endpoint fits beside as many.
+abbrev pub MayRefuse : {K S : Type 0} → CloneOf K → (K → K → Bool) → PendingListView K S → K → ℕ → Type 0
+MayRefuse clones eq old key more = (¬ (clones.is_infallible key)) ⊎ ((old.spare ≡ 0) × (knows eq old key ≡ false)) ⊎ (old.room ≤ length old.items + more)
 
 -- an endpoint by its key, its service, and whether it is cancelled
 abbrev pub entry_of : {K S : Type 0} → K × S × Bool → PendingView K S

@@ -1,9 +1,12 @@
 -- The machine of `ready_cache`: a list of ready endpoints, each under its key, and a list of pending ones, longest waiting first.
-use Rattle.std.specs.Prelude.{All, ℕ, ◌+◌, ◌≡◌, ◌≤◌, Bool, true, false, not, ◌&&◌, ◌||◌, is_some, List, [], ◌∷◌, ◌++◌, Option, Some, length, slice_get, position, if◌then◌else◌, Result, Ok, Err}
+use Rattle.std.specs.Prelude.{All, ℕ, ◌+◌, ◌≡◌, ◌⊎◌, ◌≤◌, Bool, true, false, not, ◌&&◌, ◌||◌, is_some, List, [], ◌∷◌, ◌++◌, Option, Some, drop, length, slice_get, position, if◌then◌else◌, Result, Ok, Err}
 use Rattle.std.specs.List.{list_any, swap_remove}
 use Rattle.std.specs.Map.{keys_of, lookup}
 use Rattle.std.specs.Option.{MatchOption}
+use Rattle.std.specs.declared.clone.Clone.{Ghosts as CloneOf}
+use Rattle.futures.specs.Task.{Hears}
 use Rattle.futures.specs.declared.task.Poll.{Poll}
+use Rattle.futures.specs.declared.task.context.Context.{Context}
 use Rattle.futures.specs.declared.task.Poll.TheVariants.{Ready, Pending}
 use Rattle.indexmap.specs.IndexMap.{set_value_at}
 use Rattle.tower_base.specs.declared.service.Service.{Ghosts as ServiceOf}
@@ -20,10 +23,17 @@ pub record ReadyCacheView (K S : Type 0) : Type 0 where
   pub ready : List (K × S)
   pub pending : List (PendingView K S)
 
--- What contracts see of a `ReadyCache`: the two lists, and `touches`, which counts how often an entry of the pending list was reached so far. It
--- bounds what a call costs.
+-- For how many endpoints that are ready or pending there is room, for how many more keys, and for how many more ready endpoints.
+pub record Room : Type 0 where
+  pub endpoints : ℕ
+  pub keys : ℕ
+  pub ready : ℕ
+
+-- What contracts see of a `ReadyCache`: the two lists; the room that it has without an allocation; and `touches`, which counts how often an entry of
+-- the pending list was reached so far. It bounds what a call costs.
 pub record CountedView (K S : Type 0) : Type 0 where
   pub lists : ReadyCacheView K S
+  pub room : Room
   pub touches : ℕ
 
 -- a new pending endpoint
@@ -47,6 +57,13 @@ module _ {K S : Type 0} (eq : K → K → Bool) where
   -- An endpoint that was ready becomes the last pending one. If a newer one of its key is pending, it is dropped instead.
   abbrev pub put_back : K → S → List (PendingView K S) → List (PendingView K S)
   put_back k s ps = if awaited k ps then ps else ps ++ waiting k s ∷ []
+
+  -- A push of this key may have been refused: a clone of the key may fail; or the key has no endpoint yet, and no further key fits; or there is room
+  -- for one more endpoint at most.
+  abbrev pub MayRefuse : CloneOf K → CountedView K S → K → Type 0
+  MayRefuse clones old key = (¬ (clones.is_infallible key))
+      ⊎ ((old.room.keys ≡ 0) × ((is_some (lookup (eq key) old.lists.ready) || awaited key old.lists.pending) ≡ false))
+      ⊎ (old.room.endpoints ≤ length old.lists.ready + length old.lists.pending + 1)
 
   -- The keys of entries that aren't cancelled are distinct.
   abbrev pub Apart : List (PendingView K S) → Type 0
@@ -74,6 +91,15 @@ Askable sound p = p.cancelled ≡ false → sound p.service
 pub record Sound {K S : Type 0} (sound : S → Type 0) (v : ReadyCacheView K S) : Type 0 where
   pub ready : All (λ e. sound e.1) v.ready
   pub pending : All (Askable sound) v.pending
+
+-- the sources that the pending endpoints wait for
+abbrev pub PendingNeeds : {K S : Type 0} → (S → ℕ → Type 0) → List (PendingView K S) → ℕ → Type 0
+PendingNeeds needs [] source = ⊥
+PendingNeeds needs (p ∷ ps) source = needs p.service source ⊎ PendingNeeds needs ps source
+
+-- The poll's task is heard at each source that a pending endpoint waits for, without the first endpoints of this number.
+abbrev pub HeardFrom : {K S : Type 0} → (S → ℕ → Type 0) → Context → ℕ → List (PendingView K S) → Type 0
+HeardFrom needs cx n ps = (source : ℕ) → PendingNeeds needs (drop n ps) source → Hears cx source
 
 -- There is an element at the index, and P holds of it.
 abbrev pub At : {X : Type 0} → List X → ℕ → (X → Type 0) → Type 0

@@ -17,17 +17,17 @@ use Rattle.tower_retry.specs.declared.retry.budget.steps.Terms.{Terms}
 quotient_grows : (window a b : ℕ) → 0 < window → a ≤ b → a / window ≤ b / window
 quotient_grows window a b some grows = le-div (a / window) b window some (omega (arith, div-mul-le_self a window))
 
-generation_grows : (made window a b : ℕ) → 0 < window → a ≤ b → generation_at made window a ≤ generation_at made window b
+pub generation_grows : (made window a b : ℕ) → 0 < window → a ≤ b → generation_at made window a ≤ generation_at made window b
 generation_grows made window a b some grows = quotient_grows window (a - made) (b - made) some (omega arith)
 
 -- so many windows later
-windows_later : (made window a n : ℕ) → 0 < window → made ≤ a → generation_at made window (a + n * window) ≡ generation_at made window a + n
+pub windows_later : (made window a n : ℕ) → 0 < window → made ≤ a → generation_at made window (a + n * window) ≡ generation_at made window a + n
 windows_later made window a n some late =
     let apart : a + n * window - made ≡ a - made + n * window = omega arith in
     rw apart (add-mul-div_right (a - made) n some)
 
 -- what a step at this moment leaves
-record After (old : Ledger) (moment : ℕ) (new : Ledger) : Type 0 where
+pub record After (old : Ledger) (moment : ℕ) (new : Ledger) : Type 0 where
   pub terms : new.terms ≡ old.terms
   pub made : new.made ≡ old.made
   pub generation : new.generation ≡ (advanced old moment).generation
@@ -54,14 +54,14 @@ after_withdrawal old moment true = record {
 }
 after_withdrawal old moment false = record { terms = refl; made = refl; generation = refl; newer = []; amounts = refl }
 
-after_step : (old : Ledger) (step : BudgetStep) (reply : BudgetReply) (new : Ledger) → Steps old step reply new → After old (moment_of step) new
+pub after_step : (old : Ledger) (step : BudgetStep) (reply : BudgetReply) (new : Ledger) → Steps old step reply new → After old (moment_of step) new
 after_step old (Deposit moment) Done new is = subst (λ (n : Ledger). After old moment n) (sym is) (after_deposit old moment)
 after_step old (Deposit moment) (Allowed allowed) new is = absurd is
 after_step old (Withdraw moment) Done new is = absurd is
 after_step old (Withdraw moment) (Allowed allowed) new is = subst (λ (n : Ledger). After old moment n) (sym is.after) (after_withdrawal old moment allowed)
 
 -- what a run leaves whose readings never go back
-record Later (old : Ledger) (from to : ℕ) (new : Ledger) : Type 0 where
+pub record Later (old : Ledger) (from to : ℕ) (new : Ledger) : Type 0 where
   pub late : from ≤ to
   pub terms : new.terms ≡ old.terms
   pub made : new.made ≡ old.made
@@ -70,12 +70,12 @@ record Later (old : Ledger) (from to : ℕ) (new : Ledger) : Type 0 where
   pub amounts : new.amounts ≡ newer ++ old.amounts
 
 -- at a moment that isn't earlier the generation is that of the moment
-aligned : (l : Ledger) (from to : ℕ) → 0 < l.terms.window → from ≤ to → l.generation ≡ generation_at l.made l.terms.window from
+pub aligned : (l : Ledger) (from to : ℕ) → 0 < l.terms.window → from ≤ to → l.generation ≡ generation_at l.made l.terms.window from
     → (advanced l to).generation ≡ generation_at l.made l.terms.window to
 aligned l from to some late is =
     max-eq_right (subst (λ (g : ℕ). g ≤ generation_at l.made l.terms.window to) (sym is) (generation_grows l.made l.terms.window from to some late))
 
-same_at : (a b : Ledger) (moment : ℕ) → a.terms ≡ b.terms → a.made ≡ b.made
+pub same_at : (a b : Ledger) (moment : ℕ) → a.terms ≡ b.terms → a.made ≡ b.made
     → generation_at a.made a.terms.window moment ≡ generation_at b.made b.terms.window moment
 same_at a b moment terms made = rw (terms, made) refl
 
@@ -83,7 +83,7 @@ append_more : (a b c : List Amount) → a ++ (b ++ c) ≡ (a ++ b) ++ c
 append_more [] b c = refl
 append_more (x ∷ a) b c = ap (λ (l : List Amount). x ∷ l) (append_more a b c)
 
-later : (old new : Ledger) (served : List (BudgetStep × BudgetReply)) (from to : ℕ) → 0 < old.terms.window → Serves Steps old served new → NeverBack from served to
+pub later : (old new : Ledger) (served : List (BudgetStep × BudgetReply)) (from to : ℕ) → 0 < old.terms.window → Serves Steps old served new → NeverBack from served to
     → old.generation ≡ generation_at old.made old.terms.window from → Later old from to new
 later old new [] from to some run never is = subst (λ (n : Ledger). Later old from to n) (sym run) (record {
   late = never;
@@ -111,13 +111,13 @@ later old new (entry ∷ rest) from to some run never is =
       amounts = more.amounts ∙ ap (λ (l : List Amount). more.newer ++ l) first.amounts ∙ append_more more.newer first.newer old.amounts;
     }
 
-counts_near : (g there here : ℕ) (a : Amount) → a.generation ≡ there → g ≡ here → there ≤ here → here ≤ there + 10 → counts g a ≡ true
+pub counts_near : (g there here : ℕ) (a : Amount) → a.generation ≡ there → g ≡ here → there ≤ here → here ≤ there + 10 → counts g a ≡ true
 counts_near g there here a own is low high =
     let after_it : a.generation ≤ g = omega arith in
     let within : g ≤ a.generation + 10 = omega arith in
     grind (arith, nat_tests)
 
-counts_no_more : (g there here : ℕ) (a : Amount) → a.generation ≡ there → g ≡ here → there + 11 ≤ here → counts g a ≡ false
+pub counts_no_more : (g there here : ℕ) (a : Amount) → a.generation ≡ there → g ≡ here → there + 11 ≤ here → counts g a ≡ false
 counts_no_more g there here a own is far =
     let past : a.generation + 11 ≤ g = omega arith in
     grind (arith, nat_tests)

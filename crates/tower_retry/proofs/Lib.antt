@@ -1,6 +1,8 @@
+pub mod BudgetBoundLemmas
 pub mod BudgetCoreLemmas
 pub mod BudgetHistoryLemmas
 pub mod BudgetLemmas
+pub mod BudgetTermsRuns
 pub mod BudgetWindowLemmas
 pub mod HedgeLemmas
 pub mod RetryLemmas

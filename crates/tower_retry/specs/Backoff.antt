@@ -1,5 +1,6 @@
 -- The waits of `retry::backoff`.
 use Rattle.std.specs.Prelude.{◌≡◌, ℕ, ◌+◌, ◌-◌, ◌*◌, ◌/◌, ◌^◌, min, nat_lt, nat_eq, if◌then◌else◌, true, false, Bool, Result, Ok, Err}
+use Rattle.std.specs.declared.clone.Clone.{Ghosts as CloneOf}
 use Rattle.std.specs.declared.alloc.AllocError.{AllocError}
 use Rattle.tower_base.specs.Sleep.{SleepView}
 use Rattle.tower_base.specs.declared.service.Clock.{Ghosts as ClockOf}
@@ -55,13 +56,13 @@ module _ {R C : Type 0} (r : RngOf R) (c : ClockOf C) where
     pub same : new.maker ≡ record old.maker { rng = new.maker.rng }
 
 -- a copy of each part, with a share of the clock
-module _ {R C : Type 0} (is_clone : R → R → Type 0) (c : ClockOf C) where
+module _ {R C : Type 0} (clones : CloneOf R) (c : ClockOf C) where
   pub record IsClone (old new : ExponentialBackoffMakerView R C) : Type 0 where
-    pub rng : is_clone old.rng new.rng
+    pub rng : clones.is_clone old.rng new.rng
     pub clock : c.shared old.clock new.clock
     pub same : new ≡ record old { rng = new.rng; clock = new.clock }
 
-  -- The result of a maker: a new backoff, or an error. The maker is unchanged.
+  -- The result of a maker: a new backoff, or an error, which happens only if the clone of its words may fail. The maker is unchanged.
   abbrev pub Made : ExponentialBackoffMakerView R C → Result (ExponentialBackoffView R C) AllocError → ExponentialBackoffMakerView R C → Type 0
   Made old (Ok backoff) new = IsClone old backoff.maker × (backoff.count ≡ 0) × (new ≡ old)
-  Made old (Err refused) new = new ≡ old
+  Made old (Err refused) new = (new ≡ old) × ¬ (clones.is_infallible old.rng)

@@ -76,8 +76,8 @@ CanPoll sound can_poll (Delaying sleep service request) = sound service
 CanPoll sound can_poll (InFlight oneshot) = can_poll oneshot
 CanPoll sound can_poll NoClone = ⊤
 
--- The sources that a future waits for: those of the call. During the delay a pending poll wakes its own waker, whatever the source.
-abbrev pub Needs : {S C Q O : Type 0} → (O → ℕ → Type 0) → State (SleepView C) S Q O → ℕ → Type 0
-Needs needs (Delaying sleep service request) = λ source. ⊤
-Needs needs (InFlight oneshot) = needs oneshot
-Needs needs NoClone = λ source. ⊥
+-- The sources that a future waits for: during the delay those of the clock, and then those of the call.
+abbrev pub Needs : {S C Q O : Type 0} → (C → ℕ → Type 0) → (O → ℕ → Type 0) → State (SleepView C) S Q O → ℕ → Type 0
+Needs hears needs (Delaying sleep service request) = hears sleep.clock
+Needs hears needs (InFlight oneshot) = needs oneshot
+Needs hears needs NoClone = λ source. ⊥

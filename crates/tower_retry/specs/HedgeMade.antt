@@ -36,9 +36,10 @@ module _ {S P L C : Type 0} (service_clone : S → S → Type 0) (policy_clone :
     pub seeded : SeededAll gave c empty latencies histogram
     pub parts : Made service_clone policy_clone gave may_share c histogram service policy min_data_points percentile clock made
 
-  -- A `Hedge` with a latch of its own. Before, the clock is read once.
-  pub record MadeAt (latencies : List ℕ) (service : S) (policy : P) (min_data_points : ℕ) (percentile : Fraction) (clock : C) (made : HedgeView S P L C) : Type 0 where
+  -- A `Hedge` with a latch of its own, of a histogram with this period. Before, the clock is read once.
+  pub record MadeAt (period_of : L → ℕ) (latencies : List ℕ) (service : S) (policy : P) (min_data_points : ℕ) (percentile : Fraction) (period : ℕ) (clock : C) (made : HedgeView S P L C) : Type 0 where
     pub latch : L
+    pub lasts : period_of latch ≡ period
     pub left : C
     pub read : c.read clock left
     pub from : MadeFrom latencies latch service policy min_data_points percentile left made

@@ -1,5 +1,6 @@
 -- The machine of `hedge::latency`.
-use Rattle.std.specs.Prelude.{◌≡◌, ℕ, ◌-◌, Option, Some, None, Result, Ok, IfSome}
+use Rattle.std.specs.Prelude.{◌≡◌, ℕ, ◌-◌, Option, Some, None, Result, Ok, MatchOption}
+use Rattle.std.specs.declared.clone.Clone.{Ghosts as CloneOf}
 use Rattle.futures.specs.declared.task.Poll.{Poll}
 use Rattle.futures.specs.declared.task.Poll.TheVariants.{Ready}
 use Rattle.tower_base.specs.declared.service.Service.{Ghosts as ServiceOf}
@@ -26,12 +27,13 @@ module _ {R S C Q A E : Type 0} {F : Type 0} (s : ServiceOf S Q A E F) where
     pub polled : s.polled old.service answer new.service
     pub same : new ≡ record old { service = new.service }
 
-  -- a call: one reading of the clock, a clone of the recorder, if cloning succeeds, and one call of the inner service, which is ready
-  pub record Called (is_clone : R → R → Type 0) (c : ClockOf C) (old : LatencyView R S C) (request : Q) (future : ResponseFutureView R F C)
+  -- a call: one reading of the clock, a clone of the recorder, and one call of the inner service, which is ready. There is no recorder if cloning
+  -- fails, which happens only if the recorder's clone may fail.
+  pub record Called (clones : CloneOf R) (c : ClockOf C) (old : LatencyView R S C) (request : Q) (future : ResponseFutureView R F C)
       (new : LatencyView R S C) : Type 0 where
     pub read : c.read old.clock new.clock
     pub start : future.start ≡ c.reading new.clock
-    pub rec : IfSome future.rec (is_clone old.rec)
+    pub rec : MatchOption future.rec (¬ (clones.is_infallible old.rec)) (clones.is_clone old.rec)
     pub ready : s.ready old.service
     pub called : s.called old.service request future.inner new.service
     pub clock : c.shared new.clock future.clock

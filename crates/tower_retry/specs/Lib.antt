@@ -1,7 +1,11 @@
 pub mod Backoff
 pub mod Budget
+pub mod BudgetAmounts
+pub mod BudgetBound
 pub mod BudgetCore
 pub mod BudgetHistory
+pub mod BudgetTerms
+pub mod BudgetTermsLemmas
 pub mod BudgetWindows
 pub mod Delay
 pub mod Hedge

@@ -130,11 +130,11 @@ pub record Sound {P S Q F W : Type 0} (policy : P → Type 0) (service : S → T
   pub under_way : IsUnderWay can_step can_wait attempts.request attempts.state
 
 -- the sources that a future waits for: those of what is under way
-abbrev pub NeedsAt : {F W : Type 0} → (F → ℕ → Type 0) → (W → ℕ → Type 0) → State F W → ℕ → Type 0
-NeedsAt response_needs wait_needs (InFlight response) = response_needs response
-NeedsAt response_needs wait_needs (Waiting wait) = wait_needs wait
-NeedsAt response_needs wait_needs Retrying = λ source. ⊥
+abbrev pub NeedsAt : {F W : Type 0} → (F → ℕ → Type 0) → (W → ℕ → Type 0) → (ℕ → Type 0) → State F W → ℕ → Type 0
+NeedsAt response_needs wait_needs service_needs (InFlight response) = response_needs response
+NeedsAt response_needs wait_needs service_needs (Waiting wait) = wait_needs wait
+NeedsAt response_needs wait_needs service_needs Retrying = service_needs
 
-abbrev pub Needs : {P S Q F W : Type 0} → (F → ℕ → Type 0) → (W → ℕ → Type 0) → ResponseFutureView P S Q F W → ℕ → Type 0
-Needs response_needs wait_needs (Some attempts) = NeedsAt response_needs wait_needs attempts.state
-Needs response_needs wait_needs None = λ source. ⊥
+abbrev pub Needs : {P S Q F W : Type 0} → (F → ℕ → Type 0) → (W → ℕ → Type 0) → (S → ℕ → Type 0) → ResponseFutureView P S Q F W → ℕ → Type 0
+Needs response_needs wait_needs service_needs (Some attempts) = NeedsAt response_needs wait_needs (service_needs attempts.service) attempts.state
+Needs response_needs wait_needs service_needs None = λ source. ⊥

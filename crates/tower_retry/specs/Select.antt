@@ -27,6 +27,10 @@ both first (Ready (Err e)) = Ready (Err (Second e))
 both (Ready (Ok x)) (Ready (Ok y)) = Ready (Ok tt)
 both first second = Pending
 
+-- What a pending poll of readiness waits for: what each service waits for that isn't ready.
+abbrev pub ServiceNeeds : {P A B : Type 0} → (A → Type 0) → (A → ℕ → Type 0) → (B → Type 0) → (B → ℕ → Type 0) → SelectView P A B → ℕ → Type 0
+ServiceNeeds a_ready a_needs b_ready b_needs s source = (¬ (a_ready s.a) × a_needs s.a source) ⊎ (¬ (b_ready s.b) × b_needs s.b source)
+
 module _ {P A B Q T E G F H : Type 0} (a : ServiceOf A Q T E F) (b : ServiceOf B Q T G H) where
   -- a poll of readiness: one poll of each
   pub record Polled (old : SelectView P A B) (answer : Poll (Result (Unit {0}) (Error E G))) (new : SelectView P A B) : Type 0 where

@@ -69,6 +69,8 @@ where
 
     ghost polled = { Polled S.Service P.Policy };
 
+    ghost needs = { λ retry. S.needs retry.service };
+
     ghost called = { Called S.Service P.Policy P.Clone S.Clone };
 
     ghost readies = { λ old new poll. S.readies old.service new.service (let ready = answered_ok Inner poll.inner tt poll.answers in Prim.rw ready at poll.polled) };
@@ -104,10 +106,7 @@ impl<P: Clone, S: Clone> Clone for Retry<P, S> {
     ghost is_infallible = { λ retry. P.is_infallible retry.policy × S.is_infallible retry.service };
 
     fn clone(&self) -> Result<Retry<P, S>, AllocError> {
-        Ok(Retry {
-            policy: self.policy.clone()?,
-            service: self.service.clone()?,
-        })
+        Ok(Retry::new(self.policy.clone()?, self.service.clone()?))
     }
 }
 

@@ -1,10 +1,13 @@
 //! The program, from its arguments and its script to its output.
+ghost use Rattle.std.specs.Prelude.{◌≡◌};
+ghost use Rattle.tower_run.specs.Fault.{status_of};
+ghost use Rattle.tower_run.specs.Words.{AskFor};
 
 use crate::fault::Fault;
 use crate::script;
 use crate::script::MAX_BYTES;
-use crate::stacks::Stack;
-use crate::storm::Storm;
+use crate::storm::Open;
+use crate::words::Task;
 use std::alloc::{AllocGlobal, Global};
 use std::env;
 use std::io::{ErrorKind, Read, Write};
@@ -24,36 +27,43 @@ where
     R: Read + Drop,
     O: Write + Drop,
     E: Write + Drop,
+    ensures { ((task : Task) → ¬ AskFor words.now task) → result ≡ 2 }
 {
-    match play(rt, words, reader).and_then(|text| write(out, text.as_str())) {
+    let Some(task) = Task::of(words) else {
+        return report(Fault::Usage, err);
+    };
+    match perform(rt, task, reader).and_then(|text| write(out, text.as_str())) {
         Ok(()) => 0,
         Err(fault) => report(fault, err),
     }
 }
 
 /// Writes the fault's line, and returns its status even if the line can't be written.
-pub fn report<E: Write + Drop>(fault: Fault, mut err: E) -> u8 {
+pub fn report<E: Write + Drop>(fault: Fault, mut err: E) -> u8
+    ensures { result ≡ status_of fault }
+{
     let _ = writeln!(err, "{fault}");
+    let _ = err.flush();
     fault.status()
 }
 
-fn play<H, R>(rt: &H, words: &[String], reader: R) -> Result<String, Fault>
+// Performs the task, and returns what is to be printed.
+fn perform<H, R>(rt: &H, task: Task, reader: R) -> Result<String, Fault>
 where
     H: Threads + Wait + RandomSource + AllocGlobal + Copy + Send + Drop + 'static,
     R: Read + Drop,
 {
-    let name = match words {
-        [name] => name,
-        [name, threads, rounds, permits] if name.as_str() == "storm" => {
-            let storm = Storm::parse(threads.as_str(), rounds.as_str(), permits.as_str());
-            return storm.ok_or(Fault::Usage)?.run(rt);
+    match task {
+        Task::Storm(storm) => {
+            let report = storm.run(rt, &Open)?;
+            format!(in rt.alloc(); "{report}\n").map_err(|_| Fault::Memory)
         }
-        _ => return Err(Fault::Usage),
-    };
-    let stack = Stack::named(name.as_str()).ok_or(Fault::Usage)?;
-    let script = read(rt.alloc(), reader)?;
-    let commands = script::parse(rt.alloc(), &script)?;
-    stack.play(rt, commands).map_err(|_| Fault::Memory)
+        Task::Script(stack) => {
+            let script = read(rt.alloc(), reader)?;
+            let commands = script::parse(rt.alloc(), &script)?;
+            stack.play(rt, commands).map_err(|_| Fault::Memory)
+        }
+    }
 }
 
 // Reads the whole script, and no byte after the first one that is too many.
@@ -81,6 +91,7 @@ fn read<R: Read + Drop>(alloc: Global, mut reader: R) -> Result<Vec<u8>, Fault> 
 
 fn write<O: Write + Drop>(mut out: O, text: &str) -> Result<(), Fault> {
     out.write_all(text.as_bytes())
+        .and_then(|()| out.flush())
         .map_err(|_| Fault::CannotWrite)
 }
 
@@ -88,7 +99,6 @@ fn write<O: Write + Drop>(mut out: O, text: &str) -> Result<(), Fault> {
 pub fn words_of<H: Env + AllocGlobal>(rt: &H) -> Result<Vec<String>, Fault> {
     match env::args(rt) {
         Ok(args) => args.skip(1).collect(rt.alloc()).map_err(|_| Fault::Memory),
-        Err(error) if error.kind() == ErrorKind::OutOfMemory => Err(Fault::Memory),
-        Err(_) => Err(Fault::Usage),
+        Err(error) => Err(Fault::of_words(error.kind())),
     }
 }

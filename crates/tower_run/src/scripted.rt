@@ -1,6 +1,8 @@
 //! The clock and the inner service that a script controls.
 ghost use Rattle.std.specs.Prelude.{◌≡◌, ⊤, true, Ok, refl};
 ghost use Rattle.futures.specs.declared.task.Poll.TheVariants.{Ready};
+ghost use Rattle.tower_run.specs.Scripted.{Takes};
+ghost use Rattle.tower_run.specs.declared.scripted.Grants.TheVariants.{Left};
 
 use crate::script::{Turn, Word};
 use futures::future::Future;
@@ -27,6 +29,29 @@ pub struct State<'a> {
 enum Grants {
     Unlimited,
     Left(u64),
+}
+
+impl Grants {
+    // From now on this number of grants is left, however many were.
+    fn allow(&mut self, grants: u64)
+        ensures { self.new ≡ Left grants }
+    {
+        *self = Grants::Left(grants);
+    }
+
+    // Takes a grant, if there is one. Returns whether it did.
+    fn take(&mut self) -> bool
+        ensures { Takes self.old result self.new }
+    {
+        match *self {
+            Grants::Unlimited => true,
+            Grants::Left(0) => false,
+            Grants::Left(grants) => {
+                *self = Grants::Left(grants - 1);
+                true
+            }
+        }
+    }
 }
 
 /// The outcome of a `Turn`.
@@ -72,7 +97,9 @@ impl<'a> State<'a> {
                 Turned::At(moment)
             }
             Turn::Allow(grants) => {
-                self.grants.set(Grants::Left(grants));
+                let mut left = self.grants.get();
+                left.allow(grants);
+                self.grants.set(left);
                 Turned::Allowed(grants)
             }
             Turn::Answer(index, answer) => {
@@ -104,14 +131,10 @@ impl<'a> State<'a> {
 
     // Takes a grant, if there is one. Returns whether it did.
     fn take_grant(&self) -> bool {
-        match self.grants.get() {
-            Grants::Unlimited => true,
-            Grants::Left(0) => false,
-            Grants::Left(grants) => {
-                self.grants.set(Grants::Left(grants - 1));
-                true
-            }
-        }
+        let mut left = self.grants.get();
+        let took = left.take();
+        self.grants.set(left);
+        took
     }
 
     /// Returns the number of polls of readiness that reached the scripted service.

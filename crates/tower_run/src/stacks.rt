@@ -1,4 +1,6 @@
 //! The stacks that a script can drive.
+ghost use Rattle.std.specs.Prelude.{◌≡◌, ◌≢◌, MatchOption};
+ghost use Rattle.tower_run.specs.Words.{name_of};
 
 use crate::refusal::Refusal;
 use crate::script::{Command, Word};
@@ -35,7 +37,9 @@ pub enum Stack {
 
 impl Stack {
     /// Returns the stack of this name, if there is one.
-    pub fn named(name: &str) -> Option<Stack> {
+    pub fn named(name: &str) -> Option<Stack>
+        ensures { MatchOption result ((stack : Stack) → name.now ≢ name_of stack) (λ stack. name.now ≡ name_of stack) }
+    {
         match name.as_bytes() {
             b"timeout" => Some(Stack::Timeout),
             b"rate" => Some(Stack::Rate),

@@ -1,6 +1,6 @@
 -- What a poll of `ReadyOneshot` and of `Ready` says of what they give.
 use Rattle.std.specs.Borrow.{MutBor}
-use Rattle.std.specs.Prelude.{Option, Some, None, IsSomeAnd, Result, Ok, Err}
+use Rattle.std.specs.Prelude.{ℕ, Option, Some, None, IsSomeAnd, Result, Ok, Err}
 use Rattle.std.proofs.Common.{◌∙◌}
 use Rattle.futures.specs.Poll.{IfReady, OnPending}
 use Rattle.futures.specs.Task.{Covers, Keeps}
@@ -9,6 +9,7 @@ use Rattle.futures.specs.declared.task.Poll.{Poll}
 use Rattle.futures.specs.declared.task.Poll.TheVariants.{Ready, Pending}
 use Rattle.tower_base.specs.Gives.{MayGive}
 use Rattle.tower_base.specs.GivesLemmas.{gives_value, gives_same}
+use Rattle.tower_util.specs.Fuse.{needs_of}
 use Rattle.tower_util.specs.Ready.{ReadinessPolled, ReadyOneshotStepped, ReadyStepped, GivesBack, HandsBack, IsReadyOneshotStep}
 
 module _ {F A : Type 0} (stepped : F → Poll A → F → Type 0) (K : F → A → Type 0) where
@@ -37,12 +38,12 @@ module _ {S E : Type 0} (sound ready : S → Type 0) (polled : S → Poll (Resul
   gives_back None answer new h = absurd h
 
   -- one step is a poll of a `ReadyOneshot`
-  pub gives_back_step : (old : Option S) (answer : Poll (Result S E)) (new : Option S) (before after : Context)
-      → ReadyOneshotStepped sound ready polled old answer new → OnPending answer (IsSomeAnd new sound) → OnPending answer (Covers after (λ _. ⊥))
-      → Keeps before after → IsReadyOneshotStep sound ready polled old answer new before after
-  gives_back_step old (Ready out) new before after s a r k =
+  pub gives_back_step : (needs : S → ℕ → Type 0) (old : Option S) (answer : Poll (Result S E)) (new : Option S) (before after : Context)
+      → ReadyOneshotStepped sound ready polled old answer new → OnPending answer (IsSomeAnd new sound) → OnPending answer (Covers after (needs_of needs new))
+      → Keeps before after → IsReadyOneshotStep sound ready polled needs old answer new before after
+  gives_back_step needs old (Ready out) new before after s a r k =
       (s, (gives_value (ReadyOneshotStepped sound ready polled) old (Ready out) new s, gives_back old (Ready out) new s), k)
-  gives_back_step old Pending new before after s a r k =
+  gives_back_step needs old Pending new before after s a r k =
       (s, a, λ out h. (gives_same (ReadyOneshotStepped sound ready polled) old Pending new s out h.0, h.1), r, k)
 
   -- a loan that is handed back is the same, of a service that is sound and ready

@@ -1,5 +1,6 @@
 -- Which requests each service here passes to the services inside it.
 use Rattle.std.proofs.Common.{◌≡◌, ◌⊎◌, inl, inr, subst, sym, refl, List, [], Option, Some, None, IfSome, Result, Ok, Err, ◌∷◌}
+use Rattle.std.specs.declared.clone.Clone.{Ghosts as CloneOf}
 use Rattle.futures.specs.declared.task.Poll.{Poll}
 use Rattle.futures.specs.declared.task.Poll.TheVariants.{Ready, Pending}
 use Rattle.tower_base.specs.ServiceRun.{Relations, relations, Action, Takes, requests}
@@ -139,7 +140,7 @@ module _ {S Q A E F : Type 0} (s : ServiceOf S Q A E F) where
     awaited Lost (Action.poll answer) new takes = subst (λ v. RunsOnceThere Lost (Action.poll answer) v) (sym takes.1) tt
     awaited Lost (Action.call request future) new takes = absurd takes.1
 
-  -- `Oneshot`: while it waits, its service is only polled. Then the service is called once with the request, or fails, and is dropped.
+  -- `Oneshot`: while it waits, and after an error of readiness, its service is only polled. A service that is ready is called once with the request.
   abbrev pub RunsInOneshot : OneshotState S Q F → OneshotState S Q F → Type 0
   RunsInOneshot (NotReady old request) (NotReady new same) = RunInside (relations s) (λ x. x ≡ []) old new × (same ≡ request)
   RunsInOneshot (NotReady old request) new = (left : S) × RunInside (relations s) (AtMostOnce request) old left
@@ -150,7 +151,8 @@ module _ {S Q A E F : Type 0} (s : ServiceOf S Q A E F) where
     -- The state after the call.
     flown : (service left : S) (request : Q) (future : F) (answer : Poll (Result A E)) (new : OneshotState S Q F)
         → RunInside (relations s) (AtMostOnce request) service left → On.ResponseStepped s stepped future answer new → RunsInOneshot (NotReady service request) new
-    flown service left request future (Ready x) new run h = subst (λ v. RunsInOneshot (NotReady service request) v) (sym h.2) (left, run)
+    flown service left request future (Ready (Ok x)) new run h = subst (λ v. RunsInOneshot (NotReady service request) v) (sym h.2) (left, run)
+    flown service left request future (Ready (Err e)) new run h = subst (λ v. RunsInOneshot (NotReady service request) v) (sym h.2) (left, run)
     flown service left request future Pending new run h = subst (λ v. RunsInOneshot (NotReady service request) v) (sym h.2) (left, run)
 
     asked : (service left : S) (request : Q) (readiness : Poll (Result (Unit {0}) E)) (answer : Poll (Result A E)) (new : OneshotState S Q F)
@@ -158,7 +160,7 @@ module _ {S Q A E F : Type 0} (s : ServiceOf S Q A E F) where
     asked service left request Pending answer new polled h =
         subst (λ v. RunsInOneshot (NotReady service request) v) (sym h.1) (one_poll (relations s) service left Pending polled refl, refl)
     asked service left request (Ready (Err e)) answer new polled h =
-        subst (λ v. RunsInOneshot (NotReady service request) v) (sym h.1) (left, one_poll (relations s) service left (Ready (Err e)) polled (inr refl))
+        subst (λ v. RunsInOneshot (NotReady service request) v) (sym h.1) (one_poll (relations s) service left (Ready (Err e)) polled refl, refl)
     asked service left request (Ready (Ok x)) answer new polled h =
         flown service h.1.1 request h.1.0 answer new (record {
           transitions = record { action = Action.poll (Ready (Ok x)); left = left } ∷ record { action = Action.call request h.1.0; left = h.1.1 } ∷ [];
@@ -167,7 +169,8 @@ module _ {S Q A E F : Type 0} (s : ServiceOf S Q A E F) where
         }) h.1.3
 
     in_flight : (future : F) (answer : Poll (Result A E)) (new : OneshotState S Q F) → On.ResponseStepped s stepped future answer new → RunsInOneshot (InFlight future) new
-    in_flight future (Ready x) new h = subst (λ v. RunsInOneshot (InFlight future) v) (sym h.2) tt
+    in_flight future (Ready (Ok x)) new h = subst (λ v. RunsInOneshot (InFlight future) v) (sym h.2) tt
+    in_flight future (Ready (Err e)) new h = subst (λ v. RunsInOneshot (InFlight future) v) (sym h.2) tt
     in_flight future Pending new h = subst (λ v. RunsInOneshot (InFlight future) v) (sym h.2) tt
 
     pub oneshot : (old : OneshotState S Q F) (answer : Poll (Result A E)) (new : OneshotState S Q F) → On.Stepped s stepped old answer new → RunsInOneshot old new
@@ -176,9 +179,9 @@ module _ {S Q A E F : Type 0} (s : ServiceOf S Q A E F) where
     oneshot Done answer new step = absurd step
 
 -- `Shared`
-module _ {S T Q A E F : Type 0} (is_clone : S → S → Type 0) (s : ServiceOf S Q A E F) where
+module _ {S T Q A E F : Type 0} (clones : CloneOf S) (s : ServiceOf S Q A E F) where
   abbrev shared_of : Relations S T SharedError (Option (Result S SharedError))
-  shared_of = record { ready = λ _. Unit {0}; polled = λ old answer new. (answer ≡ Ready (Ok tt)) × (new ≡ old); called = Sh.Called is_clone }
+  shared_of = record { ready = λ _. Unit {0}; polled = λ old answer new. (answer ≡ Ready (Ok tt)) × (new ≡ old); called = Sh.Called clones }
 
   pub shared : Projects shared_of (relations s) (λ x. x) Never
   shared old (Action.poll answer) new takes = no_action (relations s) old new takes.1 refl

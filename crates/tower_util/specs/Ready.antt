@@ -1,11 +1,12 @@
 -- The machines of `ReadyOneshot` and `Ready`: they poll readiness, and return the service once it is ready.
 use Rattle.std.specs.Borrow.{MutBor}
-use Rattle.std.specs.Prelude.{◌≡◌, Option, Some, None, Result, Ok, Err, IfOk, IsSomeAnd}
+use Rattle.std.specs.Prelude.{◌≡◌, ℕ, Option, Some, None, Result, Ok, Err, IfOk, IsSomeAnd}
 use Rattle.futures.specs.declared.task.Poll.{Poll}
 use Rattle.futures.specs.declared.task.Poll.TheVariants.{Ready, Pending}
 use Rattle.futures.specs.Task.{Covers, Keeps}
 use Rattle.futures.specs.declared.task.context.Context.{Context}
 use Rattle.tower_base.specs.Gives.{MayGive}
+use Rattle.tower_util.specs.Fuse.{needs_of}
 
 module _ {S E : Type 0} (sound ready : S → Type 0) (polled : S → Poll (Result (Unit {0}) E) → S → Type 0) where
   -- The poll of readiness returned this, and left the service so. A service that is ready is returned, and an error is passed on.
@@ -40,8 +41,9 @@ module _ {S E : Type 0} (sound ready : S → Type 0) (polled : S → Poll (Resul
   abbrev pub MayGiveBack : Option S → Result S E → Type 0
   MayGiveBack old out = MayGive (ReadyOneshotStepped sound ready polled) old out × GivesBack sound ready out
 
-  -- Everything that a poll of a `ReadyOneshot` ensures: `IsStep`, and what is known of a returned service.
-  abbrev pub IsReadyOneshotStep : Option S → Poll (Result S E) → Option S → Context → Context → Type 0
-  IsReadyOneshotStep old (Ready out) new before after = ReadyOneshotStepped sound ready polled old (Ready out) new × MayGiveBack old out × Keeps before after
-  IsReadyOneshotStep old Pending new before after = ReadyOneshotStepped sound ready polled old Pending new × IsSomeAnd new sound
-      × ((out : Result S E) → MayGiveBack new out → MayGiveBack old out) × Covers after (λ _. ⊥) × Keeps before after
+  module _ (needs : S → ℕ → Type 0) where
+    -- Everything that a poll of a `ReadyOneshot` ensures: `IsStep`, and what is known of a returned service.
+    abbrev pub IsReadyOneshotStep : Option S → Poll (Result S E) → Option S → Context → Context → Type 0
+    IsReadyOneshotStep old (Ready out) new before after = ReadyOneshotStepped sound ready polled old (Ready out) new × MayGiveBack old out × Keeps before after
+    IsReadyOneshotStep old Pending new before after = ReadyOneshotStepped sound ready polled old Pending new × IsSomeAnd new sound
+        × ((out : Result S E) → MayGiveBack new out → MayGiveBack old out) × Covers after (needs_of needs new) × Keeps before after

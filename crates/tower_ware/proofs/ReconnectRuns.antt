@@ -1,5 +1,6 @@
 -- What a `Reconnect` is asked is a run of each connection, from its making on.
 use Rattle.std.proofs.Common.{◌≡◌, ℕ, zero, suc, inl, inr, ⊎_elim, refl, ap, sym, ◌∙◌, subst, List, [], Option, Some, None, Result, Ok, Err}
+use Rattle.std.specs.declared.clone.Clone.{Ghosts as CloneOf}
 use Rattle.futures.specs.declared.task.Poll.{Poll}
 use Rattle.futures.specs.declared.task.Poll.TheVariants.{Ready, Pending}
 use Rattle.tower_base.specs.Passes.{Goes}
@@ -17,7 +18,7 @@ use Rattle.tower_ware.specs.declared.reconnect.state.State.{State}
 use Rattle.tower_ware.specs.declared.reconnect.state.State.TheVariants.{Idle, Connecting, Connected}
 
 module _ {M T S F ME Q A E G : Type 0} (m : ServiceOf M T S ME F) (connect : StepsOf F (Result S ME)) (s : ServiceOf S Q A E G)
-    (is_clone : T → T → Type 0) where
+    (clones : CloneOf T) where
   abbrev View : Type 0
   View = ReconnectView M F S ME T
 
@@ -52,7 +53,7 @@ module _ {M T S F ME Q A E G : Type 0} (m : ServiceOf M T S ME F) (connect : Ste
   held Has old state new e here = subst (λ x. Holds Has old x) (sym e) here
 
   after_maker : (old : View) (polled : M) (readiness : Poll (Result (Unit {0}) ME)) (answer : Option (Poll (Result (Unit {0}) (Error E ME)))) (new : View)
-      → old.state ≡ Idle → AfterMaker m connect s is_clone old polled readiness answer new → Holds (λ x. x ≡ []) Idle new.state
+      → old.state ≡ Idle → AfterMaker m connect s clones old polled readiness answer new → Holds (λ x. x ≡ []) Idle new.state
   after_maker old polled Pending answer new same h = held (λ x. x ≡ []) Idle Idle new (ap (λ v. v.state) h.1 ∙ same) tt
   after_maker old polled (Ready (Err e)) answer new same h = held (λ x. x ≡ []) Idle Idle new (ap (λ v. v.state) h.1 ∙ same) tt
   after_maker old polled (Ready (Ok x)) answer new same h =
@@ -60,7 +61,7 @@ module _ {M T S F ME Q A E G : Type 0} (m : ServiceOf M T S ME F) (connect : Ste
       (λ goes. held (λ x. x ≡ []) Idle (Connecting goes.2) new (ap (λ v. v.state) goes.7) tt) h
 
   after_connect : (old : View) (f left : F) (connected : Poll (Result S ME)) (answer : Option (Poll (Result (Unit {0}) (Error E ME)))) (new : View)
-      → connect.stepped f connected left → AfterConnect m connect s is_clone old left connected answer new → Holds (λ x. x ≡ []) (Connecting f) new.state
+      → connect.stepped f connected left → AfterConnect m connect s clones old left connected answer new → Holds (λ x. x ≡ []) (Connecting f) new.state
   after_connect old f left Pending answer new step h = held (λ x. x ≡ []) (Connecting f) (Connecting left) new (ap (λ v. v.state) h.1) tt
   after_connect old f left (Ready (Ok service)) answer new step h =
       held (λ x. x ≡ []) (Connecting f) (Connected service) new (ap (λ v. v.state) h.1)
@@ -68,7 +69,7 @@ module _ {M T S F ME Q A E G : Type 0} (m : ServiceOf M T S ME F) (connect : Ste
   after_connect old f left (Ready (Err e)) answer new step h = held (λ x. x ≡ []) (Connecting f) Idle new (ap (λ v. v.state) h.1) tt
 
   after_readiness : (old : View) (service left : S) (readiness : Poll (Result (Unit {0}) E)) (answer : Option (Poll (Result (Unit {0}) (Error E ME)))) (new : View)
-      → s.polled service readiness left → AfterReadiness m connect s is_clone old left readiness answer new → Holds (λ x. x ≡ []) (Connected service) new.state
+      → s.polled service readiness left → AfterReadiness m connect s clones old left readiness answer new → Holds (λ x. x ≡ []) (Connected service) new.state
   after_readiness old service left Pending answer new polled h =
       held (λ x. x ≡ []) (Connected service) (Connected left) new (ap (λ v. v.state) h.1) (inl (one_poll (relations s) service left Pending polled refl))
   after_readiness old service left (Ready (Ok x)) answer new polled h =
@@ -76,17 +77,17 @@ module _ {M T S F ME Q A E G : Type 0} (m : ServiceOf M T S ME F) (connect : Ste
   after_readiness old service left (Ready (Err e)) answer new polled h = held (λ x. x ≡ []) (Connected service) Idle new (ap (λ v. v.state) h.1) tt
 
   passed : (state : State F S) (old : View) (answer : Option (Poll (Result (Unit {0}) (Error E ME)))) (new : View) → old.state ≡ state
-      → PassAt m connect s is_clone state old answer new → Holds (λ x. x ≡ []) state new.state
+      → PassAt m connect s clones state old answer new → Holds (λ x. x ≡ []) state new.state
   passed Idle old answer new same h = after_maker old h.1 h.0 answer new same h.3
   passed (Connecting f) old answer new same h = after_connect old f h.1 h.0 answer new h.2 h.3
   passed (Connected service) old answer new same h = after_readiness old service h.1 h.0 answer new h.2 h.3
 
-  went : (n : ℕ) (old new : View) → Goes (Pass m connect s is_clone) n old new → Holds (λ x. x ≡ []) old.state new.state
+  went : (n : ℕ) (old new : View) → Goes (Pass m connect s clones) n old new → Holds (λ x. x ≡ []) old.state new.state
   unfolding Goes
   went zero old new h = held (λ x. x ≡ []) old.state old.state new (ap (λ v. v.state) h) (stays (λ x. x ≡ []) old.state refl)
   went (suc n) old new h = chained old.state h.0.state new.state (went n old h.0 h.1) (passed h.0.state h.0 None new refl h.2)
 
-  polls : (old : View) (answer : Poll (Result (Unit {0}) (Error E ME))) (new : View) → Polled m connect s is_clone old answer new
+  polls : (old : View) (answer : Poll (Result (Unit {0}) (Error E ME))) (new : View) → Polled m connect s clones old answer new
       → Holds (λ x. x ≡ []) old.state new.state
   polls old answer new p =
       let so_far = went p.passes.count old p.passes.last p.passes.went in
@@ -112,7 +113,7 @@ module _ {M T S F ME Q A E G : Type 0} (m : ServiceOf M T S ME F) (connect : Ste
     abbrev reconnect_of : Relations R Q (Error E ME) (Reply G ME)
     reconnect_of = record {
       ready = λ r. IsReady s (view r);
-      polled = λ old answer new. Polled m connect s is_clone (view old) answer (view new);
+      polled = λ old answer new. Polled m connect s clones (view old) answer (view new);
       called = λ old request reply new. Called s (view old) request reply (view new);
     }
 

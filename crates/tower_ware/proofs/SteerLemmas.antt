@@ -4,7 +4,7 @@ use Rattle.std.proofs.lemmas.List.{get_or-set_other}
 use Rattle.std.proofs.lemmas.Grind.{get_or-set_at}
 use Rattle.std.proofs.lemmas.Bool.Decides.{eqb_tells}
 use Rattle.std.proofs.lemmas.List.Elements.{All-drop}
-use Rattle.tower_ware.specs.Steer.{Listed, Rested}
+use Rattle.tower_ware.specs.Steer.{Listed, NeedsFront, Rested}
 
 module _ {S : Type 0} (ready : S → Type 0) where
   -- what stood elsewhere stands there after a write
@@ -56,3 +56,11 @@ inside_after ss is i w h = All-drop (λ k. k < length (slice_set ss i w)) 1 is (
 pub rested_after : {S : Type 0} (ready : S → Type 0) (ss : List S) (is : List ℕ) (i : ℕ) (w : S) → slice_index_or is 0 i ≡ i → 0 < length is
     → All (λ k. k < length ss) is → ready w → Rested ready ss is → Rested ready (slice_set ss i w) (drop 1 is)
 rested_after ready ss is i w front some inside now h = rested_next ready ss is i w front some (front_is is i (λ k. k < length ss) inside front some) now h
+
+-- If the service at the index in front was polled, and the task is heard at all that it waits for, it is heard at all that the list waits for.
+pub heard_front : {S : Type 0} (needs : S → ℕ → Type 0) (ss : List S) (is : List ℕ) (i : ℕ) (left : S) (heard : ℕ → Type 0)
+    → slice_index_or is 0 i ≡ i → i < length ss → ((source : ℕ) → needs left source → heard source)
+    → (source : ℕ) → NeedsFront needs is (slice_set ss i left) source → heard source
+heard_front needs ss [] i left heard front inside told source n = absurd n
+heard_front needs ss (k ∷ is) i left heard front inside told source n =
+    told source (subst (λ service. needs service source) (sym n.1 ∙ get_or-set_at ss i k left n.0 front inside) n.2)

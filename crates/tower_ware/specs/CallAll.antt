@@ -61,10 +61,11 @@ module _ {S Q D R A E F : Type 0} (s : ServiceOf S R A E F) (q : FlowOf Q R) (d 
       × (new ≡ record old { service = Some left; queue = queue; kept = None })
 
   -- The service is to be called with a request: room for the call is allocated, and then the service's readiness is polled. If allocation fails,
-  -- which is the first case, the request is kept. `grown`, `pushed` and `asked` are the queue's own relations.
+  -- which is the first case and happens only if the queue had no room left, the request is kept. `grown`, `pushed` and `asked` are the queue's own relations.
   abbrev pub Called : CallerView S Q D R → R → Answer → CallerView S Q D R → Type 0
   Called old request answer new = (queue : D) × d.grown old.queue queue
-      × (((answer ≡ Some (Ready (Some (Err Memory)))) × (new ≡ record old { queue = queue; kept = Some request }))
+      × (((answer ≡ Some (Ready (Some (Err Memory)))) × (new ≡ record old { queue = queue; kept = Some request })
+      × ¬ (d.has_room old.queue))
       ⊎ ((service polled : S) × (readiness : Poll (Result (Unit {0}) E)) × (old.service ≡ Some service) × s.polled service readiness polled
       × AfterReady (record old { queue = queue }) request polled readiness answer new))
 

@@ -1,5 +1,6 @@
 -- The machine of `filter`, for both kinds.
 use Rattle.std.specs.Prelude.{◌≡◌, ⊤, ℕ, Result, Ok, Err}
+use Rattle.std.specs.declared.clone.Clone.{Ghosts as CloneOf}
 use Rattle.futures.specs.declared.task.Poll.{Poll}
 use Rattle.futures.specs.declared.task.Poll.TheVariants.{Ready, Pending}
 use Rattle.tower_base.specs.Answers.{answered}
@@ -62,13 +63,13 @@ FilterCalled s u old request (Refusal p) new = u.checked old.predicate request (
 FilterCalled s u old request Answered new = ⊥
 
 -- A call of an `AsyncFilter`: the service that was polled goes into the future, a clone of it stays, and the predicate is called, which returns
--- the check (`asked`). If cloning fails, nothing changes.
-abbrev pub AsyncFilterCalled : {S Q A E F U R P C : Type 0} → ServiceOf S Q A E F → (S → S → Type 0) → AsyncPredicateOf U R Q P C
+-- the check (`asked`). If cloning fails, which happens only if the service's clone may fail, nothing changes.
+abbrev pub AsyncFilterCalled : {S Q A E F U R P C : Type 0} → ServiceOf S Q A E F → CloneOf S → AsyncPredicateOf U R Q P C
     → FilterView S U → R → AsyncState C S F → FilterView S U → Type 0
-AsyncFilterCalled s is_clone u old request (Check check service) new =
-    s.ready old.inner × (service ≡ old.inner) × is_clone old.inner new.inner × u.asked old.predicate request check new.predicate
-AsyncFilterCalled s is_clone u old request (InFlight future) new = ⊥
-AsyncFilterCalled s is_clone u old request NoClone new = new ≡ old
+AsyncFilterCalled s clones u old request (Check check service) new =
+    s.ready old.inner × (service ≡ old.inner) × clones.is_clone old.inner new.inner × u.asked old.predicate request check new.predicate
+AsyncFilterCalled s clones u old request (InFlight future) new = ⊥
+AsyncFilterCalled s clones u old request NoClone new = (new ≡ old) × ¬ (clones.is_infallible old.inner)
 
 module _ {A E F P : Type 0} (f : StepsOf F (Result A E)) where
   -- one poll of the response

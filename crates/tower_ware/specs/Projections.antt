@@ -1,5 +1,6 @@
 -- Which polls and calls each middleware makes of its inner service.
 use Rattle.std.proofs.Common.{◌≡◌, ◌⊎◌, ℕ, inl, inr, refl, ap, subst, sym, List, ◌∷◌, [], Option, Some, None, Result, Ok, Err, slice_index_or}
+use Rattle.std.specs.declared.clone.Clone.{Ghosts as CloneOf}
 use Rattle.futures.specs.declared.task.Poll.{Poll}
 use Rattle.futures.specs.declared.task.Poll.TheVariants.{Ready, Pending}
 use Rattle.tower_base.specs.ServiceRun.{Relations, relations, Action, Takes}
@@ -60,23 +61,23 @@ module _ {S Q A E F : Type 0} (s : ServiceOf S Q A E F) where
     filter old (Action.call request Answered) new takes = absurd takes.1
 
   -- `AsyncFilter`: a poll is one of the inner service. A call moves the inner service into its future and leaves a clone, or changes nothing.
-  module _ {U R P C : Type 0} (is_clone : S → S → Type 0) where
+  module _ {U R P C : Type 0} (clones : CloneOf S) where
     abbrev pub GoesAside : Fi.FilterView S U → Action R (FilterError E P) (AsyncState C S F) → Fi.FilterView S U → Type 0
     GoesAside old (Action.poll answer) new = RunInside (relations s) (λ x. x ≡ []) old.inner new.inner
-    GoesAside old (Action.call request (Check check service)) new = (service ≡ old.inner) × is_clone old.inner new.inner
+    GoesAside old (Action.call request (Check check service)) new = (service ≡ old.inner) × clones.is_clone old.inner new.inner
     GoesAside old (Action.call request (InFlight future)) new = ⊥
     GoesAside old (Action.call request NoClone) new = new.inner ≡ old.inner
 
     module _ (u : AsyncPredicateOf U R Q P C) where
       abbrev async_filter_of : Relations (Fi.FilterView S U) R (FilterError E P) (AsyncState C S F)
-      async_filter_of = record { ready = λ f. s.ready f.inner; polled = Fi.Polled s; called = Fi.AsyncFilterCalled s is_clone u }
+      async_filter_of = record { ready = λ f. s.ready f.inner; polled = Fi.Polled s; called = Fi.AsyncFilterCalled s clones u }
 
       pub async_filter : (old : Fi.FilterView S U) (action : Action R (FilterError E P) (AsyncState C S F)) (new : Fi.FilterView S U)
           → Takes async_filter_of old action new → GoesAside old action new
       async_filter old (Action.poll answer) new takes = one_poll (relations s) old.inner new.inner takes.inner takes.polled refl
       async_filter old (Action.call request (Check check service)) new takes = (takes.1.1, takes.1.2)
       async_filter old (Action.call request (InFlight future)) new takes = absurd takes.1
-      async_filter old (Action.call request NoClone) new takes = ap (λ f. f.inner) takes.1
+      async_filter old (Action.call request NoClone) new takes = ap (λ f. f.inner) takes.1.0
 
   module _ {C P : Type 0} (c : StepsOf C (Result Q P)) where
     -- Some check returned this request, and only this one was made.

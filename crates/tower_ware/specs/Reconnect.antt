@@ -1,5 +1,6 @@
 -- The machine of `reconnect`.
 use Rattle.std.specs.Prelude.{◌≡◌, ◌⊎◌, ℕ, Option, Some, None, Result, Ok, Err}
+use Rattle.std.specs.declared.clone.Clone.{Ghosts as CloneOf}
 use Rattle.futures.specs.declared.task.Poll.{Poll}
 use Rattle.futures.specs.declared.task.Poll.TheVariants.{Ready, Pending}
 use Rattle.tower_base.specs.Answers.{answered}
@@ -26,6 +27,16 @@ pub record ReconnectView (M F S E T : Type 0) : Type 0 where
 abbrev pub view_of : {M F S E T : Type 0} → Reconnect M T S E F → ReconnectView M F S E T
 view_of r = record { maker = r.maker; state = r.state; target = r.target; error = r.error }
 
+module _ {M F S : Type 0} (maker : M → ℕ → Type 0) (connect : F → ℕ → Type 0) (connection : S → ℕ → Type 0) where
+  -- What a pending poll of readiness waits for, by the state: the maker, its connect or the connection.
+  abbrev pub NeedsAt : State F S → M → ℕ → Type 0
+  NeedsAt Idle m source = maker m source
+  NeedsAt (Connecting f) m source = connect f source
+  NeedsAt (Connected service) m source = connection service source
+
+  abbrev pub Needs : {E T : Type 0} → ReconnectView M F S E T → ℕ → Type 0
+  Needs v source = NeedsAt v.state v.maker source
+
 module _ {M T S F ME : Type 0} (m : ServiceOf M T S ME F) (connect : StepsOf F (Result S ME)) (can_poll : F → Type 0) (sound : S → Type 0) where
   -- A connect may be polled and returns a sound service. A connection is sound.
   abbrev pub IsSound : State F S → Type 0
@@ -41,18 +52,19 @@ module _ {M T S F ME : Type 0} (m : ServiceOf M T S ME F) (connect : StepsOf F (
         → MayGive connect.stepped f (Ok service) → sound service
 
 module _ {M T S F ME Q A E G : Type 0} (m : ServiceOf M T S ME F) (connect : StepsOf F (Result S ME)) (s : ServiceOf S Q A E G)
-    (is_clone : T → T → Type 0) where
+    (clones : CloneOf T) where
   -- the result of one pass: no answer yet, or the answer of the poll
   abbrev pub Answer : Type 0
   Answer = Option (Poll (Result (Unit {0}) (Error E ME)))
 
-  -- What follows a poll of the maker's readiness. If it is ready, it is called with a clone of the target, unless cloning fails.
+  -- What follows a poll of the maker's readiness. If it is ready, it is called with a clone of the target, unless cloning
+  -- fails, which happens only if the target's clone may fail.
   abbrev pub AfterMaker : ReconnectView M F S ME T → M → Poll (Result (Unit {0}) ME) → Answer → ReconnectView M F S ME T → Type 0
   AfterMaker old polled Pending answer new = (answer ≡ Some Pending) × (new ≡ record old { maker = polled })
   AfterMaker old polled (Ready (Err e)) answer new = (answer ≡ Some (Ready (Err (Make e)))) × (new ≡ record old { maker = polled })
   AfterMaker old polled (Ready (Ok x)) answer new =
-      ((answer ≡ Some (Ready (Err Memory))) × (new ≡ record old { maker = polled }))
-      ⊎ ((target : T) × (left : M) × (f : F) × is_clone old.target target × m.ready polled × m.called polled target f left
+      ((answer ≡ Some (Ready (Err Memory))) × (new ≡ record old { maker = polled }) × ¬ (clones.is_infallible old.target))
+      ⊎ ((target : T) × (left : M) × (f : F) × clones.is_clone old.target target × m.ready polled × m.called polled target f left
       × (answer ≡ None) × (new ≡ record old { maker = left; state = Connecting f }))
 
   -- What follows a poll of a connect. If it fails, its error is kept in place of an older one, and the poll returns `Ok`.

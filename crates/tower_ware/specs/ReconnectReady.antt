@@ -1,6 +1,7 @@
 -- If a poll of a `Reconnect` returns `Ok`, its last pass does, and leaves a ready value.
 use Rattle.std.specs.Prelude.{Option, Some, None, Result, Ok, Err}
 use Rattle.std.proofs.Common.{⊎_elim}
+use Rattle.std.specs.declared.clone.Clone.{Ghosts as CloneOf}
 use Rattle.futures.specs.declared.task.Poll.{Poll}
 use Rattle.futures.specs.declared.task.Poll.TheVariants.{Ready, Pending}
 use Rattle.tower_base.specs.PassesLemmas.{passes_last}
@@ -10,16 +11,16 @@ use Rattle.tower_ware.specs.Reconnect.{AfterConnect, AfterMaker, AfterReadiness,
 use Rattle.tower_ware.specs.declared.reconnect.state.State.{State}
 use Rattle.tower_ware.specs.declared.reconnect.state.State.TheVariants.{Idle, Connecting, Connected}
 
-module _ {M T S F ME Q A E G : Type 0} (m : ServiceOf M T S ME F) (connect : StepsOf F (Result S ME)) (s : ServiceOf S Q A E G) (is_clone : T → T → Type 0)
+module _ {M T S F ME Q A E G : Type 0} (m : ServiceOf M T S ME F) (connect : StepsOf F (Result S ME)) (s : ServiceOf S Q A E G) (clones : CloneOf T)
     (readies : (old new : S) → s.polled old (Ready (Ok tt)) new → s.ready new) where
   after_maker : (old new : ReconnectView M F S ME T) (polled : M) (answer : Poll (Result (Unit {0}) ME))
-      → AfterMaker m connect s is_clone old polled answer (Some (Ready (Ok tt))) new → ⊥
+      → AfterMaker m connect s clones old polled answer (Some (Ready (Ok tt))) new → ⊥
   after_maker old new polled Pending h = let e = h.0 in cc
   after_maker old new polled (Ready (Err e)) h = let e = h.0 in cc
   after_maker old new polled (Ready (Ok x)) h = ⊎_elim (λ refused. let e = refused.0 in cc) (λ goes. let e = goes.6 in cc) h
 
   after_connect : (old new : ReconnectView M F S ME T) (left : F) (answer : Poll (Result S ME))
-      → AfterConnect m connect s is_clone old left answer (Some (Ready (Ok tt))) new → IsReady s new
+      → AfterConnect m connect s clones old left answer (Some (Ready (Ok tt))) new → IsReady s new
   after_connect old new left Pending h = absurd (let e = h.0 in cc)
   after_connect old new left (Ready (Ok service)) h = absurd (let e = h.0 in cc)
   after_connect old new left (Ready (Err e)) h = rw h.1 tt
@@ -29,19 +30,19 @@ module _ {M T S F ME Q A E G : Type 0} (m : ServiceOf M T S ME F) (connect : Ste
   ready_at None service h = h
 
   after_readiness : (old new : ReconnectView M F S ME T) (service left : S) (answer : Poll (Result (Unit {0}) E)) → s.polled service answer left
-      → AfterReadiness m connect s is_clone old left answer (Some (Ready (Ok tt))) new → IsReady s new
+      → AfterReadiness m connect s clones old left answer (Some (Ready (Ok tt))) new → IsReady s new
   after_readiness old new service left Pending p h = absurd (let e = h.0 in cc)
   after_readiness old new service left (Ready (Ok x)) p h = rw h.1 (ready_at old.error left (readies service left p))
   after_readiness old new service left (Ready (Err e)) p h = absurd (let e = h.0 in cc)
 
-  pass_ok : (state : State F S) (old new : ReconnectView M F S ME T) → PassAt m connect s is_clone state old (Some (Ready (Ok tt))) new → IsReady s new
+  pass_ok : (state : State F S) (old new : ReconnectView M F S ME T) → PassAt m connect s clones state old (Some (Ready (Ok tt))) new → IsReady s new
   pass_ok Idle old new h = absurd (after_maker old new h.1 h.0 h.3)
   pass_ok (Connecting f) old new h = after_connect old new h.1 h.0 h.3
   pass_ok (Connected service) old new h = after_readiness old new service h.1 h.0 h.2 h.3
 
-pub polled_ok : {M T S F ME Q A E G : Type 0} {m : ServiceOf M T S ME F} {connect : StepsOf F (Result S ME)} {s : ServiceOf S Q A E G} {is_clone : T → T → Type 0}
+pub polled_ok : {M T S F ME Q A E G : Type 0} {m : ServiceOf M T S ME F} {connect : StepsOf F (Result S ME)} {s : ServiceOf S Q A E G} {clones : CloneOf T}
     → ((old new : S) → s.polled old (Ready (Ok tt)) new → s.ready new)
-    → (old new : ReconnectView M F S ME T) → Polled m connect s is_clone old (Ready (Ok tt)) new → IsReady s new
-polled_ok {m = m} {connect = connect} {s = s} {is_clone = is_clone} readies old new p =
-    pass_ok m connect s is_clone readies p.passes.last.state p.passes.last new
-    (passes_last (Pass m connect s is_clone) Pending (Ready (Ok tt)) old new (λ e. cc) p.passes)
+    → (old new : ReconnectView M F S ME T) → Polled m connect s clones old (Ready (Ok tt)) new → IsReady s new
+polled_ok {m = m} {connect = connect} {s = s} {clones = clones} readies old new p =
+    pass_ok m connect s clones readies p.passes.last.state p.passes.last new
+    (passes_last (Pass m connect s clones) Pending (Ready (Ok tt)) old new (λ e. cc) p.passes)

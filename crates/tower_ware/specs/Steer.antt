@@ -46,6 +46,15 @@ pub record IsClone {S F : Type 0} (picker : F → F → Type 0) (service : S →
   pub listed : new.listed ≡ upto (length new.services)
   pub room : length new.services ≤ new.room
 
+module _ {S : Type 0} (needs : S → ℕ → Type 0) where
+  -- What a pending poll of readiness waits for: the service at the index in front of the list.
+  abbrev pub NeedsFront : List ℕ → List S → ℕ → Type 0
+  NeedsFront [] services source = ⊥
+  NeedsFront (i ∷ is) services source = (service : S) × (slice_index_or services i service ≡ service) × needs service source
+
+  abbrev pub Needs : {F : Type 0} → SteerView S F → ℕ → Type 0
+  Needs v source = NeedsFront v.listed v.services source
+
 -- `Goes` holds after `Ok`, and `Stops` of any other answer.
 abbrev pub OnOk : {E : Type 0} → Type 0 → (Poll (Result (Unit {0}) E) → Type 0) → Poll (Result (Unit {0}) E) → Type 0
 OnOk Goes Stops (Ready (Ok u)) = Goes

@@ -1,5 +1,5 @@
 -- The machine of `timeout`.
-use Rattle.std.specs.Prelude.{◌≡◌, ℕ, ◌+◌, nat_le, if◌then◌else◌, Result, Ok, Err}
+use Rattle.std.specs.Prelude.{◌≡◌, ℕ, ◌+◌, ◌⊎◌, nat_le, if◌then◌else◌, Result, Ok, Err}
 use Rattle.futures.specs.declared.task.Poll.{Poll}
 use Rattle.futures.specs.declared.task.Poll.TheVariants.{Ready, Pending}
 use Rattle.tower_base.specs.Answers.{answered}
@@ -62,6 +62,10 @@ module _ {F C A E : Type 0} (f : StepsOf F (Result A E)) (c : ClockOf C) where
     pub answers : answer ≡ answer_of inner old.deadline (c.reading new.clock)
     pub read : Reads (c.read old.clock new.clock) (new.clock ≡ old.clock) inner
     pub same : new.deadline ≡ old.deadline
+
+-- the sources that a pending future waits for: those of the response, and those of the clock
+abbrev pub Needs : {F C : Type 0} → (F → ℕ → Type 0) → (C → ℕ → Type 0) → ResponseFutureView F C → ℕ → Type 0
+Needs needs hears future s = needs future.response s ⊎ hears future.clock s
 
 module _ {S C : Type 0} (c : ClockOf C) where
   -- what the layer returns: a `Timeout` of the service, with the layer's duration and a share of its clock

@@ -76,6 +76,8 @@ where
 
     ghost polled = { Polled S.Service };
 
+    ghost needs = { λ f. S.needs f.inner };
+
     ghost called = { FilterCalled S.Service U.Predicate };
 
     ghost readies = { λ old new p. S.readies old.inner new.inner (let e = answered_ok Inner p.inner tt p.answers in Prim.rw e at p.polled) };
@@ -118,6 +120,8 @@ where
 /// Clones the inner service and the predicate.
 impl<S: Clone + Drop, U: Clone> Clone for Filter<S, U> {
     ghost is_clone = { IsClone U.is_clone S.is_clone };
+
+    ghost is_infallible = { λ f. S.is_infallible f.inner × U.is_infallible f.predicate };
 
     fn clone(&self) -> Result<Filter<S, U>, AllocError> {
         let inner = self.inner.clone()?;
@@ -221,7 +225,9 @@ where
 
     ghost polled = { Polled S.Service };
 
-    ghost called = { AsyncFilterCalled S.Service S.is_clone U.AsyncPredicate };
+    ghost needs = { λ f. S.needs f.inner };
+
+    ghost called = { AsyncFilterCalled S.Service S.Clone U.AsyncPredicate };
 
     ghost readies = { λ old new p. S.readies old.inner new.inner (let e = answered_ok Inner p.inner tt p.answers in Prim.rw e at p.polled) };
 
@@ -249,13 +255,15 @@ where
 /// future and leaves a clone, unless cloning fails. The future calls that service at most once, with the
 /// request that the check returned.
 pub fn async_projection<R: Drop, P, S: Service<P> + Clone, U: AsyncPredicate<R, Request = P>>()
-    ensures inside { (old : _) (action : _) (new : _) → Takes (relations ⟦<AsyncFilter<S, U> as Service<R>>⟧) old action new → GoesAside S.Service S.is_clone old action new }
+    ensures inside { (old : _) (action : _) (new : _) → Takes (relations ⟦<AsyncFilter<S, U> as Service<R>>⟧) old action new → GoesAside S.Service S.Clone old action new }
     ensures future { (old new : _) (answer : _) → AsyncResponseFutureStepped S.Service S.Future.Steps.own U.Future.Steps.own old answer new → RunsOfChecked S.Service U.Future.Steps.own old new }
 {}
 
 /// Clones the inner service and the predicate.
 impl<S: Clone + Drop, U: Clone> Clone for AsyncFilter<S, U> {
     ghost is_clone = { IsClone U.is_clone S.is_clone };
+
+    ghost is_infallible = { λ f. S.is_infallible f.inner × U.is_infallible f.predicate };
 
     fn clone(&self) -> Result<AsyncFilter<S, U>, AllocError> {
         let inner = self.inner.clone()?;

@@ -113,6 +113,8 @@ where
 impl<S: Clone> Clone for LoadShed<S> {
     ghost is_clone = { IsClone S.is_clone };
 
+    ghost is_infallible = { λ l. S.is_infallible l.inner };
+
     fn clone(&self) -> Result<LoadShed<S>, AllocError> {
         Ok(LoadShed::new(self.inner.clone()?))
     }

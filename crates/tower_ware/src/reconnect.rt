@@ -1,8 +1,9 @@
 //! A service that connects again if its connection fails: the Rust's `tower::reconnect`.
-ghost use Rattle.std.specs.Prelude.{◌≡◌, Some, None, IfSome};
-ghost use Rattle.futures.specs.Task.{IsArmed, Keeps};
+ghost use Rattle.std.specs.Prelude.{◌≡◌, ℕ, Some, None, IfSome};
+ghost use Rattle.futures.specs.Task.{Hears, IsArmed, Keeps};
 ghost use Rattle.futures.specs.Poll.{OnPending};
-ghost use Rattle.tower_ware.specs.Reconnect.{Called, IsReady, Pass, Polled, Sound, view_of};
+ghost use Rattle.tower_base.specs.LastPass.{AnsweredOrWoken};
+ghost use Rattle.tower_ware.specs.Reconnect.{Called, IsReady, Needs, Pass, Polled, Sound, view_of};
 ghost use Rattle.tower_ware.specs.ReconnectReady.{polled_ok};
 ghost use Rattle.tower_ware.specs.Projections.{Continues};
 ghost use Rattle.tower_base.specs.ServiceRun.{Takes, relations};
@@ -79,13 +80,23 @@ where
 
     ghost ready = { λ r. IsReady S.Service (view_of r) };
 
-    ghost polled = { λ old answer new. Polled M.Service M.Future.Steps.own S.Service Target.is_clone (view_of old) answer (view_of new) };
+    ghost polled = { λ old answer new. Polled M.Service M.Future.Steps.own S.Service Target.Clone (view_of old) answer (view_of new) };
+
+    ghost needs = { λ r. Needs M.needs M.Future.needs S.needs (view_of r) };
 
     ghost called = { λ old request future new. Called S.Service (view_of old) request future (view_of new) };
 
     ghost readies = { λ old new p. polled_ok S.readies (view_of old) (view_of new) p };
 
-    fn poll_ready(&mut self, cx: &mut Context<'_>) -> Poll<Result<(), Self::Error>> {
+    fn poll_ready(&mut self, cx: &mut Context<'_>) -> Poll<Result<(), Self::Error>>
+        requires { Sound M.Service M.Future.Steps.own M.Future.can_poll S.sound (view_of self.old) }
+        ensures polled { Polled M.Service M.Future.Steps.own S.Service Target.Clone (view_of self.old) result (view_of self.new) }
+        ensures sound { Sound M.Service M.Future.Steps.own M.Future.can_poll S.sound (view_of self.new) }
+        ensures woken { AnsweredOrWoken (Pass M.Service M.Future.Steps.own S.Service Target.Clone) (view_of self.old) result (view_of self.new) cx.new.is_woken }
+        ensures armed { OnPending result (IsArmed cx.new) }
+        ensures heard { OnPending result ((s : ℕ) → Needs M.needs M.Future.needs S.needs (view_of self.new) s → Hears cx.new s) }
+        ensures kept { Keeps cx.old cx.new }
+    {
         for _pass in 0..TURNS {
             if let Some(answer) = pass::<Request, M, S, Target>(self, cx) {
                 return answer;
@@ -132,9 +143,10 @@ where
     S: Service<Request>,
     Target: Clone + Drop,
     requires { Sound M.Service M.Future.Steps.own M.Future.can_poll S.sound (view_of reconnect.old) }
-    ensures pass { Pass M.Service M.Future.Steps.own S.Service Target.is_clone (view_of reconnect.old) result (view_of reconnect.new) }
+    ensures pass { Pass M.Service M.Future.Steps.own S.Service Target.Clone (view_of reconnect.old) result (view_of reconnect.new) }
     ensures sound { Sound M.Service M.Future.Steps.own M.Future.can_poll S.sound (view_of reconnect.new) }
     ensures armed { IfSome result (λ answer. OnPending answer (IsArmed cx.new)) }
+    ensures heard { IfSome result (λ answer. OnPending answer ((s : ℕ) → Needs M.needs M.Future.needs S.needs (view_of reconnect.new) s → Hears cx.new s)) }
     ensures kept { Keeps cx.old cx.new }
 {
     match &mut reconnect.state {

@@ -1,7 +1,7 @@
 //! A service that chooses one of many services for each request: the Rust's `tower::steer`.
 ghost use Rattle.std.specs.Prelude.{◌≡◌, ◌<◌, ◌≤◌, [], All, IfOk, length};
 ghost use Rattle.std.specs.VecDeque.{deque_capacity};
-ghost use Rattle.tower_ware.specs.Steer.{Called, Fits, IsClone, Polled, Sound, SteerView, upto};
+ghost use Rattle.tower_ware.specs.Steer.{Called, Fits, IsClone, Needs, Polled, Sound, SteerView, upto};
 ghost use Rattle.tower_ware.specs.SteerReady.{polled_ok};
 ghost use Rattle.tower_ware.specs.Projections.{service_at};
 ghost use Rattle.tower_base.specs.ServiceRun.{relations};
@@ -75,10 +75,13 @@ impl<S: Service<Req>, F: Picker<S, Req>, Req> Service<Req> for Steer<S, F, Req> 
 
     ghost polled = { Polled S.Service };
 
+    ghost needs = { Needs S.needs };
+
     ghost called = { Called S.Service F.Picker };
 
     ghost readies = { λ old new p. polled_ok old new p };
 
+    #[tactic(auto, using(crate::proofs::SteerLemmas::heard_front))]
     fn poll_ready(&mut self, cx: &mut Context<'_>) -> Poll<Result<(), S::Error>> {
         while let Some(front) = self.listed.front() {
             let index = *front;

@@ -63,6 +63,8 @@ impl<Request, S: Service<Request>, C: Clock> Service<Request> for Timeout<S, C> 
 
     ghost polled = { Polled S.Service C.Clock };
 
+    ghost needs = { λ v. S.needs v.inner };
+
     ghost called = { Called S.Service C.Clock };
 
     ghost readies = { λ old new p. S.readies old.inner new.inner (let e = answered_ok Inner p.inner tt p.answers in Prim.rw e at p.polled) };
@@ -105,6 +107,8 @@ where
 /// A clone shares the clock.
 impl<S: Clone, C: Clock> Clone for Timeout<S, C> {
     ghost is_clone = { IsClone C.Clock S.is_clone };
+
+    ghost is_infallible = { λ t. S.is_infallible t.inner };
 
     fn clone(&self) -> Result<Timeout<S, C>, AllocError> {
         let inner = self.inner.clone()?;

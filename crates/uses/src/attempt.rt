@@ -1,24 +1,21 @@
 //! The response to a request that may hang.
 
-ghost use Rattle.std.specs.Prelude.{⊤};
-
-use futures::future::Future;
+use futures::future::{Future, Pending};
 use futures::task::{Context, Poll};
 use std::convert::Infallible;
 use tower::service::Steps;
 
 /// A response that comes at once, or never.
-#[derive(Clone, Copy, Debug)]
+#[derive(Drop)]
 pub enum Attempt {
     Answers,
-    Hangs,
+    Hangs(Pending<Result<u32, Infallible>>),
 }
 
 impl Future for Attempt {
     type Output = Result<u32, Infallible>;
 
-    // A pending poll wakes its own task.
-    ghost needs = { λ _ _. ⊤ };
+    ghost needs = { λ _ _. ⊥ };
 
     fn poll(&mut self, cx: &mut Context<'_>) -> Poll<Self::Output> {
         self.step(cx)
@@ -28,13 +25,10 @@ impl Future for Attempt {
 impl Steps for Attempt {
     type Output = Result<u32, Infallible>;
 
-    // A pending poll wakes its own task.
-    ghost needs = { λ _ _. ⊤ };
-
     fn step(&mut self, cx: &mut Context<'_>) -> Poll<Self::Output> {
         match self {
             Attempt::Answers => Poll::Ready(Ok(2)),
-            Attempt::Hangs => cx.yield_now(),
+            Attempt::Hangs(never) => never.poll(cx),
         }
     }
 }

@@ -7,7 +7,7 @@ use std::alloc::AllocGlobal;
 use std::sync::Wait;
 use std::thread::Threads;
 use std::{io, thread};
-use tower::latch::{Core, Guarded, Latch};
+use tower::latch::{Core, Guarded, Latch, Wakes};
 
 /// The seats that are left, of three: those numbered below `left`.
 #[derive(Drop)]
@@ -21,7 +21,9 @@ impl Core for Seats {
 
     type Reply = Option<u32>;
 
-    ghost use Rattle.tower_latch.specs.LatchLemmas.{none_held, no_places};
+    type Terms = ();
+
+    ghost use Rattle.tower_latch.specs.LatchLemmas.{none_held, no_terms};
 
     ghost opens = { λ seats. seats.left ≡ 3 };
 
@@ -29,25 +31,21 @@ impl Core for Seats {
 
     ghost is_wait = { λ _. false };
 
+    ghost terms = { λ _. tt };
+
     ghost starts = { none_held _ };
 
-    ghost counts = { no_places _ };
+    ghost counts = { no_terms _ };
 
-    fn step(&mut self, _step: ()) -> Option<u32> {
+    fn step(&mut self, _step: ()) -> (Option<u32>, Wakes) {
         if self.left == 0 {
-            return None;
+            return (None, Wakes::Nobody);
         }
         self.left -= 1;
-        Some(self.left)
+        (Some(self.left), Wakes::Nobody)
     }
 
-    fn waits(_reply: &Option<u32>) -> bool {
-        false
-    }
-
-    fn capacity(&self) -> usize {
-        0
-    }
+    fn terms(&self) {}
 }
 
 /// The prices of the seats.

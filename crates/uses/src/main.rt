@@ -6,6 +6,7 @@ mod attempt;
 mod balance;
 mod buffer;
 mod call_all;
+mod counted;
 mod filter;
 mod hedge;
 mod latch;
@@ -13,12 +14,16 @@ mod load;
 mod load_shed;
 mod make;
 mod permits;
+mod queued;
 mod ready_cache;
 mod reconnect;
+mod refusal;
 mod select;
 mod server;
 mod spawn_ready;
+mod stands;
 mod steer;
+mod waits;
 mod within_rate;
 
 use std::fmt::Display;
@@ -42,7 +47,10 @@ fn main(rt: HostRuntime) -> io::Result<()> {
     filter::reject(rt)?;
     filter::reject_later(rt)?;
     reconnect::connect_again(rt)?;
+    reconnect::connect_behind_a_buffer(rt)?;
+    queued::shed_load(rt)?;
     steer::pick(rt)?;
+    steer::pick_under_a_limit(rt)?;
     steer::miss(rt)?;
     call_all::in_order(rt)?;
     call_all::as_they_come(rt)?;
@@ -57,5 +65,10 @@ fn main(rt: HostRuntime) -> io::Result<()> {
     hedge::ask_again(rt)?;
     latch::sell_two_seats(rt)?;
     permits::hold_three(rt)?;
-    within_rate::hold_back(rt)
+    within_rate::hold_back(rt)?;
+    within_rate::wait_for_each(rt)?;
+    waits::within_rate(rt)?;
+    stands::wait_for_the_rate(rt)?;
+    refusal::tell_apart(rt)?;
+    refusal::list(rt)
 }

@@ -18,7 +18,7 @@ fn gathered<L: Latch<LineCore>>(
     shares: usize,
     cx: &mut Context<'_>,
 ) -> Result<usize, AllocError>
-    ensures { IfOk result (λ held. held ≤ L.size semaphore.now.latch) }
+    ensures { IfOk result (λ held. held ≤ L.terms semaphore.now.latch) }
 {
     let mut permits: Vec<Permit<L>> = Vec::new(alloc);
     for _ in 0..shares {

@@ -1,5 +1,6 @@
 //! `Reconnect`, and `Sealed` in a loop.
 
+use crate::queued::queued;
 use crate::tell;
 use futures::future::{Ready, ok};
 use futures::task::{Context, Poll};
@@ -67,4 +68,15 @@ where
         ok(Connection { is_closed: false })
     });
     call_three(rt, Reconnect::new(connect, 5432))
+}
+
+/// Makes two calls of such a connection behind a buffer.
+pub fn connect_behind_a_buffer<R>(rt: R) -> io::Result<()>
+where
+    R: Wait + RandomSource + AllocGlobal + Print + Copy,
+{
+    let connect = service_fn(|_port: u16| -> Ready<Result<Connection, Closed>> {
+        ok(Connection { is_closed: false })
+    });
+    queued(rt, "queued reconnect", Reconnect::new(connect, 5432))
 }

@@ -5,12 +5,13 @@ use crate::tell;
 use futures::future::{Ready, ok};
 use std::alloc::AllocGlobal;
 use std::convert::Infallible;
+use std::fmt::Display;
 use std::io;
 use std::random::RandomSource;
 use std::sync::Wait;
 use tower::steer::{Picker, Steer};
-use tower::util::{Either, Optional};
-use tower::{BlockOnExt, service_fn};
+use tower::util::{Either, Optional, Sealed};
+use tower::{BlockOnExt, Service, ServiceBuilder, service_fn};
 
 /// A picker that sends even requests to the first service, and odd ones to the last.
 #[derive(Clone, Copy)]
@@ -36,6 +37,33 @@ where
     let mut service = Steer::new(rt.alloc(), services, ByParity)?;
     tell(rt, "steer", service.block_on_call(&rt, 2)?)?;
     tell(rt, "steer", service.block_on_call(&rt, 3)?)
+}
+
+// Makes three calls of any service under a limit of one call at a time.
+fn limited<R, S>(rt: R, pair: S) -> io::Result<()>
+where
+    R: Wait + RandomSource + AllocGlobal + Print + Copy,
+    S: Service<u32, Response = u32>,
+    S::Error: Display,
+    requires { S.sound pair }
+{
+    let limited = ServiceBuilder::new()
+        .concurrency_limit(rt, rt.alloc(), 1)
+        .service(pair)?;
+    let mut service = Sealed::new(limited);
+    for request in 1..4 {
+        tell(rt, "limited pair", service.block_on_call(&rt, request)?)?;
+    }
+    Ok(())
+}
+
+/// Calls a pair of services under one limit.
+pub fn pick_under_a_limit<R>(rt: R) -> io::Result<()>
+where
+    R: Wait + RandomSource + AllocGlobal + Print + Copy,
+{
+    let services = vec![in rt.alloc(); Server(1), Server(2)]?;
+    limited(rt, Steer::new(rt.alloc(), services, ByParity)?)
 }
 
 /// Calls a service that isn't there, which returns an error.

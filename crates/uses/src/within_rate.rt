@@ -1,18 +1,20 @@
 //! A rate limit under layers of the library and a custom one. Whatever is polled, called, dropped or
 //! answered, the calls that reach the server keep to the rate.
 ghost use Rattle.std.specs.Prelude.{IfOk};
-ghost use Rattle.tower_base.specs.Projection.{MappedOrNone, Once, Through};
-ghost use Rattle.tower_base.specs.ProjectionLemmas.{composed_once, forwards};
+ghost use Rattle.tower_base.specs.Projection.{AtMostOnce, MappedOrNone, Once, Through};
 ghost use Rattle.tower_base.specs.ServiceRun.{made};
+ghost use Rattle.tower.specs.WaitRuns.{WithinRate};
+ghost use Rattle.tower_limit.specs.Rate.{StandsFor, opening};
 ghost use Rattle.tower_limit.specs.RateRun.{KeepsRate};
 ghost use Rattle.tower_ware.specs.Projections.{LetsThrough};
 
+use crate::counted::Counted;
 use crate::filter::{Odd, even};
 use crate::server::Server;
-use futures::task::{Context, Doorbell, Poll, Solo};
+use futures::task::{Context, Doorbell, Solo};
 use std::alloc::{AllocError, AllocGlobal, Global};
+use std::cell::Cell;
 use std::io;
-use std::marker::Model;
 use std::random::RandomSource;
 use std::sync::Wait;
 use tower::Service;
@@ -21,63 +23,9 @@ use tower::filter::{self, Filter, Predicate};
 use tower::latch::Latch;
 use tower::limit::concurrency::{self, ConcurrencyLimit, LineCore, Semaphore};
 use tower::limit::rate::{Rate, RateLimit, drive_within_rate};
-use tower::run::Contains;
 use tower::service::{Clock, Monotonic, SystemClock};
 use tower::timeout::{self, Timeout};
-
-/// A custom layer, which counts the calls of its service.
-#[derive(Drop)]
-struct Counted<S> {
-    inner: S,
-    calls: u64,
-}
-
-// Contracts see only the inner service.
-impl<S> Model for Counted<S> {
-    ghost Value = { S };
-
-    ghost view = { λ c. c.inner };
-}
-
-impl<Request, S: Service<Request>> Service<Request> for Counted<S> {
-    type Response = S::Response;
-
-    type Error = S::Error;
-
-    type Future = S::Future;
-
-    ghost sound = { S.sound };
-
-    ghost ready = { S.ready };
-
-    ghost polled = { S.polled };
-
-    ghost called = { λ old request future new. S.ready old × S.called old request future new };
-
-    ghost readies = { S.readies };
-
-    fn poll_ready(&mut self, cx: &mut Context<'_>) -> Poll<Result<(), S::Error>> {
-        self.inner.poll_ready(cx)
-    }
-
-    fn call(&mut self, request: Request) -> S::Future {
-        self.calls = self.calls.saturating_add(1);
-        self.inner.call(request)
-    }
-}
-
-// Each poll and each call goes inside unchanged.
-impl<Request, Passed, L, S> Contains<Request, Passed, L> for Counted<S>
-where
-    L: Service<Passed>,
-    S: Contains<Request, Passed, L>,
-{
-    ghost inside = { S.inside };
-
-    ghost goes = { S.goes };
-
-    ghost projects = { composed_once _ _ _ (λ c. c) S.inside S.goes (forwards _ _ (λ c. c) (λ _ _ answer p. (answer, p)) (λ _ _ _ future c. (future, c.0, c.1))) S.projects };
-}
+use tower::util::block_on_each_within_rate;
 
 type Failure<E, P> = timeout::Error<filter::Error<concurrency::Error<E>, P>>;
 
@@ -108,9 +56,37 @@ where
     Ok(transcript)
 }
 
+// Calls the five with each request, and waits for each response. At most 20 of the calls that reach the
+// server come in any second, if the limit is new.
+fn ask_five<S, C, D, U, L, T, R, F>(
+    rt: &R,
+    stack: &mut Five<S, C, L, U, D>,
+    requests: Vec<T>,
+    each: F,
+) -> io::Result<()>
+where
+    T: Drop,
+    S: Service<u32>,
+    C: Monotonic,
+    D: Clock,
+    U: Predicate<T, Request = u32>,
+    L: Latch<LineCore>,
+    R: Wait + RandomSource + AllocGlobal,
+    F: FnMut(Result<S::Response, Failure<S::Error, U::Error>>) + Drop,
+    requires server { S.sound stack.old.inner.inner.inner.inner }
+    requires predicate { U.sound stack.old.inner.predicate }
+    requires callable { F.IsAlwaysCallable each }
+    requires new { StandsFor stack.old.inner.inner.inner.core (opening 20 1000000000) }
+    ensures { IfOk result (λ _. WithinRate 20 1000000000 S.Service C.Clock (Through AtMostOnce (Through (MappedOrNone (LetsThrough U.Predicate)) Once))
+        stack.old.inner.inner.inner requests.items) }
+{
+    block_on_each_within_rate(stack, rt, requests, each)?;
+    Ok(())
+}
+
 /// A predicate that accepts even requests.
 #[derive(Drop)]
-struct Even;
+pub struct Even;
 
 impl Predicate<u32> for Even {
     type Request = u32;
@@ -148,10 +124,7 @@ where
         Event::Call(6),
     ]?;
     let rate = Rate::new(2, 3_600_000_000_000);
-    let own = Counted {
-        inner: RateLimit::new(alloc, Server(1), rate, SystemClock::new(rt)?)?,
-        calls: 0,
-    };
+    let own = Counted::new(RateLimit::new(alloc, Server(1), rate, SystemClock::new(rt)?)?);
     let bounded = ConcurrencyLimit::with_semaphore(own, Semaphore::new(rt, alloc, 3)?);
     let stack = Timeout::new(
         Filter::new(bounded, Even),
@@ -163,4 +136,28 @@ where
     let transcript = drive_five(alloc, &mut cx, stack, events);
     cx.cancel();
     println!(rt; "within_rate: {} of 3 calls", calls(&transcript?))
+}
+
+/// Calls such a stack with three requests, one after another. Two of them reach the server.
+pub fn wait_for_each<R>(rt: R) -> io::Result<()>
+where
+    R: Wait + RandomSource + AllocGlobal + Print + std::time::Clock + Copy,
+{
+    let (alloc, served) = (rt.alloc(), Cell::new(0));
+    let rate = Rate::new(20, 1_000_000_000);
+    let limited = RateLimit::new(alloc, Server(1), rate, SystemClock::new(rt)?)?;
+    let own = Counted::new(limited);
+    let bounded = ConcurrencyLimit::with_semaphore(own, Semaphore::new(rt, alloc, 3)?);
+    let mut stack = Timeout::new(
+        Filter::new(bounded, Even),
+        1_000_000_000,
+        SystemClock::new(rt)?,
+    );
+    let requests = vec![in alloc; 1, 2, 4]?;
+    ask_five(&rt, &mut stack, requests, |answer| {
+        if answer.is_ok() {
+            served.set(u32::saturating_add(served.get(), 1));
+        }
+    })?;
+    println!(rt; "within_rate: {} of 3 responses", served.get())
 }

@@ -12,17 +12,17 @@ use tower::limit::concurrency::{LineCore, LineReply, LineStep};
 fn nine_join(alloc: Global, again: bool) -> Result<(), Fail> {
     let mut line = LineCore::new(alloc, 0);
     for key in 0..9u64 {
-        let mut reply = line.step(LineStep::Join);
+        let mut reply = line.step(LineStep::Join).0;
         if again && reply == LineReply::Memory {
-            if line.step(LineStep::Look(key)) != LineReply::Unknown {
+            if line.step(LineStep::Look(key)).0 != LineReply::Unknown {
                 return Err("a refused one waits".into());
             }
             for earlier in 0..key {
-                if line.step(LineStep::Look(earlier)) != LineReply::Waiting(earlier) {
+                if line.step(LineStep::Look(earlier)).0 != LineReply::Waiting(earlier) {
                     return Err("one that waits is lost".into());
                 }
             }
-            reply = line.step(LineStep::Join);
+            reply = line.step(LineStep::Join).0;
         }
         if reply != LineReply::Waiting(key) {
             return Err("not waiting".into());
@@ -55,18 +55,18 @@ fn is_nth(reply: &MailReply<u8, u8, u8>, nth: u64) -> bool {
 // Nine ask for mail's one place. A refused one neither has it nor waits, and all others are as before.
 fn nine_ask(mut mail: MailCore<u8, u8, u8>, again: bool) -> Result<(), Fail> {
     for nth in 0..9u64 {
-        let mut reply = mail.step(Step::Reserve);
+        let mut reply = mail.step(Step::Reserve).0;
         if again && matches!(reply, MailReply::Memory) {
-            if nth == 0 && !matches!(mail.step(Step::Unreserve), MailReply::Unknown) {
+            if nth == 0 && !matches!(mail.step(Step::Unreserve).0, MailReply::Unknown) {
                 return Err("a refused one has a place".into());
             }
             for key in 0..nth {
-                let is_known = matches!(mail.step(Step::Look(key)), MailReply::Waiting(_));
+                let is_known = matches!(mail.step(Step::Look(key)).0, MailReply::Waiting(_));
                 if is_known != (key + 1 < nth) {
                     return Err("who waits isn't as before".into());
                 }
             }
-            reply = mail.step(Step::Reserve);
+            reply = mail.step(Step::Reserve).0;
         }
         if !is_nth(&reply, nth) {
             return Err("neither a place nor waiting".into());

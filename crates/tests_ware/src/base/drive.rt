@@ -2,6 +2,7 @@
 
 use futures::task::Context;
 use futures::test::MockTask;
+use std::fmt::Write;
 use std::test::Fail;
 use tests_support::checks::Checks;
 use tests_support::log::Log;
@@ -111,5 +112,24 @@ fn closure_keeps_its_state(rt: HostRuntime) -> Result<(), Fail> {
     let text = run(rt, &script, Vec::new(rt.alloc()))?;
     checks.same(&text.as_str(), &"");
     checks.told(&log, "a dropped;a dropped;");
+    checks.verdict()
+}
+
+// 4,500 events: 1,500 polls, as many calls, whose futures are kept, and as many turns.
+#[test]
+fn many_events_have_an_entry_each(rt: HostRuntime) -> Result<(), Fail> {
+    let checks = Checks::new(rt.alloc());
+    let log = Log::new(rt.alloc())?;
+    let script = Script::new(&log);
+    let mut events = Vec::new(rt.alloc());
+    let mut wanted = String::new(rt.alloc());
+    for number in 0..1500u64 {
+        events.push(Event::Poll)?;
+        events.push(Event::Call(7u8))?;
+        events.push(Event::Turn(1u64))?;
+        let _ = write!(wanted, "ready;call {number};at {};", number.wrapping_add(1));
+    }
+    let text = run(rt, &script, events)?;
+    checks.same(&text.as_str(), &wanted.as_str());
     checks.verdict()
 }

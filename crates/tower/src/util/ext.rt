@@ -20,7 +20,8 @@ use tower_base::service::{Flow, Service};
 /// Methods that every service has: the Rust's `tower::ServiceExt`.
 pub trait ServiceExt<Request>: Service<Request> {
     /// Returns a future that waits until the service is ready, and then returns its borrow. After an error
-    /// contracts know nothing of the service; after `block_on_ready` they do.
+    /// contracts know nothing of the service; after `block_on_ready` they do, and of a `Sealed` they always
+    /// know that it is sound, so a pool's task seals its service before it makes call after call.
     final fn ready(&mut self) -> Ready<'_, Self, Request>
     where
         Self: Sized,

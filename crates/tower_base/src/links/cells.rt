@@ -1,5 +1,5 @@
 //! The slab, and the only calls that reach its entries. Each such call reaches at most one entry, and
-//! counts one touch.
+//! counts one touch, except `peek` and `peek_place`, which count none.
 ghost use Rattle.std.specs.Prelude.{◌≡◌, ◌+◌, ◌≤◌, ◌<◌, [], Some, None, OnOk, IsOk, OnSome, IfNone, length};
 ghost use Rattle.slab.specs.Slab.{get, slab_len, ContainsKey, HasRoomFor, Updates, with_value};
 ghost use Rattle.tower_base.specs.Cells.{place_at, entry, with_place};
@@ -103,6 +103,26 @@ impl<T> Cells<T> {
         ensures value { option_copied result ≡ value_at self.old.slab key }
     {
         self.touches.tick();
+        match self.slab.get(key) {
+            Some(entry) => Some(&entry.value),
+            None => None,
+        }
+    }
+
+    /// Returns the place of the entry, if there is one. Counts no touch.
+    pub fn peek_place(&self, key: usize) -> Option<Place>
+        ensures { result ≡ place_at self.now.slab key }
+    {
+        match self.slab.get(key) {
+            Some(entry) => Some(entry.place),
+            None => None,
+        }
+    }
+
+    /// Returns the value under the key, if there is one. Counts no touch.
+    pub fn peek(&self, key: usize) -> Option<&T>
+        ensures { option_copied result ≡ value_at self.now.slab key }
+    {
         match self.slab.get(key) {
             Some(entry) => Some(&entry.value),
             None => None,

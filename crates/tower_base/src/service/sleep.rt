@@ -1,5 +1,5 @@
 //! A future that waits for a clock.
-ghost use Rattle.std.specs.Prelude.{◌≡◌, ⊤, ◌+◌};
+ghost use Rattle.std.specs.Prelude.{◌≡◌, ◌⊎◌, ⊤, ◌+◌, true};
 ghost use Rattle.futures.specs.Poll.{IfReady, OnPending};
 ghost use Rattle.futures.specs.Task.{Covers, Keeps};
 ghost use Rattle.tower_base.specs.Gives.{IsStep, MayGive};
@@ -40,12 +40,11 @@ impl<C: Clock> Future for Sleep<C> {
 
     ghost gives = { MayGive (Stepped C.Clock) };
 
-    // A pending poll wakes its own waker, whatever the source.
-    ghost needs = { λ _ _. ⊤ };
+    ghost needs = { λ s. C.hears s.clock };
 
     #[tactic(auto, using(crate::specs::GivesLemmas::one_step))]
     fn poll(&mut self, cx: &mut Context<'_>) -> Poll<()>
-        ensures { IsStep (Stepped C.Clock) (λ _. ⊤) (λ _ _. ⊤) self.old result self.new cx.old cx.new }
+        ensures { IsStep (Stepped C.Clock) (λ _. ⊤) (λ s. C.hears s.clock) self.old result self.new cx.old cx.new }
     {
         self.step(cx)
     }
@@ -54,16 +53,22 @@ impl<C: Clock> Future for Sleep<C> {
 impl<C: Clock> Steps for Sleep<C> {
     type Output = ();
 
-    // A pending poll wakes its own waker, whatever the source.
-    ghost needs = { λ _ _. ⊤ };
+    ghost needs = { λ s. C.hears s.clock };
 
     ghost stepped = { Stepped C.Clock };
 
-    fn step(&mut self, cx: &mut Context<'_>) -> Poll<()> {
+    fn step(&mut self, cx: &mut Context<'_>) -> Poll<()>
+        ensures step { Stepped C.Clock self.old result self.new }
+        ensures again { OnPending result ⊤ }
+        ensures registered { OnPending result (Covers cx.new (C.hears self.new.clock)) }
+        ensures timed { OnPending result ((cx.new.is_woken ≡ true) ⊎ C.wakes_by self.new.clock self.new.deadline cx.new) }
+        ensures kept { Keeps cx.old cx.new }
+    {
         let moment = self.clock.now();
         if moment as u128 >= self.deadline {
             return Poll::Ready(());
         }
-        cx.yield_now()
+        self.clock.wake_at(self.deadline, cx);
+        Poll::Pending
     }
 }

@@ -1,10 +1,11 @@
 //! The computer's own clock.
-ghost use Rattle.std.specs.Prelude.{◌≡◌, IfOk};
+ghost use Rattle.std.specs.Prelude.{◌≡◌, ◌<◌, ◌^◌, ◌↔◌, IfOk, IfSome, IsSome, max};
+ghost use Rattle.std.specs.Duration.{as_nanos};
 ghost use Rattle.tower_base.specs.SystemClock.{SystemClockView, Read};
 
 use crate::service::{Clock, Monotonic};
 use std::marker::Model;
-use std::time::Instant;
+use std::time::{Duration, Instant};
 use std::{io, rt};
 
 /// The computer's monotonic clock. A reading is the number of nanoseconds since the clock was created.
@@ -12,7 +13,7 @@ use std::{io, rt};
 ///
 /// No reading is before the last one. If the clock can't be read, or is past 2^64 - 1 or before the last
 /// reading, a reading repeats the last one.
-#[derive(Drop)]
+#[derive(Clone, Drop)]
 pub struct SystemClock<R> {
     rt: R,
     start: Instant,
@@ -44,7 +45,7 @@ impl<R: rt::Clock + Copy> Clock for SystemClock<R> {
 
     fn now(&mut self) -> u64 {
         if let Ok(elapsed) = self.start.elapsed(&self.rt) {
-            if let Ok(moment) = u64::try_from(elapsed.as_nanos()) {
+            if let Some(moment) = nanos_of(elapsed) {
                 self.last = self.last.max(moment);
             }
         }
@@ -62,4 +63,12 @@ impl<R: rt::Clock + Copy> Clock for SystemClock<R> {
 
 impl<R: rt::Clock + Copy> Monotonic for SystemClock<R> {
     ghost forward = { λ old new read. read.0 };
+}
+
+// Returns the nanoseconds of the duration, unless they are past 2^64 - 1.
+fn nanos_of(elapsed: Duration) -> Option<u64>
+    ensures exact { IfSome result (λ nanos. nanos ≡ as_nanos elapsed) }
+    ensures fits { IsSome result ↔ (as_nanos elapsed < 2 ^ 64) }
+{
+    u64::try_from(elapsed.as_nanos()).ok()
 }

@@ -4,11 +4,11 @@ use crate::Core;
 use crate::guarded::Kept;
 use atomic_table::{Join, Play, Seat as TableSeat, Table, TableRule};
 use std::alloc::Global;
+use std::marker::{Brand, PhantomData};
 
-// What a seat knows: the number of places, how many of them it has, whether it has the core, and how
-// many were held when it took the core. No value of this type is ever made.
+// What a seat knows: how many places it has, whether it has the core, and how many were held when it took
+// the core. No value of this type is ever made.
 pub struct View {
-    pub size: usize,
     pub out: u64,
     pub has: bool,
     pub held: u64,
@@ -16,21 +16,35 @@ pub struct View {
 
 pub struct Counts;
 
-impl<C: Core> TableRule<Kept<C>, View, usize> for Counts {
+impl<C: Core> TableRule<Kept<C>, View, C::Terms> for Counts {
+    ghost use Rattle.std.specs.Prelude.{◌≡◌};
     ghost use Rattle.tower_latch.specs.CoreTable.{Agree, fresh};
 
-    ghost holds = { Agree (λ k. C.size k.core) (λ k. C.out k.core) };
+    ghost holds = { λ terms. Agree (λ k. C.terms k.core ≡ terms) (λ k. C.out k.core) };
 
-    ghost first = { fresh };
+    ghost first = { λ _. fresh };
 }
 
-// Takes the core, if it is there.
-pub struct Takes;
+/// A type that says which terms they are, for one call.
+pub trait Known<T> {
+    ghost are: { T → Type 0 };
+}
 
-impl<C: Core> Play<Kept<C>, View> for Takes {
+impl<T> Known<T> for Brand {
+    ghost use Rattle.std.specs.Prelude.{⊤};
+
+    ghost are = { λ _. ⊤ };
+}
+
+// Takes the core, if it is there. Its terms are known.
+pub struct Takes<K> {
+    known: PhantomData<K>,
+}
+
+impl<C: Core, K: Known<C::Terms>> Play<Kept<C>, View> for Takes<K> {
     ghost use Rattle.tower_latch.specs.CoreTable.{Taken};
 
-    ghost then = { Taken (λ k. C.size k.core) (λ k. C.out k.core) };
+    ghost then = { Taken (λ k. K.are (C.terms k.core)) (λ k. C.out k.core) };
 }
 
 // Puts the core back.
@@ -46,14 +60,14 @@ impl<C: Core> Play<Kept<C>, View> for Frees {
 pub struct Gathers;
 
 impl Join<View> for Gathers {
-    ghost use Rattle.tower_latch.specs.CoreTable.{with_those, spent_view};
+    ghost use Rattle.tower_latch.specs.CoreTable.{with_those, fresh};
 
     ghost both = { with_those };
 
-    ghost spent = { spent_view };
+    ghost spent = { fresh };
 }
 
-pub type CoreTable<C> = Table<Kept<C>, View, usize, Counts, Global>;
+pub type CoreTable<C> = Table<Kept<C>, View, <C as Core>::Terms, Counts, Global>;
 
 /// A seat at the slot of a core. It has no bytes.
 pub type Seat<C> = TableSeat<Kept<C>, View>;

@@ -8,7 +8,9 @@ use atomic_table::Badge;
 
 /// A token, which shows that its holder has a number of the places of a core under a lock. It has no
 /// bytes, and doesn't name the core.
-#[derive(Drop)]
+///
+/// It can't be dropped, so no place is lost: a token ends in `end`, once it has no place, or in a step
+/// that takes its places back.
 pub struct Token {
     pub(super) badge: Badge<View>,
     ghost away: { is_away badge.views ≡ true },

@@ -100,7 +100,7 @@ where
         self.history.reserve(1)?;
         pass.receipts.reserve(1)?;
         let place = self.history.len();
-        let reply = self.core.step(step);
+        let (reply, _) = self.core.step(step);
         stamp(rt, cell, &mut self.keeper, &mut pass.token, step, reply);
         self.book.add(&mut pass.share, 1);
         push_in_room(&mut self.history, (step, reply));

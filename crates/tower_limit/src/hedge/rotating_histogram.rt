@@ -1,5 +1,5 @@
 //! How long responses took lately: the Rust's `tower::hedge::rotating_histogram`.
-ghost use Rattle.std.specs.Prelude.{◌≡◌, ◌≢◌, IfOk, IsTrue, ◌↔◌};
+ghost use Rattle.std.specs.Prelude.{◌≡◌, ◌≢◌, Err, IfErr, IfOk, IsTrue, MatchResult, ◌↔◌};
 ghost use Rattle.tower_limit.specs.RotatingHistogram.{RotatingHistogramView, Recorded, Seeded, SeededAll, Counted, Ranked, IsClone, millis_of};
 
 mod histo_core;
@@ -37,7 +37,8 @@ impl<R: Wait + Copy, C: Clock> RotatingHistogram<Guarded<HistoCore, R>, C> {
     /// once. Returns `AllocError` and drops the clock if allocation fails.
     pub fn new(rt: R, alloc: Global, period: u64, mut clock: C) -> Result<Self, AllocError>
         requires { period ≢ 0 }
-        ensures { IfOk result (λ histogram. C.read clock histogram.clock) }
+        ensures clock { IfOk result (λ histogram. C.read clock histogram.clock) }
+        ensures period { IfOk result (λ histogram. ⟦<Guarded<HistoCore, R> as Latch<HistoCore>>⟧.terms histogram.latch ≡ period) }
     {
         let core = HistoCore::new(alloc, period, clock.now());
         let latch = Guarded::new(rt, alloc, core)?;
@@ -110,11 +111,14 @@ impl<L: Latch<HistoCore>, C: Clock> Record for RotatingHistogram<L, C> {
     }
 }
 
-/// A clone shares the core and the clock.
+/// A clone shares the core and the clock. Cloning fails if the latch refuses its share.
 impl<L: Latch<HistoCore>, C: Clock> Clone for RotatingHistogram<L, C> {
     ghost is_clone = { IsClone L.gave L.shares C.Clock };
 
-    fn clone(&self) -> Result<RotatingHistogram<L, C>, AllocError> {
+    fn clone(&self) -> Result<RotatingHistogram<L, C>, AllocError>
+        ensures cases { MatchResult result (IsClone L.gave L.shares C.Clock self.now) (λ _. ¬ ⊥) }
+        ensures refused { IfErr result (λ e. L.shares self.now.latch (Err e)) }
+    {
         let latch = self.latch.share()?;
         Ok(RotatingHistogram {
             latch,

@@ -58,6 +58,8 @@ impl<Request, S: Service<Request>, M: Copy> Service<Request> for Constant<S, M> 
 
     ghost polled = { Polled S.Service };
 
+    ghost needs = { λ c. S.needs c.inner };
+
     ghost called = { Called S.Service };
 
     ghost readies = { λ old new p. S.readies old.inner new.inner p.polled };
@@ -100,6 +102,8 @@ impl<D: Discover, M: Copy> Discover for Constant<D, M> {
     ghost sound = { λ c. D.sound c.inner };
 
     ghost discovered = { Discovered D.discovered };
+
+    ghost needs = { λ c. D.needs c.inner };
 
     fn poll_discover(
         &mut self,

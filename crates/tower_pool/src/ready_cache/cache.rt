@@ -1,5 +1,5 @@
 //! The cache of endpoints.
-ghost use Rattle.std.specs.Prelude.{cond, None, ◌≡◌, ◌<◌, ◌+◌, ◌*◌, ◌≤◌, ◌++◌, ◌||◌, ◌↔◌, [], ◌∷◌, length, slice_get, is_some, true, false, Some, IsTrue, IfSome, OnOk, OnErr, IfErr, IfOk, if◌then◌else◌};
+ghost use Rattle.std.specs.Prelude.{cond, ℕ, suc, None, ◌≡◌, ◌<◌, ◌+◌, ◌*◌, ◌≤◌, ◌++◌, ◌||◌, ◌↔◌, [], ◌∷◌, length, slice_get, is_some, true, false, Some, Err, IsTrue, IfSome, OnOk, OnErr, IfErr, IfOk, if◌then◌else◌};
 ghost use Rattle.std.specs.List.{IsDistinct};
 ghost use Rattle.std.specs.Map.{keys_of, lookup};
 ghost use Rattle.std.specs.Map.Iter.{deref_pair};
@@ -7,8 +7,9 @@ ghost use Rattle.std.specs.Option.{option_map};
 ghost use Rattle.futures.specs.Poll.{OnPending};
 ghost use Rattle.futures.specs.Task.{IsArmed, Keeps};
 ghost use Rattle.futures.specs.declared.task.Poll.TheVariants.{Ready};
-ghost use Rattle.indexmap.specs.IndexMap.{swap_remove_entry};
-ghost use Rattle.tower_pool.specs.ReadyCache.{awaited, cancel, place, waiting, Apart, At, AtKey, Called, Checked, CheckedKey, Sound};
+ghost use Rattle.indexmap.specs.IndexMap.{spare, swap_remove_entry};
+ghost use Rattle.tower_pool.specs.declared.ready_cache.error.Error.TheVariants.{Memory};
+ghost use Rattle.tower_pool.specs.ReadyCache.{awaited, cancel, place, waiting, Apart, MayRefuse, At, AtKey, Called, Checked, CheckedKey, HeardFrom, Sound};
 ghost use Rattle.tower_pool.specs.ReadyCachePoll.{AskedFirst, PendingPolled};
 ghost use Rattle.tower_pool.specs.Pending.{Holds, cache_of};
 
@@ -38,12 +39,13 @@ pub struct ReadyCache<K: Eq + Hash + Clone, S, Req> {
 }
 
 impl<K: Eq + Hash + Clone, S, Req> Model for ReadyCache<K, S, Req> {
+    ghost use Rattle.indexmap.specs.IndexMap.{spare};
     ghost use Rattle.tower_pool.specs.ReadyCache.{CacheInvariant, CountedView};
     ghost use Rattle.tower_pool.specs.Pending.{knows};
 
     ghost Value = { CountedView K S };
 
-    ghost view = { λ c. record { lists = record { ready = c.ready.entries; pending = c.pending.items }; touches = c.pending.touches } };
+    ghost view = { λ c. record { lists = record { ready = c.ready.entries; pending = c.pending.items }; room = record { endpoints = c.pending.room; keys = c.pending.spare; ready = spare c.ready }; touches = c.pending.touches } };
 
     ghost invariant = { λ c. CacheInvariant K.eq K.is_clone c.ready.entries c.pending.items (knows K.eq c.pending) c.pending.room };
 }
@@ -122,13 +124,14 @@ impl<K: Eq + Hash + Clone + Drop, S: Service<Req>, Req> ReadyCache<K, S, Req> {
     }
 
     /// Adds a pending endpoint and cancels an older pending one of its key. Makes the room in which
-    /// ready endpoints become pending again. If that fails, returns the key and the service, and the
-    /// cache is unchanged.
+    /// ready endpoints become pending again. If that or the key's clone fails, returns the key and the
+    /// service, and the cache is unchanged.
     pub fn push(&mut self, key: K, service: S) -> Result<(), (K, S)>
         ensures ready { self.new.lists.ready ≡ self.old.lists.ready }
         ensures pending { OnOk result (self.new.lists.pending ≡ cancel K.eq key self.old.lists.pending ++ waiting key service ∷ []) }
         ensures same { OnErr result (self.new.lists ≡ self.old.lists) }
         ensures given_back { IfErr result (λ back. back ≡ (key, service)) }
+        ensures excused { OnErr result (MayRefuse K.eq K.Clone self.old key) }
         ensures sound { Sound S.sound self.old.lists → S.sound service → Sound S.sound self.new.lists }
         ensures touches { self.new.touches ≤ self.old.touches + 2 }
     {
@@ -162,7 +165,10 @@ impl<K: Eq + Hash + Clone + Drop, S: Service<Req>, Req> ReadyCache<K, S, Req> {
         ensures held { Holds K.eq K.is_clone ready.new.entries pending.new }
         ensures asked { AskedFirst K.eq S.Service (cache_of ready.old.entries pending.old) result (cache_of ready.new.entries pending.new) }
         ensures sound { Sound S.sound (cache_of ready.new.entries pending.new) }
+        ensures full { result ≡ Err Memory → spare ready.old ≡ 0 }
+        ensures used { spare ready.old ≤ spare ready.new + 1 }
         ensures armed { result ≡ Ok true → IsArmed cx.new }
+        ensures heard { OnOk result ((n : ℕ) → HeardFrom S.needs cx.old (suc n) pending.old.items → HeardFrom S.needs cx.new n pending.new.items) }
         ensures kept { Keeps cx.old cx.new }
         ensures touches { pending.new.touches ≤ pending.old.touches + 5 }
     {
@@ -202,8 +208,10 @@ impl<K: Eq + Hash + Clone + Drop, S: Service<Req>, Req> ReadyCache<K, S, Req> {
         ensures held { Holds K.eq K.is_clone ready.new.entries pending.new }
         ensures polled { PendingPolled K.eq S.Service (cache_of ready.old.entries pending.old) result (cache_of ready.new.entries pending.new) }
         ensures done { result ≡ Ready (Ok tt) → pending.new.items ≡ [] }
+        ensures full { result ≡ Ready (Err Memory) → spare ready.old < length pending.old.items }
         ensures sound { Sound S.sound (cache_of ready.new.entries pending.new) }
         ensures armed { OnPending result (IsArmed cx.new) }
+        ensures heard { OnPending result (HeardFrom S.needs cx.new 0 pending.new.items) }
         ensures kept { Keeps cx.old cx.new }
         ensures touches { pending.new.touches ≤ pending.old.touches + 5 * length pending.old.items }
     {
@@ -231,16 +239,18 @@ impl<K: Eq + Hash + Clone + Drop, S: Service<Req>, Req> ReadyCache<K, S, Req> {
     ///
     /// An endpoint that is ready goes to the end of the ready ones, or takes the index of an older one
     /// of its key, which is dropped. An endpoint that fails leaves the cache, and the poll stops with
-    /// its error. If there is no room for one more ready endpoint, the poll stops with `Memory` before
-    /// it polls the next endpoint, which is still pending. After `Ok` no endpoint is pending. After
+    /// its error. If there is no room for one more ready endpoint, and it can't be made, the poll stops
+    /// with `Memory` before it polls the next endpoint, which is still pending. After `Ok` no endpoint is pending. After
     /// `Pending` each pending endpoint was polled in this poll. The poll reaches at most five entries of
     /// the slab of pending endpoints for each endpoint that was pending when it began.
     pub fn poll_pending(&mut self, cx: &mut Context<'_>) -> Poll<Result<(), Error<K, S::Error>>>
         requires { Sound S.sound self.old.lists }
         ensures polled { PendingPolled K.eq S.Service self.old.lists result self.new.lists }
         ensures done { result ≡ Ready (Ok tt) → self.new.lists.pending ≡ [] }
+        ensures full { result ≡ Ready (Err Memory) → self.old.room.ready < length self.old.lists.pending }
         ensures sound { Sound S.sound self.new.lists }
         ensures armed { OnPending result (IsArmed cx.new) }
+        ensures heard { OnPending result (HeardFrom S.needs cx.new 0 self.new.lists.pending) }
         ensures kept { Keeps cx.old cx.new }
         ensures touches { self.new.touches ≤ self.old.touches + 5 * length self.old.lists.pending }
     {
@@ -282,6 +292,7 @@ impl<K: Eq + Hash + Clone + Drop, S: Service<Req>, Req> ReadyCache<K, S, Req> {
         ensures ready { IfOk result (λ is_ready. is_ready ≡ true → At self.new.lists.ready index (λ e. S.ready e.1)) }
         ensures sound { Sound S.sound self.new.lists }
         ensures armed { IfOk result (λ is_ready. is_ready ≡ false → index < length self.old.lists.ready → IsArmed cx.new) }
+        ensures heard { HeardFrom S.needs cx.old 0 self.old.lists.pending → HeardFrom S.needs cx.new 0 self.new.lists.pending }
         ensures kept { Keeps cx.old cx.new }
         ensures touches { self.new.touches ≤ self.old.touches + 2 }
     {

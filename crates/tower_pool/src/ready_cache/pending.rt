@@ -4,7 +4,7 @@ ghost use Rattle.std.specs.Option.{option_map_or};
 ghost use Rattle.tower_pool.specs.ReadyCache.{awaited, cancel, put_back, waiting, Apart};
 ghost use Rattle.std.specs.Map.{lookup};
 ghost use Rattle.tower_pool.specs.ReadyCachePoll.{rotated};
-ghost use Rattle.tower_pool.specs.Pending.{entry_of, knows, last_of, marked, names};
+ghost use Rattle.tower_pool.specs.Pending.{MayRefuse, entry_of, knows, last_of, marked, names};
 
 use indexmap::IndexMap;
 use std::alloc::Global;
@@ -28,6 +28,7 @@ pub(crate) struct Pending<K: Eq + Hash, S> {
 
 impl<K: Eq + Hash, S> Model for Pending<K, S> {
     ghost use Rattle.std.specs.Prelude.{◌++◌};
+    ghost use Rattle.indexmap.specs.IndexMap.{spare};
     ghost use Rattle.tower_pool.specs.Pending.{last_of, room_of, stored, Stands, PendingListView};
 
     ghost Value = { PendingListView K S };
@@ -36,6 +37,7 @@ impl<K: Eq + Hash, S> Model for Pending<K, S> {
       items = stored K.eq w.places.entries w.entries ++ last_of w.last;
       places = w.places.entries;
       room = room_of w.entries.entries.capacity;
+      spare = spare w.places;
       touches = w.entries.touches;
     } };
 
@@ -126,6 +128,7 @@ impl<K: Eq + Hash + Clone + Drop, S: Drop> Pending<K, S> {
         ensures items { self.new.items ≡ (if is_some result then cancel K.eq key.now self.old.items else self.old.items) }
         ensures knows { (k : K) → knows K.eq self.new k ≡ (knows K.eq self.old k || (is_some result && K.eq key.now k)) }
         ensures fits { OnSome result (length self.old.items + more ≤ self.new.room) }
+        ensures excused { IfNone result (MayRefuse K.Clone K.eq self.old key.now more) }
         ensures room { self.old.room ≤ self.new.room }
         ensures touches { self.new.touches ≡ self.old.touches }
     {
@@ -224,6 +227,7 @@ impl<K: Eq + Hash + Clone + Drop, S: Drop> Pending<K, S> {
         ensures same { OnErr result (self.new.items ≡ self.old.items) }
         ensures as_known { OnErr result ((k : K) → knows K.eq self.new k ≡ knows K.eq self.old k) }
         ensures given_back { IfErr result (λ back. back ≡ (key, service)) }
+        ensures excused { OnErr result (MayRefuse K.Clone K.eq self.old key more) }
         ensures touches { self.new.touches ≤ self.old.touches + 2 }
     {
         if self.make_room(&key, more).is_none() {

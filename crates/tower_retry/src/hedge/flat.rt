@@ -54,6 +54,8 @@ where
 
     ghost polled = { Polled N.polled };
 
+    ghost needs = { N.needs };
+
     ghost called = { N.called };
 
     ghost readies = { λ old new p. N.readies old new (let e = answered_ok flat p.inner tt p.answers in Prim.rw e at p.polled) };

@@ -63,7 +63,9 @@ where
 
     ghost polled = { Polled S.Service };
 
-    ghost called = { Called S.Service R.is_clone C.Clock };
+    ghost needs = { λ l. S.needs l.service };
+
+    ghost called = { Called S.Service R.Clone C.Clock };
 
     ghost readies = { λ old new p. S.readies old.service new.service p.polled };
 
@@ -87,12 +89,14 @@ impl<Q, P, R: Record + Clone, S: Contains<Q, P, L>, C: Clock, L: Service<P>> Con
 
     ghost goes = { S.goes };
 
-    ghost projects = { composed_once _ _ _ (λ l. l.service) S.inside S.goes (latency _ R.is_clone C.Clock) S.projects };
+    ghost projects = { composed_once _ _ _ (λ l. l.service) S.inside S.goes (latency _ R.Clone C.Clock) S.projects };
 }
 
 /// A clone shares the clock.
 impl<R: Clone + Drop, S: Clone + Drop, C: Clock> Clone for Latency<R, S, C> {
     ghost is_clone = { IsClone R.is_clone S.is_clone C.Clock };
+
+    ghost is_infallible = { λ l. R.is_infallible l.rec × S.is_infallible l.service };
 
     fn clone(&self) -> Result<Latency<R, S, C>, AllocError> {
         let rec = self.rec.clone()?;

@@ -40,7 +40,7 @@ where
         mut clock: C,
     ) -> Result<Self, AllocError>
         requires { period ≢ 0 }
-        ensures { IfOk result (λ hedge. MadeAt S.is_clone P.is_clone ⟦<Guarded<HistoCore, R> as Latch<HistoCore>>⟧.gave ⟦<Guarded<HistoCore, R> as Latch<HistoCore>>⟧.shares C.Clock [] service policy min_data_points percentile clock hedge) }
+        ensures { IfOk result (λ hedge. MadeAt S.is_clone P.is_clone ⟦<Guarded<HistoCore, R> as Latch<HistoCore>>⟧.gave ⟦<Guarded<HistoCore, R> as Latch<HistoCore>>⟧.shares C.Clock ⟦<Guarded<HistoCore, R> as Latch<HistoCore>>⟧.terms [] service policy min_data_points percentile period clock hedge) }
     {
         let core = HistoCore::new(alloc, period, clock.now());
         let latch = Guarded::new(rt, alloc, core)?;
@@ -61,7 +61,7 @@ where
         latencies_ms: &[u64],
     ) -> Result<Self, AllocError>
         requires { period ≢ 0 }
-        ensures { IfOk result (λ hedge. MadeAt S.is_clone P.is_clone ⟦<Guarded<HistoCore, R> as Latch<HistoCore>>⟧.gave ⟦<Guarded<HistoCore, R> as Latch<HistoCore>>⟧.shares C.Clock latencies_ms.now service policy min_data_points percentile clock hedge) }
+        ensures { IfOk result (λ hedge. MadeAt S.is_clone P.is_clone ⟦<Guarded<HistoCore, R> as Latch<HistoCore>>⟧.gave ⟦<Guarded<HistoCore, R> as Latch<HistoCore>>⟧.shares C.Clock ⟦<Guarded<HistoCore, R> as Latch<HistoCore>>⟧.terms latencies_ms.now service policy min_data_points percentile period clock hedge) }
     {
         let core = HistoCore::new(alloc, period, clock.now());
         let latch = Guarded::new(rt, alloc, core)?;

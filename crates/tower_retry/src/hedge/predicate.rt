@@ -53,6 +53,8 @@ impl<Request: Drop, P: Policy<Request>> AsyncPredicate<Request> for PolicyPredic
 impl<P: Clone> Clone for PolicyPredicate<P> {
     ghost is_clone = { P.is_clone };
 
+    ghost is_infallible = { P.is_infallible };
+
     fn clone(&self) -> Result<PolicyPredicate<P>, AllocError> {
         Ok(PolicyPredicate::new(self.policy.clone()?))
     }

@@ -1,6 +1,6 @@
 //! Two calls, of which the first answer counts: the Rust's `tower::hedge::select`.
 ghost use Rattle.std.specs.Prelude.{◌≡◌};
-ghost use Rattle.tower_retry.specs.Select.{SelectView, Polled, Called};
+ghost use Rattle.tower_retry.specs.Select.{SelectView, Polled, Called, ServiceNeeds};
 ghost use Rattle.tower_retry.specs.SelectReady.{both_ready};
 
 mod error;
@@ -58,6 +58,8 @@ where
     ghost ready = { λ s. A.ready s.a × B.ready s.b };
 
     ghost polled = { Polled A.Service B.Service };
+
+    ghost needs = { ServiceNeeds A.ready A.needs B.ready B.needs };
 
     ghost called = { Called P.Policy A.Service B.Service };
 

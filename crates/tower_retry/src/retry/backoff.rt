@@ -144,7 +144,7 @@ impl<C: Clock> ExponentialBackoffMaker<HasherRng, C> {
 impl<R: Rng + Clone, C: Clock> MakeBackoff for ExponentialBackoffMaker<R, C> {
     type Backoff = ExponentialBackoff<R, C>;
 
-    ghost made = { Made R.is_clone C.Clock };
+    ghost made = { Made R.Clone C.Clock };
 
     fn make_backoff(&mut self) -> Result<ExponentialBackoff<R, C>, AllocError> {
         Ok(ExponentialBackoff {
@@ -197,7 +197,9 @@ impl<R: Rng, C: Clock> Backoff for ExponentialBackoff<R, C> {
 }
 
 impl<R: Clone, C: Clock> Clone for ExponentialBackoffMaker<R, C> {
-    ghost is_clone = { IsClone R.is_clone C.Clock };
+    ghost is_clone = { IsClone R.Clone C.Clock };
+
+    ghost is_infallible = { λ maker. R.is_infallible maker.rng };
 
     fn clone(&self) -> Result<Self, AllocError> {
         Ok(ExponentialBackoffMaker {
@@ -211,7 +213,9 @@ impl<R: Clone, C: Clock> Clone for ExponentialBackoffMaker<R, C> {
 }
 
 impl<R: Clone, C: Clock> Clone for ExponentialBackoff<R, C> {
-    ghost is_clone = { λ old new. IsClone R.is_clone C.Clock old.maker new.maker × (new.count ≡ old.count) };
+    ghost is_clone = { λ old new. IsClone R.Clone C.Clock old.maker new.maker × (new.count ≡ old.count) };
+
+    ghost is_infallible = { λ backoff. R.is_infallible backoff.maker.rng };
 
     fn clone(&self) -> Result<Self, AllocError> {
         Ok(ExponentialBackoff {

@@ -6,6 +6,7 @@ ghost use Rattle.futures.specs.declared.task.Poll.TheVariants.{Pending, Ready};
 ghost use Rattle.tower_base.specs.Gives.{IsStep, MayGive};
 ghost use Rattle.tower_base.specs.Passes.{Passes};
 ghost use Rattle.tower_base.specs.Answers.{answered};
+ghost use Rattle.tower_base.specs.LastPass.{AnsweredOrWoken};
 ghost use Rattle.tower_retry.specs.Retry.{AfterResult, Again, Needs, NeedsAt, Pass, ResponseFutureView, Sound, Stepped, Unanswered};
 ghost use Rattle.tower_retry.specs.declared.retry.error.Error.TheVariants.{Inner};
 
@@ -19,7 +20,8 @@ use tower_base::service::{Service, Steps};
 
 /// The future of a `Retry`, which resolves to a response after as many calls as the policy requires.
 ///
-/// A result, the end of a wait and a call take one pass each. A poll makes at most `TURNS` passes.
+/// A result, the end of a wait and a call take one pass each. A poll makes at most `TURNS` passes; then it is
+/// pending and has woken its own task.
 #[derive(Drop)]
 pub struct ResponseFuture<P, S, Request, F, W> {
     // `None` if cloning failed at the call
@@ -60,12 +62,12 @@ where
 
     ghost gives = { MayGive (Stepped S.Service S.Future.stepped P.Policy P.Future.stepped) };
 
-    ghost needs = { Needs S.Future.needs P.Future.needs };
+    ghost needs = { Needs S.Future.needs P.Future.needs S.needs };
 
     #[tactic(auto, using(tower_base::specs::GivesLemmas::one_step))]
     fn poll(&mut self, cx: &mut Context<'_>) -> Poll<Self::Output>
         requires { IfSome self.old (Sound P.sound S.sound S.Future.can_poll P.Future.can_poll) }
-        ensures { IsStep (Stepped S.Service S.Future.stepped P.Policy P.Future.stepped) (λ v. IfSome v (Sound P.sound S.sound S.Future.can_poll P.Future.can_poll)) (Needs S.Future.needs P.Future.needs) self.old result self.new cx.old cx.new }
+        ensures { IsStep (Stepped S.Service S.Future.stepped P.Policy P.Future.stepped) (λ v. IfSome v (Sound P.sound S.sound S.Future.can_poll P.Future.can_poll)) (Needs S.Future.needs P.Future.needs S.needs) self.old result self.new cx.old cx.new }
     {
         self.step(cx)
     }
@@ -81,12 +83,19 @@ where
 
     ghost can_poll = { λ future. IfSome future (Sound P.sound S.sound S.Future.can_poll P.Future.can_poll) };
 
-    ghost needs = { Needs S.Future.needs P.Future.needs };
+    ghost needs = { Needs S.Future.needs P.Future.needs S.needs };
 
     ghost stepped = { Stepped S.Service S.Future.stepped P.Policy P.Future.stepped };
 
     #[inline(always)]
-    fn step(&mut self, cx: &mut Context<'_>) -> Poll<Self::Output> {
+    fn step(&mut self, cx: &mut Context<'_>) -> Poll<Self::Output>
+        requires { IfSome self.old (Sound P.sound S.sound S.Future.can_poll P.Future.can_poll) }
+        ensures step { Stepped S.Service S.Future.stepped P.Policy P.Future.stepped self.old result self.new }
+        ensures woken { IfSome self.old (λ old. IfSome self.new (λ new. AnsweredOrWoken (Pass S.Service S.Future.stepped P.Policy P.Future.stepped) old result new cx.new.is_woken)) }
+        ensures again { OnPending result (IfSome self.new (Sound P.sound S.sound S.Future.can_poll P.Future.can_poll)) }
+        ensures registered { OnPending result (Covers cx.new (Needs S.Future.needs P.Future.needs S.needs self.new)) }
+        ensures kept { Keeps cx.old cx.new }
+    {
         let Some(attempts) = &mut self.attempts else {
             return Poll::Ready(Err(Error::Memory));
         };
@@ -105,8 +114,9 @@ where
     Request: Drop,
     requires { Sound P.sound S.sound S.Future.can_poll P.Future.can_poll attempts.old }
     ensures passes { Passes (Pass S.Service S.Future.stepped P.Policy P.Future.stepped) Pending attempts.old result attempts.new }
+    ensures woken { AnsweredOrWoken (Pass S.Service S.Future.stepped P.Policy P.Future.stepped) attempts.old result attempts.new cx.new.is_woken }
     ensures again { OnPending result (Sound P.sound S.sound S.Future.can_poll P.Future.can_poll attempts.new) }
-    ensures registered { OnPending result (Covers cx.new (NeedsAt S.Future.needs P.Future.needs attempts.new.state)) }
+    ensures registered { OnPending result (Covers cx.new (NeedsAt S.Future.needs P.Future.needs (S.needs attempts.new.service) attempts.new.state)) }
     ensures kept { Keeps cx.old cx.new }
 {
     for _pass in 0..TURNS {
@@ -129,7 +139,7 @@ where
     requires { Sound P.sound S.sound S.Future.can_poll P.Future.can_poll attempts.old }
     ensures pass { Pass S.Service S.Future.stepped P.Policy P.Future.stepped attempts.old result attempts.new }
     ensures again { Unanswered result (Sound P.sound S.sound S.Future.can_poll P.Future.can_poll attempts.new) }
-    ensures registered { result ≡ Some Pending → Covers cx.new (NeedsAt S.Future.needs P.Future.needs attempts.new.state) }
+    ensures registered { result ≡ Some Pending → Covers cx.new (NeedsAt S.Future.needs P.Future.needs (S.needs attempts.new.service) attempts.new.state) }
     ensures kept { Keeps cx.old cx.new }
 {
     match &mut attempts.state {

@@ -43,6 +43,8 @@ impl<P: Clone, S: Drop> Layer<S> for RetryLayer<P> {
 impl<P: Clone> Clone for RetryLayer<P> {
     ghost is_clone = { P.is_clone };
 
+    ghost is_infallible = { P.is_infallible };
+
     fn clone(&self) -> Result<RetryLayer<P>, AllocError> {
         Ok(RetryLayer::new(self.policy.clone()?))
     }

@@ -44,6 +44,8 @@ where
 
     ghost polled = { λ old answer new. M.polled old.make.now answer new.make.now × (new.make.ghost_name ≡ old.make.ghost_name) };
 
+    ghost needs = { λ v. M.needs v.make.now };
+
     ghost called = { λ old target future new. M.ready old.make.now × M.called old.make.now target future new.make.now × (new.make.ghost_name ≡ old.make.ghost_name) };
 
     ghost readies = { λ old new polled. M.readies old.make.now new.make.now polled.0 };

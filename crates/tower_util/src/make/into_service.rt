@@ -49,6 +49,8 @@ where
 
     ghost polled = { M.polled };
 
+    ghost needs = { M.needs };
+
     ghost called = { λ old target future new. M.ready old × M.called old target future new };
 
     ghost readies = { M.readies };

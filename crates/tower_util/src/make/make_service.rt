@@ -1,7 +1,7 @@
 //! Services whose responses are services.
-ghost use Rattle.std.specs.Prelude.{◌≡◌, ⊤, Ok, Result};
+ghost use Rattle.std.specs.Prelude.{◌≡◌, ⊤, ℕ, Ok, Result};
 ghost use Rattle.futures.specs.Poll.{OnPending};
-ghost use Rattle.futures.specs.Task.{IsArmed, Keeps};
+ghost use Rattle.futures.specs.Task.{Hears, IsArmed, Keeps};
 ghost use Rattle.futures.specs.declared.task.Poll.{Poll};
 ghost use Rattle.futures.specs.declared.task.Poll.TheVariants.{Ready};
 
@@ -29,6 +29,8 @@ pub trait MakeService<Target, Request>: Drop {
 
     ghost polled: { Self → Poll (Result (Unit {0}) Self.MakeError) → Self → Type 0 };
 
+    ghost needs: { Self → ℕ → Type 0 } = { λ _ _. ⊥ };
+
     ghost called: { Self → Target → Self.Future → Self → Type 0 };
 
     /// Polls the maker's readiness to make a service.
@@ -37,6 +39,7 @@ pub trait MakeService<Target, Request>: Drop {
         ensures polled { polled self.old result self.new }
         ensures sound { sound self.new }
         ensures armed { OnPending result (IsArmed cx.new) }
+        ensures heard { OnPending result ((s : ℕ) → needs self.new s → Hears cx.new s) }
         ensures kept { Keeps cx.old cx.new };
 
     /// Makes a service for the target, and returns its future.
@@ -90,6 +93,8 @@ where
     ghost ready = { M.ready };
 
     ghost polled = { M.polled };
+
+    ghost needs = { M.needs };
 
     ghost called = { λ old target future new. M.ready old × M.called old target future new };
 

@@ -54,7 +54,7 @@ impl<S: Clone + Drop, T: Drop> Service<T> for Shared<S> {
 
     ghost polled = { λ old answer new. (answer ≡ Ready (Ok tt)) × (new ≡ old) };
 
-    ghost called = { Called S.is_clone };
+    ghost called = { Called S.Clone };
 
     ghost readies = { λ _ _ _. tt };
 

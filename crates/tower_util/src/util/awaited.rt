@@ -1,8 +1,8 @@
 //! A service that a future returns. It is the Rust's `util/future_service.rs`; the kit doesn't accept
 //! that name beside the function of the same name.
-ghost use Rattle.std.specs.Prelude.{◌≡◌, Ok, ⊤};
+ghost use Rattle.std.specs.Prelude.{◌≡◌, Ok, ⊤, ℕ};
 ghost use Rattle.futures.specs.Poll.{OnPending};
-ghost use Rattle.futures.specs.Task.{IsArmed, Keeps};
+ghost use Rattle.futures.specs.Task.{Hears, IsArmed, Keeps};
 ghost use Rattle.tower_base.specs.Gives.{IsStep, MayGive};
 ghost use Rattle.tower_base.specs.Answers.{answered};
 ghost use Rattle.tower_util.specs.FutureService.{Polled, Called, Stepped, IsThere};
@@ -80,6 +80,8 @@ where
 
     ghost polled = { Polled F.stepped S.polled };
 
+    ghost needs = { elim [ Coming future ↦ F.needs future | There service ↦ S.needs service | Lost ↦ λ _. ⊥ ] };
+
     ghost called = { Called S.ready S.called };
 
     ghost readies = { polled_ready F.stepped S.polled S.ready S.readies };
@@ -123,6 +125,7 @@ fn serve<R, S: Service<R>>(
     ensures sound { S.sound service.new }
     ensures served { (inner : _) × S.polled service.old inner service.new × (result ≡ answered Inner inner) }
     ensures armed { OnPending result (IsArmed cx.new) }
+    ensures heard { OnPending result ((s : ℕ) → S.needs service.new s → Hears cx.new s) }
     ensures kept { Keeps cx.old cx.new }
 {
     match ready!(service.poll_ready(cx)) {

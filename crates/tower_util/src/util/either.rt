@@ -36,6 +36,8 @@ where
 
     ghost ready = { elim [ Left a ↦ A.ready a | Right b ↦ B.ready b ] };
 
+    ghost needs = { elim [ Left a ↦ A.needs a | Right b ↦ B.needs b ] };
+
     // A poll polls the side that is present.
     ghost polled = { λ old answer new. elim old [
       | Left a ↦ (left : A) × A.polled a answer left × (new ≡ Left left)

@@ -62,6 +62,8 @@ where
 
     ghost polled = { Polled S.polled F.post };
 
+    ghost needs = { λ m. S.needs m.inner };
+
     ghost called = { Called S.ready S.called };
 
     ghost readies = { polled_ready S.polled F.post S.ready S.readies };

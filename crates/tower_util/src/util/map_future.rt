@@ -62,6 +62,8 @@ where
 
     ghost polled = { Polled S.polled (λ _. E.from_gives) };
 
+    ghost needs = { λ m. S.needs m.inner };
+
     // A call calls the inner service once, and the closure once with the future that this returned.
     ghost called = { λ old request future new. (inner : _) × S.ready old.inner × S.called old.inner request inner new.inner × F.step old.f inner future new.f };
 

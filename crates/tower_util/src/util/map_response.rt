@@ -60,6 +60,8 @@ where
 
     ghost polled = { λ old answer new. S.polled old.inner answer new.inner × (new.f ≡ old.f) };
 
+    ghost needs = { λ m. S.needs m.inner };
+
     ghost called = { Called S.ready S.called };
 
     ghost readies = { λ old new polled. S.readies old.inner new.inner polled.0 };

@@ -63,6 +63,8 @@ where
 
     ghost polled = { Polled S.polled (λ _. U.from_gives) };
 
+    ghost needs = { λ m. S.needs m.inner };
+
     ghost called = { Called S.ready S.called };
 
     ghost readies = { polled_ready S.polled (λ _. U.from_gives) S.ready S.readies };
@@ -95,8 +97,12 @@ impl<F, N> Model for MapResultFuture<F, N> {
     ghost view = { λ t. record { inner = t.inner; f = t.f } };
 }
 
-impl<F: Steps<Output = A>, N: Fn(A) -> B + Copy, A, B> Future for MapResultFuture<F, N> {
-    type Output = B;
+impl<F, N, A, E, T, U> Future for MapResultFuture<F, N>
+where
+    F: Steps<Output = Result<A, E>>,
+    N: Fn(Result<A, E>) -> Result<T, U> + Copy,
+{
+    type Output = Result<T, U>;
 
     ghost can_poll = { λ t. CanPoll F.can_poll t.inner × N.IsAlwaysCallable t.f };
 
@@ -105,7 +111,7 @@ impl<F: Steps<Output = A>, N: Fn(A) -> B + Copy, A, B> Future for MapResultFutur
     ghost needs = { λ t. needs_of F.needs t.inner };
 
     #[tactic(auto, using(tower_base::specs::GivesLemmas::one_step))]
-    fn poll(&mut self, cx: &mut Context<'_>) -> Poll<B>
+    fn poll(&mut self, cx: &mut Context<'_>) -> Poll<Result<T, U>>
         requires { ⟦<MapResultFuture<F, N> as Future>⟧.can_poll self.old }
         ensures { IsStep (MapResultStepped F.stepped N.post) ⟦<MapResultFuture<F, N> as Future>⟧.can_poll ⟦<MapResultFuture<F, N> as Future>⟧.needs self.old result self.new cx.old cx.new }
     {
@@ -113,8 +119,12 @@ impl<F: Steps<Output = A>, N: Fn(A) -> B + Copy, A, B> Future for MapResultFutur
     }
 }
 
-impl<F: Steps<Output = A>, N: Fn(A) -> B + Copy, A, B> Steps for MapResultFuture<F, N> {
-    type Output = B;
+impl<F, N, A, E, T, U> Steps for MapResultFuture<F, N>
+where
+    F: Steps<Output = Result<A, E>>,
+    N: Fn(Result<A, E>) -> Result<T, U> + Copy,
+{
+    type Output = Result<T, U>;
 
     ghost can_poll = { λ t. CanPoll F.can_poll t.inner × N.IsAlwaysCallable t.f };
 
@@ -122,7 +132,7 @@ impl<F: Steps<Output = A>, N: Fn(A) -> B + Copy, A, B> Steps for MapResultFuture
 
     ghost stepped = { MapResultStepped F.stepped N.post };
 
-    fn step(&mut self, cx: &mut Context<'_>) -> Poll<B> {
+    fn step(&mut self, cx: &mut Context<'_>) -> Poll<Result<T, U>> {
         let result = ready!(self.inner.step(cx));
         Poll::Ready((self.f)(result))
     }

@@ -1,5 +1,6 @@
 //! A service that may be absent.
 ghost use Rattle.std.specs.Prelude.{◌≡◌, Option, IfSome};
+ghost use Rattle.tower_util.specs.Fuse.{needs_of};
 ghost use Rattle.tower_util.specs.Optional.{Polled, Called};
 ghost use Rattle.tower_util.specs.OptionalReady.{polled_ready};
 
@@ -47,6 +48,8 @@ impl<T: Service<Request>, Request: Drop> Service<Request> for Optional<T> {
     ghost ready = { λ o. IfSome o T.ready };
 
     ghost polled = { Polled T.polled };
+
+    ghost needs = { needs_of T.needs };
 
     ghost called = { Called T.ready T.called };
 

@@ -3,6 +3,7 @@ ghost use Rattle.std.specs.Prelude.{◌≡◌, Option, Some, IsSomeAnd, Ok, Err}
 ghost use Rattle.futures.specs.Poll.{IfReady, OnPending};
 ghost use Rattle.futures.specs.Task.{Covers, Keeps};
 ghost use Rattle.tower_base.specs.Gives.{MayGive};
+ghost use Rattle.tower_util.specs.Fuse.{needs_of};
 ghost use Rattle.tower_util.specs.Ready.{ReadyStepped, ReadyOneshotStepped, HandsBack, IsReadyOneshotStep, MayGiveBack};
 
 use futures::future::Future;
@@ -41,13 +42,15 @@ impl<T: Service<Request>, Request: Drop> Future for ReadyOneshot<T, Request> {
 
     ghost can_poll = { λ r. IsSomeAnd r T.sound };
 
+    ghost needs = { needs_of T.needs };
+
     // The service that the future returns is sound and ready.
     ghost gives = { MayGiveBack T.sound T.ready T.polled };
 
     #[tactic(auto, using(crate::proofs::ReadyLemmas::gives_back_step))]
     fn poll(&mut self, cx: &mut Context<'_>) -> Poll<Result<T, T::Error>>
         requires { ⟦<ReadyOneshot<T, Request> as Future>⟧.can_poll self.old }
-        ensures { IsReadyOneshotStep T.sound T.ready T.polled self.old result self.new cx.old cx.new }
+        ensures { IsReadyOneshotStep T.sound T.ready T.polled T.needs self.old result self.new cx.old cx.new }
     {
         self.step(cx)
     }
@@ -57,6 +60,8 @@ impl<T: Service<Request>, Request: Drop> Steps for ReadyOneshot<T, Request> {
     type Output = Result<T, T::Error>;
 
     ghost can_poll = { λ r. IsSomeAnd r T.sound };
+
+    ghost needs = { needs_of T.needs };
 
     ghost stepped = { ReadyOneshotStepped T.sound T.ready T.polled };
 
@@ -103,6 +108,8 @@ impl<'a, T: Service<Request>, Request: Drop> Future for Ready<'a, T, Request> {
 
     ghost can_poll = { λ r. IsSomeAnd r.service (λ lent. T.sound lent.now) };
 
+    ghost needs = { λ r source. IsSomeAnd r.service (λ lent. T.needs lent.now source) };
+
     // The future returns the same borrow, of a service that is sound and ready.
     ghost gives = { λ r out. MayGive (λ old answer new. ReadyStepped T.sound T.ready T.polled old.service answer new.service) r out
         × HandsBack T.sound T.ready r.service out };
@@ -124,6 +131,8 @@ impl<'a, T: Service<Request>, Request: Drop> Steps for Ready<'a, T, Request> {
     type Output = Result<&'a mut T, T::Error>;
 
     ghost can_poll = { λ r. IsSomeAnd r.service (λ lent. T.sound lent.now) };
+
+    ghost needs = { λ r source. IsSomeAnd r.service (λ lent. T.needs lent.now source) };
 
     ghost stepped = { λ old answer new. ReadyStepped T.sound T.ready T.polled old.service answer new.service };
 

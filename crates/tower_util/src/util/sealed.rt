@@ -70,6 +70,8 @@ impl<S: Service<Request>, Request> Service<Request> for Sealed<S, Request> {
 
     ghost polled = { S.polled };
 
+    ghost needs = { S.needs };
+
     ghost called = { S.called };
 
     ghost readies = { S.readies };

@@ -67,6 +67,8 @@ where
 
     ghost polled = { Polled S.polled (λ _. U.from_gives) };
 
+    ghost needs = { λ m. S.needs m.inner };
+
     ghost called = { Called S.ready S.called };
 
     ghost readies = { polled_ready S.polled (λ _. U.from_gives) S.ready S.readies };

@@ -44,6 +44,8 @@ impl<S: Drop, U: Clone + Drop> Layer<S> for FilterLayer<U> {
 impl<U: Clone> Clone for FilterLayer<U> {
     ghost is_clone = { U.is_clone };
 
+    ghost is_infallible = { U.is_infallible };
+
     fn clone(&self) -> Result<FilterLayer<U>, AllocError> {
         Ok(FilterLayer::new(self.predicate.clone()?))
     }
@@ -85,6 +87,8 @@ impl<S: Drop, U: Clone + Drop> Layer<S> for AsyncFilterLayer<U> {
 
 impl<U: Clone> Clone for AsyncFilterLayer<U> {
     ghost is_clone = { U.is_clone };
+
+    ghost is_infallible = { U.is_infallible };
 
     fn clone(&self) -> Result<AsyncFilterLayer<U>, AllocError> {
         Ok(AsyncFilterLayer::new(self.predicate.clone()?))

@@ -1,9 +1,9 @@
 //! The future of a `Timeout`.
-ghost use Rattle.std.specs.Prelude.{◌≡◌, ⊤};
+ghost use Rattle.std.specs.Prelude.{◌≡◌, ◌⊎◌, ⊤, true};
 ghost use Rattle.futures.specs.Poll.{IfReady, OnPending};
 ghost use Rattle.futures.specs.Task.{Covers, Keeps};
 ghost use Rattle.tower_base.specs.Gives.{IsStep, MayGive};
-ghost use Rattle.tower_ware.specs.Timeout.{ResponseFutureView, Stepped};
+ghost use Rattle.tower_ware.specs.Timeout.{Needs, ResponseFutureView, Stepped};
 
 use crate::timeout::error::Error;
 use futures::future::Future;
@@ -51,13 +51,13 @@ where
 
     ghost gives = { MayGive (Stepped F.Steps.own C.Clock) };
 
-    // A pending poll wakes its own waker, whatever the source.
-    ghost needs = { λ _ _. ⊤ };
+    // The response's own sources, and the clock's.
+    ghost needs = { Needs F.needs C.hears };
 
     #[tactic(auto, using(tower_base::specs::GivesLemmas::one_step))]
     fn poll(&mut self, cx: &mut Context<'_>) -> Poll<Self::Output>
         requires { F.can_poll self.old.response }
-        ensures { IsStep (Stepped F.Steps.own C.Clock) (λ v. F.can_poll v.response) (λ _ _. ⊤) self.old result self.new cx.old cx.new }
+        ensures { IsStep (Stepped F.Steps.own C.Clock) (λ v. F.can_poll v.response) (Needs F.needs C.hears) self.old result self.new cx.old cx.new }
     {
         self.step(cx)
     }
@@ -72,12 +72,19 @@ where
 
     ghost can_poll = { λ v. F.can_poll v.response };
 
-    // A pending poll wakes its own waker, whatever the source.
-    ghost needs = { λ _ _. ⊤ };
+    // The response's own sources, and the clock's.
+    ghost needs = { Needs F.needs C.hears };
 
     ghost stepped = { Stepped F.Steps.own C.Clock };
 
-    fn step(&mut self, cx: &mut Context<'_>) -> Poll<Self::Output> {
+    fn step(&mut self, cx: &mut Context<'_>) -> Poll<Self::Output>
+        requires { F.can_poll self.old.response }
+        ensures step { Stepped F.Steps.own C.Clock self.old result self.new }
+        ensures again { OnPending result (F.can_poll self.new.response) }
+        ensures registered { OnPending result (Covers cx.new (Needs F.needs C.hears self.new)) }
+        ensures timed { OnPending result ((cx.new.is_woken ≡ true) ⊎ C.wakes_by self.new.clock self.new.deadline cx.new) }
+        ensures kept { Keeps cx.old cx.new }
+    {
         match self.response.step(cx) {
             Poll::Ready(Ok(response)) => Poll::Ready(Ok(response)),
             Poll::Ready(Err(error)) => Poll::Ready(Err(Error::Inner(error))),
@@ -86,7 +93,8 @@ where
                 if moment as u128 >= self.deadline {
                     return Poll::Ready(Err(Error::Elapsed));
                 }
-                cx.yield_now()
+                self.clock.wake_at(self.deadline, cx);
+                Poll::Pending
             }
         }
     }

@@ -1,5 +1,5 @@
 //! The layer of `Timeout`.
-ghost use Rattle.std.specs.Prelude.{◌≡◌};
+ghost use Rattle.std.specs.Prelude.{◌≡◌, ⊤};
 ghost use Rattle.tower_ware.specs.Timeout.{Made, TimeoutLayerView};
 
 use crate::timeout::Timeout;
@@ -44,6 +44,8 @@ impl<S, C: Clock> Layer<S> for TimeoutLayer<C> {
 /// A clone shares the clock.
 impl<C: Clock> Clone for TimeoutLayer<C> {
     ghost is_clone = { λ layer copy. C.shared layer.clock copy.clock × (copy.duration ≡ layer.duration) };
+
+    ghost is_infallible = { λ _. ⊤ };
 
     fn clone(&self) -> Result<TimeoutLayer<C>, AllocError> {
         Ok(TimeoutLayer::new(self.duration, self.clock.share()))

@@ -1,4 +1,4 @@
-use Rattle.tower.specs.Balance.{view_of}
+use Rattle.tower_pool.specs.Balance.{view_of}
 use Rattle.tower.proofs.BalanceRuns.{balance}
 use Rattle.tower.proofs.projection.balance.Goals as goal
 

@@ -1,4 +1,4 @@
-use Rattle.tower.specs.SpawnReady.{view_of}
+use Rattle.tower_pool.specs.SpawnReady.{view_of}
 use Rattle.tower.proofs.SpawnReadyRuns.{spawn_ready, task}
 use Rattle.tower.proofs.projection.spawn_ready.Goals as goal
 

@@ -6,7 +6,7 @@ use crate::hedge::rotating_histogram::tally::Tally;
 use std::alloc::Global;
 use std::mem;
 use tower_base::service::Fraction;
-use tower_latch::Core;
+use tower_latch::{Core, Wakes};
 
 /// The latencies that are read in the present period, and those that are read in the next one.
 #[derive(Drop)]
@@ -112,11 +112,14 @@ impl Core for HistoCore {
 
     type Reply = HistoReply;
 
+    type Terms = u64;
+
     ghost use Rattle.std.specs.Prelude.{false};
     ghost use Rattle.tower_latch.specs.Latch.{StepsAs};
     ghost use Rattle.tower_limit.specs.Histogram.{Steps};
     ghost use Rattle.tower_limit.specs.HistoCore.{Opens, StandsFor};
     ghost use Rattle.tower_latch.specs.LatchLemmas.{none_held, no_places};
+    ghost use Rattle.tower_limit.specs.HistoCoreTerms.{keeps_period};
 
     ghost opens = { Opens };
 
@@ -124,25 +127,27 @@ impl Core for HistoCore {
 
     ghost is_wait = { λ _. false };
 
+    // The period.
+    ghost terms = { λ core. core.period };
+
     ghost starts = { none_held _ };
 
-    ghost counts = { no_places _ };
+    ghost counts = { no_places _ _ keeps_period };
 
     #[inline(always)]
-    fn step(&mut self, step: HistoStep) -> HistoReply {
+    fn step(&mut self, step: HistoStep) -> (HistoReply, Wakes) {
         match step {
-            HistoStep::Record(moment, millis) => self.record(moment, millis),
-            HistoStep::Seed(moment, millis) => self.seed(moment, millis),
-            HistoStep::Points(moment) => HistoReply::Count(self.points(moment)),
-            HistoStep::Quantile(moment, part) => HistoReply::Millis(self.quantile(moment, part)),
+            HistoStep::Record(moment, millis) => (self.record(moment, millis), Wakes::Nobody),
+            HistoStep::Seed(moment, millis) => (self.seed(moment, millis), Wakes::Nobody),
+            HistoStep::Points(moment) => (HistoReply::Count(self.points(moment)), Wakes::Nobody),
+            HistoStep::Quantile(moment, part) => (
+                HistoReply::Millis(self.quantile(moment, part)),
+                Wakes::Nobody,
+            ),
         }
     }
 
-    fn waits(_reply: &HistoReply) -> bool {
-        false
-    }
-
-    fn capacity(&self) -> usize {
-        0
+    fn terms(&self) -> u64 {
+        self.period
     }
 }

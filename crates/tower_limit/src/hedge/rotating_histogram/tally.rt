@@ -46,7 +46,8 @@ impl Tally {
         self.total = 0;
     }
 
-    /// Adds a latency, unless there is no room to count it.
+    /// Adds a latency. Returns `Full` if no more can be counted, and `Memory` if there is no room for a
+    /// number that wasn't added before.
     pub(crate) fn add(&mut self, millis: u64) -> HistoReply
         ensures { Adds self.old millis result self.new }
     {

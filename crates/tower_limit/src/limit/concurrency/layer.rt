@@ -1,5 +1,5 @@
 //! The layers that wrap a service in a `ConcurrencyLimit`.
-ghost use Rattle.std.specs.Prelude.{◌≡◌, ℕ, IfOk};
+ghost use Rattle.std.specs.Prelude.{◌≡◌, ℕ, Err, IfErr, IfOk, MatchResult};
 ghost use Rattle.tower_limit.specs.Concurrency.{SemaphoreView, New, Made, SharesPermits};
 
 use crate::limit::concurrency::line_core::LineCore;
@@ -37,7 +37,7 @@ impl<R> ConcurrencyLimitLayer<R> {
 impl<S: Drop, R: Wait + Copy> Layer<S> for ConcurrencyLimitLayer<R> {
     type Service = ConcurrencyLimit<S, Guarded<LineCore, R>>;
 
-    ghost made = { λ max service made. New ⟦<Guarded<LineCore, R> as Latch<LineCore>>⟧.size service max made };
+    ghost made = { λ max service made. New ⟦<Guarded<LineCore, R> as Latch<LineCore>>⟧.terms service max made };
 
     fn layer(&self, service: S) -> Result<Self::Service, AllocError> {
         ConcurrencyLimit::new(self.rt, self.alloc, service, self.max)
@@ -69,7 +69,7 @@ impl<R: Wait + Copy> GlobalConcurrencyLimitLayer<Guarded<LineCore, R>> {
     /// `AllocError` if allocation fails.
     pub fn new(rt: R, alloc: Global, max: usize) -> Result<Self, AllocError>
         ensures max { IfOk result (λ made. made.max ≡ max) }
-        ensures size { IfOk result (λ made. ⟦<Guarded<LineCore, R> as Latch<LineCore>>⟧.size made.latch ≡ max) }
+        ensures terms { IfOk result (λ made. ⟦<Guarded<LineCore, R> as Latch<LineCore>>⟧.terms made.latch ≡ max) }
     {
         let semaphore = Semaphore::new(rt, alloc, max)?;
         Ok(GlobalConcurrencyLimitLayer::with_semaphore(semaphore))
@@ -89,17 +89,23 @@ impl<S: Drop, L: Latch<LineCore>> Layer<S> for GlobalConcurrencyLimitLayer<L> {
 
     ghost made = { Made L.Latch };
 
-    fn layer(&self, service: S) -> Result<Self::Service, AllocError> {
+    fn layer(&self, service: S) -> Result<Self::Service, AllocError>
+        ensures made { IfOk result (λ made. Made L.Latch self.now service made) }
+        ensures refused { IfErr result (λ e. L.shares self.now.latch (Err e)) }
+    {
         let semaphore = self.semaphore.share()?;
         Ok(ConcurrencyLimit::with_semaphore(service, semaphore))
     }
 }
 
-/// A clone shares the semaphore.
+/// A clone shares the semaphore. Cloning fails if the latch refuses its share, and so does `layer`.
 impl<L: Latch<LineCore>> Clone for GlobalConcurrencyLimitLayer<L> {
     ghost is_clone = { SharesPermits L.Latch };
 
-    fn clone(&self) -> Result<GlobalConcurrencyLimitLayer<L>, AllocError> {
+    fn clone(&self) -> Result<GlobalConcurrencyLimitLayer<L>, AllocError>
+        ensures cases { MatchResult result (SharesPermits L.Latch self.now) (λ _. ¬ ⊥) }
+        ensures refused { IfErr result (λ e. L.shares self.now.latch (Err e)) }
+    {
         let semaphore = self.semaphore.share()?;
         Ok(GlobalConcurrencyLimitLayer { semaphore })
     }

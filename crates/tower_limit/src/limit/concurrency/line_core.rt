@@ -3,8 +3,8 @@ ghost use Rattle.std.specs.Prelude.{◌≡◌, ◌<◌, ◌≤◌, ◌+◌, ◌^
 ghost use Rattle.tower_latch.specs.WaitQueue.{granted, waiting};
 
 use std::alloc::{AllocError, Global};
-use tower_latch::Core;
 use tower_latch::wait_queue::{Turn, WaitQueue};
+use tower_latch::{Core, Wakes};
 
 /// A step of a `LineCore`.
 #[derive(Clone, Copy, Debug, PartialEq, Eq)]
@@ -51,7 +51,10 @@ pub struct LineCore {
 }
 
 impl LineCore {
-    ghost use Rattle.tower_limit.specs.Line.{blank};
+    ghost use Rattle.std.specs.Prelude.{false, true};
+    ghost use Rattle.tower_latch.specs.Wakes.{NamesAll, OneGoesOn};
+    ghost use Rattle.tower_latch.specs.WaitQueue.{stalls};
+    ghost use Rattle.tower_limit.specs.Line.{blank, is_waiting, key_of};
     ghost use Rattle.tower_limit.specs.LineCore.{Follows, StandsFor};
 
     /// Creates a line of `max` permits, all free. Any number is allowed, including 0.
@@ -66,53 +69,66 @@ impl LineCore {
     }
 
     #[inline(always)]
-    fn join(&mut self) -> LineReply
-        ensures { Follows self.old LineStep.Join result self.new }
+    fn join(&mut self) -> (LineReply, Wakes)
+        ensures follows { Follows self.old LineStep.Join result.0 self.new }
+        ensures waits { is_waiting result.0 ≡ true → result.1 ≡ Wakes.Wait (key_of result.0) }
+        ensures names { NamesAll stalls self.old.queue self.new.queue result.1 }
+        ensures one { OneGoesOn stalls self.new.queue result.1 }
     {
         if self.held + self.queue.granted() < self.max {
             self.held += 1;
-            return LineReply::Granted;
+            return (LineReply::Granted, Wakes::Nobody);
         }
         match self.queue.wait() {
-            Ok(key) => LineReply::Waiting(key),
-            Err(AllocError) => LineReply::Memory,
+            Ok(key) => (LineReply::Waiting(key), Wakes::Wait(key as usize)),
+            Err(AllocError) => (LineReply::Memory, Wakes::Nobody),
         }
     }
 
     #[inline(never)]
-    fn look(&mut self, key: u64) -> LineReply
-        ensures { Follows self.old (LineStep.Look key) result self.new }
+    fn look(&mut self, key: u64) -> (LineReply, Wakes)
+        ensures follows { Follows self.old (LineStep.Look key) result.0 self.new }
+        ensures waits { is_waiting result.0 ≡ true → result.1 ≡ Wakes.Wait (key_of result.0) }
+        ensures names { NamesAll stalls self.old.queue self.new.queue result.1 }
+        ensures one { OneGoesOn stalls self.new.queue result.1 }
+        ensures told { stalls self.old.queue key → is_waiting result.0 ≡ true }
     {
         match self.queue.look(key) {
             Turn::Granted => {
                 self.held += 1;
-                LineReply::Granted
+                (LineReply::Granted, Wakes::Nobody)
             }
-            Turn::Waiting => LineReply::Waiting(key),
-            Turn::Unknown => LineReply::Unknown,
+            Turn::Waiting => (LineReply::Waiting(key), Wakes::Wait(key as usize)),
+            Turn::Unknown => (LineReply::Unknown, Wakes::Nobody),
         }
     }
 
     #[inline(never)]
-    fn cancel(&mut self, key: u64) -> LineReply
-        ensures { Follows self.old (LineStep.Cancel key) result self.new }
+    fn cancel(&mut self, key: u64) -> (LineReply, Wakes)
+        ensures follows { Follows self.old (LineStep.Cancel key) result.0 self.new }
+        ensures answers { is_waiting result.0 ≡ false }
+        ensures names { NamesAll stalls self.old.queue self.new.queue result.1 }
+        ensures one { OneGoesOn stalls self.new.queue result.1 }
     {
-        if self.queue.leave(key) {
-            return LineReply::Left;
+        let (has_left, wakes) = self.queue.leave(key);
+        if has_left {
+            return (LineReply::Left, wakes);
         }
-        LineReply::Unknown
+        (LineReply::Unknown, wakes)
     }
 
     #[inline(always)]
-    fn release(&mut self) -> LineReply
-        ensures { Follows self.old LineStep.Release result self.new }
+    fn release(&mut self) -> (LineReply, Wakes)
+        ensures follows { Follows self.old LineStep.Release result.0 self.new }
+        ensures answers { is_waiting result.0 ≡ false }
+        ensures names { NamesAll stalls self.old.queue self.new.queue result.1 }
+        ensures one { OneGoesOn stalls self.new.queue result.1 }
     {
         if self.held == 0 {
-            return LineReply::Unknown;
+            return (LineReply::Unknown, Wakes::Nobody);
         }
         self.held -= 1;
-        self.queue.admit();
-        LineReply::Left
+        (LineReply::Left, self.queue.admit())
     }
 
     fn free(&self) -> usize
@@ -127,16 +143,23 @@ impl Core for LineCore {
 
     type Reply = LineReply;
 
+    type Terms = usize;
+
+    ghost use Rattle.std.specs.Prelude.{ℕ, true};
     ghost use Rattle.tower_latch.specs.Latch.{StepsAs};
-    ghost use Rattle.tower_limit.specs.Line.{LineSteps, is_waiting};
+    ghost use Rattle.tower_latch.specs.Wakes.{NamesAll, OneGoesOn};
+    ghost use Rattle.tower_limit.specs.Line.{Asks, LineSteps, is_waiting, key_of};
+    ghost use Rattle.tower_latch.specs.WaitQueue.{stalls as queue_stalls};
     ghost use Rattle.tower_limit.specs.LineCore.{Opens, StandsFor, touches};
     ghost use Rattle.tower_limit.specs.LineTokens.{paid, gained};
     ghost use Rattle.tower_limit.specs.LineTokensLemmas.{starts, counts};
 
     ghost opens = { Opens };
 
+    ghost terms = { λ core. core.max };
+
     // A token shows that its holder holds a permit.
-    ghost size = { λ core. core.max };
+    ghost size = { λ max. max };
 
     ghost out = { λ core. core.held };
 
@@ -152,10 +175,22 @@ impl Core for LineCore {
 
     ghost is_wait = { is_waiting };
 
-    /// Makes a step, which reaches at most six entries of the queue.
+    ghost key_of = { λ _ reply. key_of reply };
+
+    ghost asks = { Asks };
+
+    // Who waits without a grant is told to wait.
+    ghost stalls = { λ core key. queue_stalls core.queue key };
+
+    /// Makes a step, which reaches at most six entries of the queue. Names the one waiter that may look
+    /// again, if there is one.
     #[inline(always)]
-    fn step(&mut self, step: LineStep) -> LineReply
-        ensures steps { StepsAs StandsFor LineSteps self.old step result self.new }
+    fn step(&mut self, step: LineStep) -> (LineReply, Wakes)
+        ensures steps { StepsAs StandsFor LineSteps self.old step result.0 self.new }
+        ensures waits { is_waiting result.0 ≡ true → result.1 ≡ Wakes.Wait (key_of result.0) }
+        ensures names { NamesAll queue_stalls self.old.queue self.new.queue result.1 }
+        ensures one { OneGoesOn queue_stalls self.new.queue result.1 }
+        ensures told { (key : ℕ) → Asks step key → queue_stalls self.old.queue key → is_waiting result.0 ≡ true }
         ensures touches { touches self.new ≤ touches self.old + 6 }
     {
         match step {
@@ -163,15 +198,11 @@ impl Core for LineCore {
             LineStep::Look(key) => self.look(key),
             LineStep::Cancel(key) => self.cancel(key),
             LineStep::Release => self.release(),
-            LineStep::Free => LineReply::Count(self.free()),
+            LineStep::Free => (LineReply::Count(self.free()), Wakes::Nobody),
         }
     }
 
-    fn waits(reply: &LineReply) -> bool {
-        matches!(reply, LineReply::Waiting(_))
-    }
-
-    fn capacity(&self) -> usize {
+    fn terms(&self) -> usize {
         self.max
     }
 }

@@ -1,8 +1,8 @@
 //! Semaphores, their permits, and those who wait for permits.
-ghost use Rattle.std.specs.Prelude.{◌≡◌, ◌<◌, ◌≤◌, All, IfOk, IfErr, IfSome, None, Err, vec_len};
+ghost use Rattle.std.specs.Prelude.{◌≡◌, ◌<◌, ◌≤◌, ℕ, All, IfOk, IfErr, IfSome, None, Err, vec_len};
 ghost use Rattle.tower_limit.specs.Concurrency.{SemaphoreView, PermitView, PollSemaphoreView, SharesPermits, IsOf, Acquired};
 ghost use Rattle.tower_latch.specs.CoreTable.{places};
-ghost use Rattle.futures.specs.Task.{IsArmed, Keeps};
+ghost use Rattle.futures.specs.Task.{Hears, IsArmed, Keeps};
 ghost use Rattle.futures.specs.Poll.{OnPending};
 
 use crate::limit::concurrency::line_core::{LineCore, LineReply, LineStep};
@@ -31,7 +31,7 @@ impl<R: Wait + Copy> Semaphore<Guarded<LineCore, R>> {
     /// 0. Returns `AllocError` if allocation fails.
     pub fn new(rt: R, alloc: Global, max: usize) -> Result<Self, AllocError>
         ensures max { IfOk result (λ made. made.max ≡ max) }
-        ensures size { IfOk result (λ made. ⟦<Guarded<LineCore, R> as Latch<LineCore>>⟧.size made.latch ≡ max) }
+        ensures terms { IfOk result (λ made. ⟦<Guarded<LineCore, R> as Latch<LineCore>>⟧.terms made.latch ≡ max) }
     {
         let core = LineCore::new(alloc, max);
         let latch = Guarded::new(rt, alloc, core)?;
@@ -70,7 +70,7 @@ impl<L: Latch<LineCore>> Semaphore<L> {
     pub fn release_all(&self, mut permits: Vec<Permit<L>>) -> usize
         requires { All (IsOf L.Latch self.now) permits.items }
         ensures count { result ≡ vec_len permits }
-        ensures bound { result ≤ L.size self.now.latch }
+        ensures bound { result ≤ L.terms self.now.latch }
         ensures released { 0 < result → (reply : _) × L.gave self.now.latch LineStep.Release reply }
     {
         let count = permits.len();
@@ -81,6 +81,7 @@ impl<L: Latch<LineCore>> Semaphore<L> {
         for _ in 0..count {
             (_, token) = self.latch.give(LineStep::Release, token);
         }
+        token.end();
         count
     }
 
@@ -143,7 +144,7 @@ impl<L: Latch<LineCore>> Drop for Permit<L> {
     {
         let Permit { place } = self;
         let Placed { latch, token } = open::<Placed<L>, IsIts>(place);
-        latch.give(LineStep::Release, token);
+        latch.give(LineStep::Release, token).1.end();
     }
 }
 
@@ -186,6 +187,7 @@ impl<L: Latch<LineCore>> PollSemaphore<L> {
     pub fn poll_acquire(&mut self, cx: &mut Context<'_>) -> Poll<Result<Permit<L>, AllocError>>
         ensures acquired { Acquired L.Latch self.old result self.new }
         ensures armed { OnPending result (IsArmed cx.new) }
+        ensures heard { OnPending result ((s : ℕ) → L.source self.new.semaphore.latch s → Hears cx.new s) }
         ensures kept { Keeps cx.old cx.new }
     {
         let Ok(latch) = self.semaphore.latch.share() else {
@@ -203,11 +205,18 @@ impl<L: Latch<LineCore>> PollSemaphore<L> {
                 Poll::Ready(Ok(Permit { place }))
             }
             LineReply::Waiting(key) => {
+                token.end();
                 self.key = Some(key);
                 Poll::Pending
             }
-            LineReply::Memory => Poll::Ready(Err(AllocError)),
-            LineReply::Unknown => cx.yield_now(),
+            LineReply::Memory => {
+                token.end();
+                Poll::Ready(Err(AllocError))
+            }
+            LineReply::Unknown => {
+                token.end();
+                cx.yield_now()
+            }
             LineReply::Left | LineReply::Count(_) => unreachable!(),
         }
     }

@@ -1,6 +1,6 @@
 //! A service with a limit on the calls in flight.
-ghost use Rattle.std.specs.Prelude.{◌≡◌, IfOk, IsSome};
-ghost use Rattle.tower_limit.specs.Concurrency.{ConcurrencyLimitView, Polled, Called, IsClone, New, idle};
+ghost use Rattle.std.specs.Prelude.{◌≡◌, ◌⊎◌, IfErr, IfOk, IsSome, Err, MatchResult};
+ghost use Rattle.tower_limit.specs.Concurrency.{ConcurrencyLimitView, Needs, Polled, Called, IsClone, New, idle};
 ghost use Rattle.tower_limit.specs.ConcurrencyReady.{ready_after};
 ghost use Rattle.tower_base.specs.ServiceRun.{relations};
 ghost use Rattle.tower_base.specs.Projection.{Once, Projects};
@@ -42,7 +42,7 @@ impl<S: Drop, R: Wait + Copy> ConcurrencyLimit<S, Guarded<LineCore, R>> {
     /// Creates a service with at most `max` calls in flight. Returns `AllocError` and drops `inner` if
     /// allocation fails.
     pub fn new(rt: R, alloc: Global, inner: S, max: usize) -> Result<Self, AllocError>
-        ensures { IfOk result (λ made. New ⟦<Guarded<LineCore, R> as Latch<LineCore>>⟧.size inner max made) }
+        ensures { IfOk result (λ made. New ⟦<Guarded<LineCore, R> as Latch<LineCore>>⟧.terms inner max made) }
     {
         let semaphore = Semaphore::new(rt, alloc, max)?;
         Ok(ConcurrencyLimit::with_semaphore(inner, semaphore))
@@ -75,6 +75,8 @@ impl<Request, S: Service<Request>, L: Latch<LineCore>> Service<Request> for Conc
     ghost ready = { λ v. IsSome v.permit × S.ready v.inner };
 
     ghost polled = { Polled L.Latch S.Service };
+
+    ghost needs = { Needs S.needs L.source };
 
     ghost called = { Called S.Service };
 
@@ -119,11 +121,15 @@ where
     ghost projects = { composed_once _ _ _ (λ l. l.inner) S.inside S.goes (concurrency_limit _ _) S.projects };
 }
 
-/// A clone shares the semaphore. It holds no permit and doesn't wait.
+/// A clone shares the semaphore. It holds no permit and doesn't wait. Cloning fails if the inner
+/// service's clone does, or if the latch refuses its share.
 impl<S: Clone, L: Latch<LineCore>> Clone for ConcurrencyLimit<S, L> {
     ghost is_clone = { IsClone L.Latch S.is_clone };
 
-    fn clone(&self) -> Result<ConcurrencyLimit<S, L>, AllocError> {
+    fn clone(&self) -> Result<ConcurrencyLimit<S, L>, AllocError>
+        ensures cases { MatchResult result (IsClone L.Latch S.is_clone self.now) (λ _. ¬ ⊥) }
+        ensures refused { IfErr result (λ e. (¬ (S.is_infallible self.now.inner)) ⊎ L.shares self.now.asking.semaphore.latch (Err e)) }
+    {
         let inner = self.inner.clone()?;
         let semaphore = self.asking.share()?;
         Ok(ConcurrencyLimit::with_semaphore(inner, semaphore))

@@ -1,5 +1,5 @@
 //! The call moments of a rate limit.
-ghost use Rattle.std.specs.Prelude.{◌≡◌, ◌≢◌, ◌≤◌, ◌<◌, true, false, length, IfOk, IsErr};
+ghost use Rattle.std.specs.Prelude.{◌≡◌, ◌≢◌, ◌≤◌, ◌<◌, ℕ, true, false, length, nat_eq, nat_le, IfOk, IsErr};
 ghost use Rattle.tower_limit.specs.Rate.{RateCoreView, Calls, StandsFor, Stands, opening, is_limited, passes, may_call, after_poll, after_call};
 
 use crate::limit::rate::Rate;
@@ -50,6 +50,7 @@ impl RateCore {
     /// Returns whether `num` or more calls were made. If so, each further call needs a poll that returns
     /// `true`.
     pub fn limited(&self) -> bool
+        ensures full { result ≡ nat_eq (length self.now.kept) self.now.num }
         ensures limited { (plain : Calls) → StandsFor self.now plain → result ≡ is_limited plain }
         ensures stands { Stands self.now (λ plain. Unit {0}) }
         ensures may { result ≡ false → Stands self.now (λ plain. may_call plain ≡ true) }
@@ -57,14 +58,21 @@ impl RateCore {
         self.moments.len() as u64 == self.rate.num
     }
 
+    /// Returns the moment from which a poll passes. It is 0 if fewer than `num` calls were made.
+    pub fn opens(&self) -> u128
+        ensures { (plain : Calls) → StandsFor self.now plain → (moment : ℕ) → passes plain moment ≡ nat_le result moment }
+    {
+        match self.moments.get((self.rate.num - 1) as usize) {
+            Some(call) => *call as u128 + self.rate.per as u128,
+            None => 0,
+        }
+    }
+
     // Returns whether the `num`-th last call, if there is one, was at least a period before this moment.
     fn is_free_at(&self, moment: u64) -> bool
         ensures { (plain : Calls) → StandsFor self.now plain → result ≡ passes plain moment }
     {
-        match self.moments.get((self.rate.num - 1) as usize) {
-            Some(call) => *call as u128 + self.rate.per as u128 <= moment as u128,
-            None => true,
-        }
+        self.opens() <= moment as u128
     }
 
     /// Returns whether a call may be made after a poll at this moment: if fewer than `num` calls were
@@ -74,6 +82,7 @@ impl RateCore {
         ensures passes { (plain : Calls) → StandsFor self.old plain → result ≡ passes plain moment }
         ensures pass { (plain : Calls) → StandsFor self.old plain → StandsFor self.new (after_poll plain moment) }
         ensures may { result ≡ true → Stands self.new (λ plain. may_call plain ≡ true) }
+        ensures noted { self.new ≡ record self.old { passed = result } }
     {
         self.passed = self.is_free_at(moment);
         self.passed

@@ -1,6 +1,8 @@
 //! A service under a rate limit.
-ghost use Rattle.std.specs.Prelude.{◌≡◌, ◌<◌, true, IfOk, IsErr};
-ghost use Rattle.tower_limit.specs.Rate.{RateLimitView, New, Polled, Called, Stands, may_call};
+ghost use Rattle.std.specs.Prelude.{◌≡◌, ◌<◌, ℕ, true, IfOk, IsErr};
+ghost use Rattle.futures.specs.Poll.{OnPending};
+ghost use Rattle.futures.specs.Task.{Hears, IsArmed, Keeps};
+ghost use Rattle.tower_limit.specs.Rate.{RateLimitView, Needs, New, Polled, Called, Stands, WokenInTime, may_call};
 ghost use Rattle.tower_limit.specs.RateReady.{ready_after};
 
 use crate::limit::rate::{Rate, RateCore};
@@ -12,7 +14,7 @@ use tower_base::service::{Clock, Service};
 
 /// Accepts at most `num` calls in any half-open interval of length `per`: the Rust's
 /// `tower::limit::RateLimit`, but its windows slide. If a poll is pending because of the limit itself,
-/// it wakes its own task.
+/// the clock has the task polled again once the limit lets a poll pass (`Clock::wake_at`).
 ///
 /// The clock is passed in. A poll after `num` or more calls reads it once, and a call reads it once,
 /// before the inner poll or call. Neither allocates: `new` allocates the room for the last `num` call
@@ -55,15 +57,27 @@ impl<Request, S: Service<Request>, C: Clock> Service<Request> for RateLimit<S, C
 
     ghost polled = { Polled S.Service C.Clock };
 
+    ghost needs = { Needs S.needs C.hears };
+
     ghost called = { Called S.Service C.Clock };
 
-    fn poll_ready(&mut self, cx: &mut Context<'_>) -> Poll<Result<(), S::Error>> {
+    #[tactic(auto, using(crate::proofs::RateNeeds::heard_inner, crate::proofs::RateNeeds::heard_clock))]
+    fn poll_ready(&mut self, cx: &mut Context<'_>) -> Poll<Result<(), S::Error>>
+        requires { S.sound self.old.inner }
+        ensures polled { Polled S.Service C.Clock self.old result self.new }
+        ensures sound { S.sound self.new.inner }
+        ensures armed { OnPending result (IsArmed cx.new) }
+        ensures heard { OnPending result ((s : ℕ) → Needs S.needs C.hears self.new s → Hears cx.new s) }
+        ensures timed { WokenInTime C.Clock self.old self.new cx.new }
+        ensures kept { Keeps cx.old cx.new }
+    {
         if !self.core.limited() {
             return self.inner.poll_ready(cx);
         }
         let moment = self.clock.now();
         if !self.core.poll(moment) {
-            return cx.yield_now();
+            self.clock.wake_at(self.core.opens(), cx);
+            return Poll::Pending;
         }
         self.inner.poll_ready(cx)
     }

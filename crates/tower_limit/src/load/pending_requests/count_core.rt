@@ -4,7 +4,7 @@ ghost use Rattle.tower_latch.specs.Latch.{FollowsMachine, StepsAs};
 ghost use Rattle.tower_limit.specs.Holders.{HolderSteps};
 ghost use Rattle.tower_limit.specs.CountCore.{Opens, StandsFor};
 
-use tower_latch::Core;
+use tower_latch::{Core, Wakes};
 
 /// A step of a `CountCore`.
 #[derive(Clone, Copy, Debug, PartialEq, Eq)]
@@ -74,7 +74,9 @@ impl Core for CountCore {
 
     type Reply = CountReply;
 
-    ghost use Rattle.tower_latch.specs.LatchLemmas.{none_held, no_places};
+    type Terms = ();
+
+    ghost use Rattle.tower_latch.specs.LatchLemmas.{none_held, no_terms};
 
     ghost opens = { Opens };
 
@@ -82,25 +84,21 @@ impl Core for CountCore {
 
     ghost is_wait = { λ _. false };
 
+    ghost terms = { λ _. tt };
+
     ghost starts = { none_held _ };
 
-    ghost counts = { no_places _ };
+    ghost counts = { no_terms _ };
 
     #[inline(always)]
-    fn step(&mut self, step: CountStep) -> CountReply {
+    fn step(&mut self, step: CountStep) -> (CountReply, Wakes) {
         match step {
-            CountStep::Take => self.take(),
-            CountStep::Give => self.give(),
-            CountStep::Load => CountReply::Count(self.count),
+            CountStep::Take => (self.take(), Wakes::Nobody),
+            CountStep::Give => (self.give(), Wakes::Nobody),
+            CountStep::Load => (CountReply::Count(self.count), Wakes::Nobody),
         }
     }
 
     #[inline(always)]
-    fn waits(_reply: &CountReply) -> bool {
-        false
-    }
-
-    fn capacity(&self) -> usize {
-        0
-    }
+    fn terms(&self) {}
 }

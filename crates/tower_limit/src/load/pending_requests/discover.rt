@@ -84,6 +84,8 @@ impl<D: Discover, R: Wait + Copy, C: Copy> Discover for PendingRequestsDiscover<
 
     ghost discovered = { Discovered ⟦<Guarded<CountCore, R> as Latch<CountCore>>⟧.is_first D.discovered };
 
+    ghost needs = { λ p. D.needs p.discover };
+
     fn poll_discover(
         &mut self,
         cx: &mut Context<'_>,

@@ -93,6 +93,8 @@ where
 
     ghost polled = { Polled L.Latch S.Service };
 
+    ghost needs = { λ p. S.needs p.service };
+
     ghost called = { Called L.Latch S.Service };
 
     ghost readies = { λ old new p. S.readies old.service new.service p.polled };

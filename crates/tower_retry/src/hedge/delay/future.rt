@@ -53,12 +53,12 @@ where
 
     ghost gives = { MayGive (Stepped S.Service S.Future.stepped C.Clock) };
 
-    ghost needs = { Needs ⟦<Oneshot<S, Request> as Future>⟧.needs };
+    ghost needs = { Needs C.hears ⟦<Oneshot<S, Request> as Future>⟧.needs };
 
     #[tactic(auto, using(tower_base::specs::GivesLemmas::one_step))]
     fn poll(&mut self, cx: &mut Context<'_>) -> Poll<Self::Output>
         requires { CanPoll S.sound ⟦<Oneshot<S, Request> as Future>⟧.can_poll self.old }
-        ensures { IsStep (Stepped S.Service S.Future.stepped C.Clock) (CanPoll S.sound ⟦<Oneshot<S, Request> as Future>⟧.can_poll) (Needs ⟦<Oneshot<S, Request> as Future>⟧.needs) self.old result self.new cx.old cx.new }
+        ensures { IsStep (Stepped S.Service S.Future.stepped C.Clock) (CanPoll S.sound ⟦<Oneshot<S, Request> as Future>⟧.can_poll) (Needs C.hears ⟦<Oneshot<S, Request> as Future>⟧.needs) self.old result self.new cx.old cx.new }
     {
         self.step(cx)
     }
@@ -74,7 +74,7 @@ where
 
     ghost can_poll = { CanPoll S.sound ⟦<Oneshot<S, Request> as Future>⟧.can_poll };
 
-    ghost needs = { Needs ⟦<Oneshot<S, Request> as Future>⟧.needs };
+    ghost needs = { Needs C.hears ⟦<Oneshot<S, Request> as Future>⟧.needs };
 
     ghost stepped = { Stepped S.Service S.Future.stepped C.Clock };
 
@@ -101,7 +101,7 @@ where
         requires { Waits S.sound self.old }
         ensures begun { Begun S.Service S.Future.stepped C.Clock self.old result self.new }
         ensures again { OnPending result (CanPoll S.sound ⟦<Oneshot<S, Request> as Future>⟧.can_poll self.new) }
-        ensures registered { OnPending result (Covers cx.new (Needs ⟦<Oneshot<S, Request> as Future>⟧.needs self.new)) }
+        ensures registered { OnPending result (Covers cx.new (Needs C.hears ⟦<Oneshot<S, Request> as Future>⟧.needs self.new)) }
         ensures kept { Keeps cx.old cx.new }
     {
         let State::Delaying(_, service, request) = mem::replace(&mut self.state, State::NoClone)

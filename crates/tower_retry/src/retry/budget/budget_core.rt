@@ -1,13 +1,14 @@
 //! The core of a budget.
 ghost use Rattle.std.specs.Prelude.{◌≡◌, ◌≢◌, ℕ, pos, ◌≤◌, ◌<◌, ◌+◌, ◌^◌, IfOk, IsTrue, nat_lt};
 ghost use Rattle.tower_retry.specs.Budget.{Fits, generation_at, terms_of};
+ghost use Rattle.tower_retry.specs.BudgetAmounts.{AreSmall};
 ghost use Rattle.tower_retry.specs.Slots.{kept_sum, slot};
 
 use crate::retry::budget::slots::Slots;
 use crate::retry::budget::steps::{BudgetReply, BudgetStep, Terms};
 use std::alloc::{AllocError, Global};
 use tower_base::service::Fraction;
-use tower_latch::Core;
+use tower_latch::{Core, Wakes};
 
 /// The core of a budget: the amount of the present generation, and those of the ten before it.
 #[derive(Drop)]
@@ -47,6 +48,7 @@ impl BudgetCore {
         requires { Fits ttl min_per_sec fraction }
         ensures made { IfOk result (λ core. StandsFor core (blank (terms_of ttl min_per_sec fraction) moment)) }
         ensures opens { IfOk result Opens }
+        ensures small { IfOk result (λ core. AreSmall core.terms) }
     {
         let slots = Slots::new(alloc)?;
         let terms = terms(ttl, min_per_sec, fraction);
@@ -144,7 +146,8 @@ impl BudgetCore {
 // Returns the terms of a budget. The ranges of the arguments keep the numbers small.
 fn terms(ttl: u64, min_per_sec: u32, fraction: Fraction) -> Terms
     requires { Fits ttl min_per_sec fraction }
-    ensures { result ≡ terms_of ttl min_per_sec fraction }
+    ensures terms { result ≡ terms_of ttl min_per_sec fraction }
+    ensures small { AreSmall result }
 {
     let p = fraction.numerator as u64;
     let q = fraction.divisor as u64;
@@ -168,11 +171,14 @@ impl Core for BudgetCore {
 
     type Reply = BudgetReply;
 
+    type Terms = Terms;
+
     ghost use Rattle.std.specs.Prelude.{false};
     ghost use Rattle.tower_latch.specs.Latch.{StepsAs};
     ghost use Rattle.tower_retry.specs.Budget.{Steps};
     ghost use Rattle.tower_retry.specs.BudgetCore.{Opens, StandsFor, writes};
     ghost use Rattle.tower_latch.specs.LatchLemmas.{none_held, no_places};
+    ghost use Rattle.tower_retry.specs.BudgetTermsLemmas.{keeps_terms};
 
     ghost opens = { Opens };
 
@@ -180,29 +186,29 @@ impl Core for BudgetCore {
 
     ghost is_wait = { λ _. false };
 
+    ghost terms = { λ core. core.terms };
+
     ghost starts = { none_held _ };
 
-    ghost counts = { no_places _ };
+    ghost counts = { no_places _ _ keeps_terms };
 
     // Makes the step. Writes at most eleven slots.
-    fn step(&mut self, step: BudgetStep) -> BudgetReply
-        ensures steps { StepsAs StandsFor Steps self.old step result self.new }
+    fn step(&mut self, step: BudgetStep) -> (BudgetReply, Wakes)
+        ensures steps { StepsAs StandsFor Steps self.old step result.0 self.new }
         ensures writes { writes self.new ≤ writes self.old + 11 }
     {
         match step {
             BudgetStep::Deposit(moment) => {
                 self.deposit(moment);
-                BudgetReply::Done
+                (BudgetReply::Done, Wakes::Nobody)
             }
-            BudgetStep::Withdraw(moment) => BudgetReply::Allowed(self.withdraw(moment)),
+            BudgetStep::Withdraw(moment) => {
+                (BudgetReply::Allowed(self.withdraw(moment)), Wakes::Nobody)
+            }
         }
     }
 
-    fn waits(_reply: &BudgetReply) -> bool {
-        false
-    }
-
-    fn capacity(&self) -> usize {
-        0
+    fn terms(&self) -> Terms {
+        self.terms
     }
 }

@@ -1,6 +1,7 @@
 //! A budget over a clock.
-ghost use Rattle.std.specs.Prelude.{◌≡◌, IfOk, IsTrue, ◌↔◌};
-ghost use Rattle.tower_retry.specs.Budget.{Fits};
+ghost use Rattle.std.specs.Prelude.{◌≡◌, Err, IfErr, IfOk, IsTrue, MatchResult, ◌↔◌};
+ghost use Rattle.tower_retry.specs.Budget.{Fits, terms_of};
+ghost use Rattle.tower_retry.specs.BudgetAmounts.{AreSmall};
 ghost use Rattle.tower_retry.specs.TpsBudget.{TpsBudgetView, Deposited, Withdrew, IsClone};
 
 use crate::retry::budget::{Budget, BudgetCore, BudgetReply, BudgetStep};
@@ -40,7 +41,9 @@ impl<R: Wait + Copy, C: Clock> TpsBudget<Guarded<BudgetCore, R>, C> {
         mut clock: C,
     ) -> Result<Self, AllocError>
         requires { Fits ttl min_per_sec retries }
-        ensures { IfOk result (λ budget. C.read clock budget.clock) }
+        ensures clock { IfOk result (λ budget. C.read clock budget.clock) }
+        ensures terms { IfOk result (λ budget. ⟦<Guarded<BudgetCore, R> as Latch<BudgetCore>>⟧.terms budget.latch ≡ terms_of ttl min_per_sec retries) }
+        ensures small { IfOk result (λ budget. AreSmall (⟦<Guarded<BudgetCore, R> as Latch<BudgetCore>>⟧.terms budget.latch)) }
     {
         let core = BudgetCore::new(alloc, ttl, min_per_sec, retries, clock.now())?;
         let latch = Guarded::new(rt, alloc, core)?;
@@ -50,7 +53,8 @@ impl<R: Wait + Copy, C: Clock> TpsBudget<Guarded<BudgetCore, R>, C> {
     /// Creates a budget with a `ttl` of ten seconds, ten retries a second and one retry for five
     /// requests: the Rust's `default`. Returns an error if `new` does.
     pub fn with_clock(rt: R, alloc: Global, clock: C) -> Result<Self, AllocError>
-        ensures { IfOk result (λ budget. C.read clock budget.clock) }
+        ensures clock { IfOk result (λ budget. C.read clock budget.clock) }
+        ensures terms { IfOk result (λ budget. ⟦<Guarded<BudgetCore, R> as Latch<BudgetCore>>⟧.terms budget.latch ≡ record { deposit = 1; withdrawal = 5; reserve = 500; window = 1000000000 }) }
     {
         TpsBudget::new(rt, alloc, 10_000_000_000, 10, Fraction::new(1, 5), clock)
     }
@@ -97,11 +101,14 @@ impl<L: Latch<BudgetCore>, C: Clock> Budget for TpsBudget<L, C> {
     }
 }
 
-/// A clone shares the core and the clock.
+/// A clone shares the core and the clock. Cloning fails if the latch refuses its share.
 impl<L: Latch<BudgetCore>, C: Clock> Clone for TpsBudget<L, C> {
     ghost is_clone = { IsClone L.gave L.shares C.Clock };
 
-    fn clone(&self) -> Result<TpsBudget<L, C>, AllocError> {
+    fn clone(&self) -> Result<TpsBudget<L, C>, AllocError>
+        ensures cases { MatchResult result (IsClone L.gave L.shares C.Clock self.now) (λ _. ¬ ⊥) }
+        ensures refused { IfErr result (λ e. L.shares self.now.latch (Err e)) }
+    {
         let latch = self.latch.share()?;
         Ok(TpsBudget {
             latch,

@@ -1,5 +1,5 @@
 //! The queue of a stream's calls.
-ghost use Rattle.std.specs.Prelude.{◌≡◌, IsTrue, ◌↔◌, None, OnOk, Option};
+ghost use Rattle.std.specs.Prelude.{◌≡◌, IsTrue, ◌↔◌, None, OnErr, OnOk, Option};
 ghost use Rattle.futures.specs.Poll.{OnPending};
 ghost use Rattle.futures.specs.Task.{IsArmed, Keeps};
 ghost use Rattle.futures.specs.declared.task.Poll.{Poll};
@@ -45,7 +45,8 @@ pub trait CallQueue<T, F: Steps<Output = T>>: Drop {
         requires { sound self.old }
         ensures grown { grown self.old self.new }
         ensures sound { sound self.new }
-        ensures room { OnOk result (has_room self.new) };
+        ensures room { OnOk result (has_room self.new) }
+        ensures full { OnErr result (¬ (has_room self.old)) };
 
     fn push(&mut self, future: F)
         requires room { has_room self.old }

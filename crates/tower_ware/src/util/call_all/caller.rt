@@ -3,6 +3,7 @@ ghost use Rattle.std.specs.Prelude.{◌≡◌, IsSomeAnd, IfSome, OnSome, false}
 ghost use Rattle.futures.specs.Task.{IsArmed, Keeps};
 ghost use Rattle.futures.specs.Poll.{IfReady, OnPending};
 ghost use Rattle.tower_ware.specs.CallAll.{Called, Flowed, GoesOn, Pass, view_of};
+ghost use Rattle.tower_base.specs.LastPass.{AnsweredOrWoken};
 
 use crate::util::call_all::call_queue::CallQueue;
 use crate::util::call_all::error::Error;
@@ -138,12 +139,13 @@ where
         }
     }
 
-    // Makes passes up to an answer, but at most `TURNS`; then it is pending.
+    // Makes passes up to an answer, but at most `TURNS`; then it is pending and has woken its own task.
     pub fn passes(&mut self, cx: &mut Context<'_>) -> Answer<Svc::Response, Svc::Error>
         requires there { IsSomeAnd self.old.service Svc.sound }
         requires queue { Q.sound self.old.queue }
         requires flow { self.old.ended ≡ false → S.can_poll self.old.requests }
         ensures flowed { Flowed Svc.Service S.Flow.own Q.CallQueue (view_of self.old) result (view_of self.new) }
+        ensures woken { AnsweredOrWoken (Pass Svc.Service S.Flow.own Q.CallQueue) (view_of self.old) result (view_of self.new) cx.new.is_woken }
         ensures there { IsSomeAnd self.new.service Svc.sound }
         ensures queue { Q.sound self.new.queue }
         ensures flow { self.new.ended ≡ false → S.can_poll self.new.requests }

@@ -1,7 +1,6 @@
 use Rattle.std.proofs.Common.{◌≡◌, ◌<◌, [], arith, ap, sym, subst, ◌∙◌}
 use Rattle.atomic_table.specs.Table.{Allows, step}
 use mathlib.Core.Option.{none}
-use Rattle.tower_latch.specs.BadgeViews.{size_by}
 use Rattle.tower_latch.specs.CoreTable.{Agree, Taken, Holds}
 use Rattle.tower_latch.proofs.CoreTableMoves.{takes_at}
 use Rattle.tower_latch.proofs.guarded.Guarded.lock_with.Goals as goal
@@ -13,18 +12,18 @@ swap-requires g c =
     let seat = c.into_seat-seat.result in
     let tied : seat.table_id ≡ place.table_id = c.into_seat-seat.ensures.its ∙ c.requires.its ∙ ap (λ v. v.table) (sym c.self.view_is) ∙ sym (ap (λ t. t.table.shared.table_id) c.deref.ensures) in
     let free : seat.me ≡ (seat.me.0, []) = ap (λ l. (seat.me.0, l)) c.into_seat-seat.ensures.away.0 in
-    let size : seat.me.0.size ≡ place.key = sym (ap size_by c.into_seat-seat.ensures.views) ∙ c.requires.size ∙ ap (λ v. v.size) (sym c.self.view_is) ∙ sym (ap (λ t. t.table.shared.key) c.deref.ensures) in (
+    let same : c.args.self.now.terms ≡ place.key = ap (λ v. v.terms) (sym c.self.view_is) ∙ sym (ap (λ t. t.table.shared.key) c.deref.ensures) in (
       tied,
       room,
-      subst (λ n. Allows (Agree (λ k. g.C.Core.size k.core) (λ k. g.C.Core.out k.core) place.key) n seat.id seat.me 0 (λ _. 1) (Taken (λ k. g.C.Core.size k.core) (λ k. g.C.Core.out k.core) (step n 0 1 0 none) seat.me)) (sym c.deref.result.now.one.1)
-          (takes_at (λ k. g.C.Core.size k.core) (λ k. g.C.Core.out k.core) place.key seat.id 1 seat.me.0 seat.me free c.into_seat-seat.ensures.away.1 size (λ e. omega (arith, e))),
+      subst (λ n. Allows (Agree (λ k. g.C.Core.terms k.core ≡ place.key) (λ k. g.C.Core.out k.core)) n seat.id seat.me 0 (λ _. 1) (Taken (λ k. g.K.Known.are (g.C.Core.terms k.core)) (λ k. g.C.Core.out k.core) (step n 0 1 0 none) seat.me)) (sym c.deref.result.now.one.1)
+          (takes_at (λ k. g.C.Core.terms k.core ≡ place.key) (λ k. g.C.Core.out k.core) (λ k. g.K.Known.are (g.C.Core.terms k.core)) (λ k its. subst g.K.Known.are (same ∙ sym its) c.requires.known) seat.id 1 seat.me.0 seat.me free c.into_seat-seat.ensures.away.1 (λ e. omega (arith, e))),
     )
 
 pub returns-then-swap-ne0-clause-has : goal.returns-then-swap-ne0-clause-has
 returns-then-swap-ne0-clause-has g c = (
   c.into_seat-seat.result.me.0,
   c.into_seat-seat.ensures.views,
-  subst (λ v. Holds (λ k. g.C.Core.size k.core) (λ k. g.C.Core.out k.core) v c.lock_late.new.seat.me) (ap (λ m. m.0) (c.swap.ensures.2.1 c.if-swap-ne0.true)) c.lock_late.ensures.has,
+  subst (λ v. Holds (λ k. g.K.Known.are (g.C.Core.terms k.core)) (λ k. g.C.Core.out k.core) v c.lock_late.new.seat.me) (ap (λ m. m.0) (c.swap.ensures.2.1 c.if-swap-ne0.true)) c.lock_late.ensures.has,
 )
 
 pub returns-else-swap-ne0-clause-has : goal.returns-else-swap-ne0-clause-has

@@ -7,7 +7,7 @@ use Rattle.tower_latch.proofs.guarded.Guarded.new.Goals as goal
 pub new-requires-2 : goal.new-requires-2
 new-requires-2 g c =
     let items : c.push.new.self.items ≡ c.new.result ∷ [] = search rules in
-    let size : g.C.Core.size c.new.result.core ≡ c.capacity-size.result = ap g.C.Core.size c.new.ensures ∙ sym c.capacity-size.ensures in
+    let its : g.C.Core.terms c.new.result.core ≡ c.terms-terms.result = ap g.C.Core.terms c.new.ensures ∙ sym c.terms-terms.ensures in
     let none_out : g.C.Core.out c.new.result.core ≡ 0 = ap g.C.Core.out c.new.ensures ∙ g.met.C.Core.starts c.args.core c.requires in
-    subst (λ l. Agree (λ k. g.C.Core.size k.core) (λ k. g.C.Core.out k.core) c.capacity-size.result (opening (0 ∷ []) l (fresh c.capacity-size.result))) (sym items)
-    (begins (λ k. g.C.Core.size k.core) (λ k. g.C.Core.out k.core) c.capacity-size.result c.new.result size none_out)
+    subst (λ l. Agree (λ k. g.C.Core.terms k.core ≡ c.terms-terms.result) (λ k. g.C.Core.out k.core) (opening (0 ∷ []) l fresh)) (sym items)
+    (begins (λ k. g.C.Core.terms k.core ≡ c.terms-terms.result) (λ k. g.C.Core.out k.core) c.new.result its none_out)

@@ -1,7 +1,21 @@
-use Rattle.std.proofs.Common.{ap, sym, subst, ◌∙◌}
-use Rattle.tower_latch.specs.CoreTable.{HasCore}
+use Rattle.std.proofs.Common.{◌≡◌, ap, sym, ◌∙◌}
+use Rattle.tower_latch.proofs.CoreTableMoves.{has_slot, it_is, may_free, after_step}
 use Rattle.tower_latch.proofs.guarded.Guarded.wait_or_wake.Goals as goal
 
-pub wait_or_wake-requires-clause-core : goal.wait_or_wake-requires-clause-core
-wait_or_wake-requires-clause-core g c =
-    subst (λ n. HasCore (λ k. g.C.Core.size k.core) (λ k. g.C.Core.out k.core) n c.args.seat.me) (sym (ap (λ t. t.table.shared.key) c.deref.ensures ∙ ap (λ v. v.size) c.self.view_is)) c.requires.core
+pub slot_mut-kept-requires : goal.slot_mut-kept-requires
+slot_mut-kept-requires g c =
+    let h = c.requires.core in
+    (c.requires.its ∙ ap (λ v. v.table) (sym c.self.view_is) ∙ sym (ap (λ t. t.table.shared.table_id) c.deref.ensures), (h.0, has_slot (λ k. g.C.Core.terms k.core ≡ c.args.self.now.terms) (λ k. g.C.Core.out k.core) _ _ h.1))
+
+pub free-token-requires-clause-core : goal.free-token-requires-clause-core
+free-token-requires-clause-core g c =
+    may_free (λ k. g.C.Core.terms k.core ≡ c.args.self.now.terms) (λ k. g.C.Core.out k.core) c.args.seat.me c.slot_mut-kept.result.now c.wait-reply.new.self _ _ c.requires.core c.slot_mut-kept.ensures.value (λ it. c.wait-reply.ensures.counted.0 ∙ it) c.wait-reply.ensures.counted.1 (c.requires.paid c.wait-reply.result)
+
+pub returns-clause-came : goal.returns-clause-came
+returns-clause-came g c =
+    let came = c.wait-reply.ensures.came in
+    (came.0, came.1, came.2, came.3, came.4 ∙ it_is (λ k. g.C.Core.terms k.core ≡ c.args.self.now.terms) (λ k. g.C.Core.out k.core) c.args.seat.me c.slot_mut-kept.result.now c.requires.core c.slot_mut-kept.ensures.value)
+
+pub returns-clause-places : goal.returns-clause-places
+returns-clause-places g c =
+    after_step (λ k. g.C.Core.terms k.core ≡ c.args.self.now.terms) (λ k. g.C.Core.out k.core) c.args.seat.me c.slot_mut-kept.result.now c.wait-reply.new.self _ _ _ c.requires.core c.slot_mut-kept.ensures.value c.wait-reply.ensures.counted.1 (c.requires.paid c.wait-reply.result) c.free-token.ensures.left

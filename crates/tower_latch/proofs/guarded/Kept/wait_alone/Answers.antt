@@ -1,17 +1,47 @@
-use Rattle.std.proofs.Common.{sym, ◌∙◌}
-use Rattle.tower_latch.proofs.Reaching.{reached_on, rests_waiting, rests_empty}
+use Rattle.std.proofs.Common.{◌≡◌, ℕ, None, inl, inr, refl, subst}
+use Rattle.tower_latch.specs.Guarded.{IsKept, at}
+use Rattle.tower_latch.specs.declared.Wakes.TheVariants.{Wait}
+use Rattle.tower_latch.proofs.Reaching.{reached_on}
+use Rattle.tower_latch.proofs.Settling.{settled_alone, settled_by_wait, takes_alone, waiting_at}
 use Rattle.tower_latch.proofs.guarded.Kept.wait_alone.Goals as goal
 
 pub invariant_of-self : goal.invariant_of-self
 invariant_of-self g c = record {
-  reached = reached_on _ _ _ _ _ _ c.step-reply.ensures c.args.self.now.reached;
-  rests = rests_waiting _ _ _ _ _ _ _ _ c.step-reply.ensures c.args.self.now.reached (sym c.waits.ensures ∙ c.if-waits.true);
-  within = (g.met.C.Core.counts _ _ _ _ c.step-reply.ensures).2;
+  reached = reached_on _ _ _ _ _ _ c.step-reply.ensures.steps c.args.self.now.reached;
+  settled = settled_alone g.C.Core.stalls _ _ c.requires.alone;
+  within = (g.met.C.Core.counts _ _ _ _ c.step-reply.ensures.steps).2;
 }
 
-pub invariant_of-self-else-waits : goal.invariant_of-self-else-waits
-invariant_of-self-else-waits g c = record {
-  reached = reached_on _ _ _ _ _ _ c.step-reply.ensures c.args.self.now.reached;
-  rests = rests_empty _ _ _ _ _ c.requires.alone;
-  within = (g.met.C.Core.counts _ _ _ _ c.step-reply.ensures).2;
+pub returns-in_default-clause-machine : goal.returns-in_default-clause-machine
+returns-in_default-clause-machine g c = record {
+  mid = c.args.self.now.waiters;
+  turns = record { wakes = c.step-reply.result.1; steps = c.step-reply.ensures.steps; waits = c.step-reply.ensures.waits; names = c.step-reply.ensures.names; takes = takes_alone (g.C.Core.stalls c.step-reply.new.self) _ c.step-reply.result.1 c.requires.alone };
+  kept = λ waits. absurd (c.in_default.not-Wait _ (c.step-reply.ensures.waits waits));
+  others = λ key. inl refl;
+}
+
+pub returns-in_default-clause-armed : goal.returns-in_default-clause-armed
+returns-in_default-clause-armed g c = λ waits. absurd (c.in_default.not-Wait _ (c.step-reply.ensures.waits waits))
+
+pub returns-in_default-clause-heard : goal.returns-in_default-clause-heard
+returns-in_default-clause-heard g c = λ waits. absurd (c.in_default.not-Wait _ (c.step-reply.ensures.waits waits))
+
+pub invariant_of-self-2 : goal.invariant_of-self-2
+invariant_of-self-2 g c = record {
+  reached = reached_on _ _ _ _ _ _ c.step-reply.ensures.steps c.args.self.now.reached;
+  settled = settled_by_wait g.C.Core c.args.share c.args.cx.now c.keep.new.cx _ _ _ _ c.args.step c.step-reply.result.0 None c.args.self.now.settled (record {
+    mid = c.args.self.now.waiters;
+    turns = record { wakes = c.step-reply.result.1; steps = c.step-reply.ensures.steps; waits = c.step-reply.ensures.waits; names = c.step-reply.ensures.names; takes = takes_alone (g.C.Core.stalls c.step-reply.new.self) _ c.step-reply.result.1 c.requires.alone };
+    kept = λ waits. subst (λ (k : ℕ). IsKept c.args.share c.args.cx.now c.keep.new.cx (at c.keep.new.self k)) (waiting_at _ _ _ c.in-Wait.is (c.step-reply.ensures.waits waits)) c.keep.ensures.kept;
+    others = λ key. elim (c.keep.ensures.others key) [ inl same ↦ inl same | inr it ↦ inr (subst (λ (k : ℕ). c.step-reply.result.1 ≡ Wait k) it c.in-Wait.is) ];
+  });
+  within = (g.met.C.Core.counts _ _ _ _ c.step-reply.ensures.steps).2;
+}
+
+pub returns-clause-machine : goal.returns-clause-machine
+returns-clause-machine g c = record {
+  mid = c.args.self.now.waiters;
+  turns = record { wakes = c.step-reply.result.1; steps = c.step-reply.ensures.steps; waits = c.step-reply.ensures.waits; names = c.step-reply.ensures.names; takes = takes_alone (g.C.Core.stalls c.step-reply.new.self) _ c.step-reply.result.1 c.requires.alone };
+  kept = λ waits. subst (λ (k : ℕ). IsKept c.args.share c.args.cx.now c.keep.new.cx (at c.keep.new.self k)) (waiting_at _ _ _ c.in-Wait.is (c.step-reply.ensures.waits waits)) c.keep.ensures.kept;
+  others = λ key. elim (c.keep.ensures.others key) [ inl same ↦ inl same | inr it ↦ inr (subst (λ (k : ℕ). c.step-reply.result.1 ≡ Wait k) it c.in-Wait.is) ];
 }

@@ -12,11 +12,11 @@ swap-requires g c =
     let tied : c.args.seat.table_id ≡ place.table_id = c.requires.its in
     let h = c.requires.core in
     let me : c.args.seat.me ≡ (c.args.seat.me.0, (0, h.0) ∷ []) = ap (λ l. (c.args.seat.me.0, l)) h.1 in
-    let size : g.C.Core.size h.0.core ≡ place.key = h.2 in (
+    let terms : g.C.Core.terms h.0.core ≡ place.key = h.2 in (
       tied,
       room,
-      subst (λ n. Allows (Agree (λ k. g.C.Core.size k.core) (λ k. g.C.Core.out k.core) place.key) n c.args.seat.id c.args.seat.me 0 (λ _. 0) (Freed (λ k. g.C.Core.out k.core) (step n 0 0 0 none) c.args.seat.me)) (sym c.args.self.now.one.1)
-          (frees_at (λ k. g.C.Core.size k.core) (λ k. g.C.Core.out k.core) place.key c.args.seat.id c.args.seat.me.0 h.0 c.args.seat.me me c.requires.has size h.3),
+      subst (λ n. Allows (Agree (λ k. g.C.Core.terms k.core ≡ place.key) (λ k. g.C.Core.out k.core)) n c.args.seat.id c.args.seat.me 0 (λ _. 0) (Freed (λ k. g.C.Core.out k.core) (step n 0 0 0 none) c.args.seat.me)) (sym c.args.self.now.one.1)
+          (frees_at (λ k. g.C.Core.terms k.core ≡ place.key) (λ k. g.C.Core.out k.core) c.args.seat.id c.args.seat.me.0 h.0 c.args.seat.me me c.requires.has terms h.3),
     )
 
 pub returns-clause-left : goal.returns-clause-left

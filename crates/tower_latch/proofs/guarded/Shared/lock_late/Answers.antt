@@ -12,13 +12,12 @@ swap-requires g c =
     let same : c.loop.seat.me ≡ c.args.seat.now.me = c.loop.invariant.same in
     let tied : c.loop.seat.table_id ≡ place.table_id = c.loop.invariant.its ∙ c.requires.its in
     let free : c.loop.seat.me ≡ (c.loop.seat.me.0, []) = cc (same, c.requires.free) in
-    let without : c.loop.seat.me.0.has ≡ false = cc (same, c.requires.without) in
-    let size : c.loop.seat.me.0.size ≡ place.key = ap (λ m. m.0.size) same ∙ c.requires.size in (
+    let without : c.loop.seat.me.0.has ≡ false = cc (same, c.requires.without) in (
       tied,
       room,
-      subst (λ n. Allows (Agree (λ k. g.C.Core.size k.core) (λ k. g.C.Core.out k.core) place.key) n c.loop.seat.id c.loop.seat.me 0 (λ _. 2) (Taken (λ k. g.C.Core.size k.core) (λ k. g.C.Core.out k.core) (step n 0 2 0 none) c.loop.seat.me)) (sym c.args.self.now.one.1)
-          (takes_at (λ k. g.C.Core.size k.core) (λ k. g.C.Core.out k.core) place.key c.loop.seat.id 2 c.loop.seat.me.0 c.loop.seat.me free without size (λ e. omega (arith, e))),
+      subst (λ n. Allows (Agree (λ k. g.C.Core.terms k.core ≡ place.key) (λ k. g.C.Core.out k.core)) n c.loop.seat.id c.loop.seat.me 0 (λ _. 2) (Taken (λ k. g.K.Known.are (g.C.Core.terms k.core)) (λ k. g.C.Core.out k.core) (step n 0 2 0 none) c.loop.seat.me)) (sym c.args.self.now.one.1)
+          (takes_at (λ k. g.C.Core.terms k.core ≡ place.key) (λ k. g.C.Core.out k.core) (λ k. g.K.Known.are (g.C.Core.terms k.core)) (λ k its. subst g.K.Known.are (sym its) c.requires.known) c.loop.seat.id 2 c.loop.seat.me.0 c.loop.seat.me free without (λ e. omega (arith, e))),
     )
 
 pub returns-then-swap-eq0-clause-has : goal.returns-then-swap-eq0-clause-has
-returns-then-swap-eq0-clause-has g c = subst (λ v. Holds (λ k. g.C.Core.size k.core) (λ k. g.C.Core.out k.core) v c.swap.new.seat.me) (ap (λ m. m.0) c.loop.invariant.same) (c.swap.ensures.2.0 c.if-swap-eq0.true)
+returns-then-swap-eq0-clause-has g c = subst (λ v. Holds (λ k. g.K.Known.are (g.C.Core.terms k.core)) (λ k. g.C.Core.out k.core) v c.swap.new.seat.me) (ap (λ m. m.0) c.loop.invariant.same) (c.swap.ensures.2.0 c.if-swap-eq0.true)

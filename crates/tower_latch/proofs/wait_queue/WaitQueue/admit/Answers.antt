@@ -1,5 +1,6 @@
 use Rattle.std.proofs.Common.{◌≡◌, ◌+◌, ap, arith, length}
 use Rattle.slab.specs.Slab.{slab_len}
+use Rattle.tower_latch.proofs.KeysLemmas.{one_gone, still_in, was_in}
 use Rattle.tower_latch.proofs.Waiters.{admitted}
 use Rattle.tower_latch.proofs.WaitQueues.{Kept, admits_first, first_is, kept_admitted, kept_apart, kept_count, kept_of, kept_present}
 use Rattle.tower_latch.proofs.wait_queue.WaitQueue.admit.Goals as goal
@@ -25,3 +26,12 @@ returns-clause-follows c = λ plain s.
     let new = c.unlink.new.self in
     let first = first_is old.waiters.order c.in-Some.first c.in-Some.ensures in
     admits_first old.granted old.waiters plain s new c.in-Some.first first.0 first.1 c.unlink.ensures.order c.unlink.ensures.entries
+
+pub returns-clause-names : goal.returns-clause-names
+returns-clause-names c = (λ at h. still_in c.args.self.now.waiters.order c.in-Some.first at c.unlink.new.self.order c.unlink.ensures.order h, λ key e. absurd (cc))
+
+pub returns-clause-one : goal.returns-clause-one
+returns-clause-one c = one_gone c.args.self.now.waiters.order c.unlink.new.self.order c.in-Some.first c.unlink.ensures.order
+
+pub returns-clause-fewer : goal.returns-clause-fewer
+returns-clause-fewer c = λ key. was_in c.args.self.now.waiters.order c.unlink.new.self.order c.in-Some.first key c.unlink.ensures.order

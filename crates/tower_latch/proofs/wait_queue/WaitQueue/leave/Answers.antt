@@ -1,7 +1,7 @@
-use Rattle.std.proofs.Common.{◌≡◌, ◌≤◌, ◌-◌, true, false, None, is_some, ◌∙◌, inr, refl, sym, ap, arith, length}
+use Rattle.std.proofs.Common.{◌≡◌, ◌≤◌, ◌-◌, true, false, None, is_some, ◌∙◌, inl, inr, refl, sym, ap, arith, length}
 use Rattle.slab.specs.Slab.{get, slab_len}
 use Rattle.tower_base.specs.Order.{has}
-use Rattle.tower_latch.proofs.KeysLemmas.{apart_is, length_without, without_lacks}
+use Rattle.tower_latch.proofs.KeysLemmas.{apart_is, length_without, one_gone, still_in, without_lacks}
 use Rattle.tower_latch.proofs.WaitQueues.{Kept, absent_lacks, count_some, granted_goes, kept_apart, kept_count, kept_gone, kept_left, kept_of, kept_present, kept_taken, lacks_key, linked_leaves, longer, no_shorter, stays_without}
 use Rattle.tower_latch.proofs.wait_queue.WaitQueue.leave.Goals as goal
 
@@ -77,9 +77,27 @@ invariant_of-self-else-len-waiting c =
       places = omega (arith, c.in-Some.ensures.len, old.places, length_without old.waiters.order c.args.key (apart_is old.waiters.order old.apart) h, ap length c.remove.ensures.order);
     }
 
-pub returns-else-len-waiting-clause-follows : goal.returns-else-len-waiting-clause-follows
-returns-else-len-waiting-clause-follows c = λ plain s.
+pub returns-clause-follows : goal.returns-clause-follows
+returns-clause-follows c = λ plain s.
     let old = c.args.self.now in
     let mid = c.remove.new.self in
     let h : has old.waiters.order c.args.key ≡ true = longer old.waiters.order c.args.key (λ same. c.if-len-waiting.false (omega (arith, same, c.len.ensures, c.len-waiting.ensures, ap length c.remove.ensures.order))) in
     linked_leaves old.granted old.waiters plain s mid c.args.key c.remove.ensures.entries c.remove.ensures.order h
+
+pub returns-in_default-clause-names : goal.returns-in_default-clause-names
+returns-in_default-clause-names c =
+    let old = c.args.self.now in
+    let lacks : has old.waiters.order c.args.key ≡ false = absent_lacks old.waiters c.args.key old.present (sym c.in_default.ensures.value) in
+    (λ at h. inl (ap (λ l. has l at) (c.remove.ensures.order ∙ without_lacks old.waiters.order c.args.key lacks) ∙ h), λ key e. absurd (cc))
+
+pub returns-then-len-waiting-clause-names : goal.returns-then-len-waiting-clause-names
+returns-then-len-waiting-clause-names c =
+    let old = c.args.self.now in
+    let lacks : has old.waiters.order c.args.key ≡ false = no_shorter old.waiters.order c.args.key old.apart (omega (arith, c.if-len-waiting.true, c.len.ensures, c.len-waiting.ensures, ap length c.remove.ensures.order)) in
+    (λ at h. c.admit.ensures.names.0 at (ap (λ l. has l at) (c.remove.ensures.order ∙ without_lacks old.waiters.order c.args.key lacks) ∙ h), c.admit.ensures.names.1)
+
+pub returns-clause-names : goal.returns-clause-names
+returns-clause-names c = (λ at h. still_in c.args.self.now.waiters.order c.args.key at c.remove.new.self.order c.remove.ensures.order h, λ key e. absurd (cc))
+
+pub returns-clause-one : goal.returns-clause-one
+returns-clause-one c = one_gone c.args.self.now.waiters.order c.remove.new.self.order c.args.key c.remove.ensures.order

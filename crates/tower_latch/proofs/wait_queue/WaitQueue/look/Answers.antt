@@ -75,3 +75,15 @@ returns-clause-follows c = λ plain s.
     let there : is_some (get mid.entries c.args.key) ≡ true = ap is_some (sym c.in-Some.ensures.value) in
     let r = granted_goes old.granted mid plain grown c.remove.new.self c.args.key c.remove.ensures.entries c.remove.ensures.order there lacks in
     (_, (r.0, r.1, r.2, refl), r.3)
+
+pub returns-in_default-clause-names : goal.returns-in_default-clause-names
+returns-in_default-clause-names c = λ at h.
+    let mid = c.is_linked.new.self in
+    let lacks : has mid.order c.args.key ≡ false = ap (λ l. has l c.args.key) c.is_linked.ensures.order ∙ sym c.if-is_linked.ensures.linked in
+    ap (λ l. has l at) (c.remove.ensures.order ∙ without_lacks mid.order c.args.key lacks ∙ c.is_linked.ensures.order) ∙ h
+
+pub returns-clause-names : goal.returns-clause-names
+returns-clause-names c = λ at h.
+    let mid = c.is_linked.new.self in
+    let lacks : has mid.order c.args.key ≡ false = ap (λ l. has l c.args.key) c.is_linked.ensures.order ∙ sym c.if-is_linked.ensures.linked in
+    ap (λ l. has l at) (c.remove.ensures.order ∙ without_lacks mid.order c.args.key lacks ∙ c.is_linked.ensures.order) ∙ h

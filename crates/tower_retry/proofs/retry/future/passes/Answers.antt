@@ -1,4 +1,4 @@
-use Rattle.std.proofs.Common.{arith}
+use Rattle.std.proofs.Common.{inl, inr, arith, rules}
 use Rattle.tower_base.specs.PassesLemmas.{goes_start, goes_more, passes_answer, passes_tired}
 use Rattle.tower_retry.specs.Retry.{Pass}
 use Rattle.tower_retry.proofs.retry.future.passes.Goals as goal
@@ -11,6 +11,15 @@ returns-in-Some-clause-passes g c =
     let answer = rw c.in-Some.is at c.pass.ensures.pass in
     passes_answer _ c.loop-pass._pass _ _ _ _ _ c.loop-pass.invariant.went (omega arith) answer
 
+pub returns-in-Some-clause-woken : goal.returns-in-Some-clause-woken
+returns-in-Some-clause-woken g c = inl (record {
+  count = c.loop-pass._pass;
+  last = c.loop-pass.attempts;
+  went = c.loop-pass.invariant.went;
+  below = omega arith;
+  ends = rw c.in-Some.is at c.pass.ensures.pass;
+})
+
 pub loop-pass-preserved : goal.loop-pass-preserved
 loop-pass-preserved g c = record {
   went = goes_more (Pass g.S.Service g.S.Future.Steps.stepped g.P.Policy g.P.Future.Steps.stepped) c.loop-pass._pass _ _ _
@@ -20,4 +29,7 @@ loop-pass-preserved g c = record {
 }
 
 pub returns-clause-passes : goal.returns-clause-passes
-returns-clause-passes g c = passes_tired _ c.loop-pass._pass _ _ _ _ c.loop-pass.invariant.went (omega arith) c.yield_now.ensures.pending
+returns-clause-passes g c = passes_tired _ c.loop-pass._pass _ _ _ _ c.loop-pass.invariant.went (omega arith) (search rules)
+
+pub returns-clause-woken : goal.returns-clause-woken
+returns-clause-woken g c = inr (search rules)

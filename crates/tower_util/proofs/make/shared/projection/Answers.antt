@@ -2,4 +2,4 @@ use Rattle.tower_util.specs.Projections.{shared}
 use Rattle.tower_util.proofs.make.shared.projection.Goals as goal
 
 pub returns : goal.returns
-returns g c = shared g.S.Clone.is_clone g.S.Service
+returns g c = shared g.S.Clone g.S.Service

@@ -1,6 +1,6 @@
-use Rattle.std.proofs.Common.{rules, arith}
+use Rattle.std.proofs.Common.{inl, inr, rules, arith}
 use Rattle.tower_base.specs.PassesLemmas.{goes_more, goes_start, passes_answer, passes_tired}
-use Rattle.tower_ware.specs.Reconnect.{Pass}
+use Rattle.tower_ware.specs.Reconnect.{Pass, view_of}
 use Rattle.tower_ware.proofs.reconnect.ReconnectService.poll_ready.Goals as goal
 
 pub loop-pass-init : goal.loop-pass-init
@@ -11,9 +11,18 @@ returns-in-Some-clause-polled g c = record {
   passes = passes_answer _ c.loop-pass._pass _ _ _ _ _ c.loop-pass.invariant.went (omega arith) (rw c.in-Some.is at c.pass.ensures.pass);
 }
 
+pub returns-in-Some-clause-woken : goal.returns-in-Some-clause-woken
+returns-in-Some-clause-woken g c = inl (record {
+  count = c.loop-pass._pass;
+  last = view_of c.loop-pass.self;
+  went = c.loop-pass.invariant.went;
+  below = omega arith;
+  ends = rw c.in-Some.is at c.pass.ensures.pass;
+})
+
 pub loop-pass-preserved : goal.loop-pass-preserved
 loop-pass-preserved g c = record {
-  went = goes_more (Pass g.M.Service g.M.Future.Steps g.S.Service g.Target.Clone.is_clone) c.loop-pass._pass _ _ _ c.loop-pass.invariant.went
+  went = goes_more (Pass g.M.Service g.M.Future.Steps g.S.Service g.Target.Clone) c.loop-pass._pass _ _ _ c.loop-pass.invariant.went
       (rw c.in_default.is at c.pass.ensures.pass);
   sound = search rules;
   kept = search rules;
@@ -21,5 +30,8 @@ loop-pass-preserved g c = record {
 
 pub returns-clause-polled : goal.returns-clause-polled
 returns-clause-polled g c = record {
-  passes = passes_tired _ c.loop-pass._pass _ _ _ _ c.loop-pass.invariant.went (omega arith) c.yield_now.ensures.pending;
+  passes = passes_tired _ c.loop-pass._pass _ _ _ _ c.loop-pass.invariant.went (omega arith) (search rules);
 }
+
+pub returns-clause-woken : goal.returns-clause-woken
+returns-clause-woken g c = inr (search rules)

@@ -1,4 +1,4 @@
-use Rattle.std.proofs.Common.{rules, ◌≡◌, ◌∙◌, [], ◌∷◌, ◌++◌, Ok, Err, ◌&&◌, ◌||◌, not, is_some, cond, Some, true, false, ap, sym, refl}
+use Rattle.std.proofs.Common.{rules, ◌≡◌, ◌∙◌, [], ◌∷◌, ◌++◌, Ok, Err, ◌&&◌, ◌||◌, not, is_some, cond, Some, true, false, ap, sym, refl, arith}
 use Rattle.std.specs.Map.{lookup}
 use Rattle.std.specs.Option.{option_map_or}
 use Rattle.futures.specs.declared.task.Poll.TheVariants.{Ready}
@@ -8,6 +8,7 @@ use Rattle.tower_pool.specs.ReadyCache.{awaited}
 use Rattle.tower_pool.specs.Pending.{cache_of, entry_of, knows}
 use Rattle.tower_pool.proofs.AskLemmas.{asked_by, sound_first, sound_gone, sound_last, sound_ready, when_ok}
 use Rattle.tower_pool.proofs.CacheLemmas.{same_view}
+use Rattle.tower_pool.proofs.NeedsLemmas.{heard_gone, heard_waits}
 use Rattle.tower_pool.proofs.KeptLemmas.{kept_dropped, kept_failed, kept_inserted, kept_last}
 use Rattle.tower_pool.proofs.ready_cache.cache.ReadyCache.ask.Goals as goal
 
@@ -133,3 +134,27 @@ returns-in-Ready-Err-clause-asked g c =
     let came : g.S.Service.polled q.service (Ready (Err c.in-Ready-Err.error)) w = search rules in
     asked_by g.K.PartialEq.eq g.S.Service was was refl q mid take (Err (Failed q.key c.in-Ready-Err.error)) (cache_of c.reserve.new.self.entries c.let_go.new.self)
     (alive, refl, (w, came, same_view _ _ _ _ c.reserve.ensures.entries c.let_go.ensures.items))
+
+pub returns-in-Ready-Ok-clause-used : goal.returns-in-Ready-Ok-clause-used
+returns-in-Ready-Ok-clause-used g c = omega (arith, c.reserve.ensures.room.0, c.insert.ensures.spare)
+
+pub returns-then-is_cancelled-clause-heard : goal.returns-then-is_cancelled-clause-heard
+returns-then-is_cancelled-clause-heard g c =
+    let q = entry_of c.unwrap-key.result in
+    let mid = c.take_first.new.self.items in
+    let take = c.take_first.ensures.items ∙ ap (λ r. option_map_or (λ e. entry_of e ∷ c.take_first.new.self.items) r []) c.unwrap-key.ensures in
+    λ n. heard_gone g.S.Service.needs _ _ (λ fact h. h) n _ q mid take
+
+pub returns-in-Pending-clause-heard : goal.returns-in-Pending-clause-heard
+returns-in-Pending-clause-heard g c =
+    let q = entry_of c.unwrap-key.result in
+    let mid = c.take_first.new.self.items in
+    let take = c.take_first.ensures.items ∙ ap (λ r. option_map_or (λ e. entry_of e ∷ c.take_first.new.self.items) r []) c.unwrap-key.ensures in
+    λ n. heard_waits g.S.Service.needs _ _ c.poll_ready.ensures.kept n _ q mid _ (entry_of (q.key, c.poll_ready.new.self, false)) take c.append-in-Pending.ensures.items c.in-Pending.ensures.heard
+
+pub returns-in-Ready-Ok-clause-heard : goal.returns-in-Ready-Ok-clause-heard
+returns-in-Ready-Ok-clause-heard g c =
+    let q = entry_of c.unwrap-key.result in
+    let mid = c.take_first.new.self.items in
+    let take = c.take_first.ensures.items ∙ ap (λ r. option_map_or (λ e. entry_of e ∷ c.take_first.new.self.items) r []) c.unwrap-key.ensures in
+    λ n. heard_gone g.S.Service.needs _ _ c.poll_ready.ensures.kept n _ q mid take

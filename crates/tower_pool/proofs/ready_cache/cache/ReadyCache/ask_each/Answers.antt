@@ -1,8 +1,11 @@
-use Rattle.std.proofs.Common.{rules, suc, ◌≡◌, ◌<◌, ◌-◌, ◌∙◌, Ok, true, false, true≢false, ap, sym, subst, refl, arith}
+use Rattle.std.proofs.Common.{rules, suc, ◌≡◌, ◌<◌, ◌-◌, ◌∙◌, Ok, Err, true, false, true≢false, ap, sym, subst, refl, arith}
+use Rattle.tower_pool.specs.declared.ready_cache.error.Error.TheVariants.{Memory}
 use Rattle.tower_pool.specs.ReadyCachePoll.{AskedFirst}
 use Rattle.tower_pool.specs.Pending.{cache_of}
 use Rattle.tower_pool.proofs.KeptLemmas.{kept_rotated}
-use Rattle.tower_pool.proofs.AskLemmas.{Asking, asking_begins, asking_left, asking_stops, asking_waits, sound_rotated}
+use Rattle.tower_pool.specs.ReadyCache.{HeardFrom}
+use Rattle.tower_pool.proofs.AskLemmas.{Asking, asking_begins, asking_left, asking_stops, asking_waits, sound_rotated, when_ok}
+use Rattle.tower_pool.proofs.NeedsLemmas.{heard_none}
 use Rattle.tower_pool.proofs.ready_cache.cache.ReadyCache.ask_each.Goals as goal
 
 pub loop-left-init : goal.loop-left-init
@@ -13,7 +16,9 @@ loop-left-init g c =
       asking = subst (λ n. Asking g.K.PartialEq.eq g.S.Service old old n false) (sym c.len-left.ensures.len) (asking_begins g.K.PartialEq.eq g.S.Service old);
       sound = c.requires.sound;
       armed = λ e. absurd (true≢false (sym e));
+      heard = λ source need. absurd (heard_none g.S.Service.needs _ c.len-left.result (omega (arith, c.len-left.ensures.len)) source need);
       kept = λ fact h. h;
+      used = omega (arith, c.len-left.ensures.len);
       touches = omega (arith, c.len-left.ensures.len);
     }
 
@@ -33,7 +38,9 @@ loop-left-preserved-in-Ok-true g c =
       asking = asking_waits g.K.PartialEq.eq g.S.Service old was now n c.loop-left.waits h turn;
       sound = c.ask.ensures.sound;
       armed = λ _. c.ask.ensures.armed is;
+      heard = when_ok c.ask.result true _ is c.ask.ensures.heard n (subst (λ m. HeardFrom g.S.Service.needs c.loop-left.cx m c.loop-left.pending.items) e c.loop-left.invariant.heard);
       kept = λ fact h. c.ask.ensures.kept fact (c.loop-left.invariant.kept fact h);
+      used = omega (arith, c.ask.ensures.used, c.loop-left.invariant.used, e);
       touches = omega (arith, c.ask.ensures.touches, c.loop-left.invariant.touches, e);
     }
 
@@ -53,7 +60,9 @@ loop-left-preserved g c =
       asking = asking_left g.K.PartialEq.eq g.S.Service old was now n c.loop-left.waits h turn;
       sound = c.ask.ensures.sound;
       armed = λ w. c.ask.ensures.kept _ (c.loop-left.invariant.armed w);
+      heard = when_ok c.ask.result false _ is c.ask.ensures.heard n (subst (λ m. HeardFrom g.S.Service.needs c.loop-left.cx m c.loop-left.pending.items) e c.loop-left.invariant.heard);
       kept = λ fact h. c.ask.ensures.kept fact (c.loop-left.invariant.kept fact h);
+      used = omega (arith, c.ask.ensures.used, c.loop-left.invariant.used, e);
       touches = omega (arith, c.ask.ensures.touches, c.loop-left.invariant.touches, e);
     }
 
@@ -80,3 +89,10 @@ pub returns-in-Err-clause-touches : goal.returns-in-Err-clause-touches
 returns-in-Err-clause-touches g c =
     let some : 0 < c.loop-left.left = search rules in
     omega (arith, some, c.ask.ensures.touches, c.loop-left.invariant.touches, c.rotate.ensures.touches)
+
+pub returns-in-Err-clause-full : goal.returns-in-Err-clause-full
+returns-in-Err-clause-full g c = λ is.
+    let some : 0 < c.loop-left.left = search rules in
+    let memory : c.in-Err.error ≡ Memory = cc is in
+    let full = c.ask.ensures.full (c.in-Err.is ∙ ap Err memory) in
+    omega (arith, some, full, c.loop-left.invariant.used)

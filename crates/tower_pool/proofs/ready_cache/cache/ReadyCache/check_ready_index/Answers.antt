@@ -1,6 +1,8 @@
-use Rattle.std.proofs.Common.{All, rules, ◌||◌, Err, is_some, refl, sym, ap, subst, ◌∙◌, arith}
+use Rattle.std.proofs.Common.{All, rules, ℕ, ◌||◌, Err, is_some, refl, sym, ap, subst, ◌∙◌, arith}
 use Rattle.futures.specs.declared.task.Poll.TheVariants.{Ready}
-use Rattle.tower_pool.specs.ReadyCache.{Askable, Sound, awaited, put_back}
+use Rattle.futures.specs.Task.{Hears}
+use Rattle.tower_pool.specs.ReadyCache.{Askable, HeardFrom, Sound, awaited, put_back, waiting}
+use Rattle.tower_pool.proofs.NeedsLemmas.{heard_back, heard_kept}
 use Rattle.tower_pool.specs.Pending.{knows}
 use Rattle.indexmap.specs.IndexMap.{set_value_at}
 use Rattle.tower_pool.proofs.CacheLemmas.{checked_of, same_view}
@@ -114,3 +116,27 @@ returns-in-Pending-clause-sound g c =
       pending = subst (All (Askable g.S.Service.sound)) (sym c.put_back.ensures.items)
           (All-put_back _ g.met.K.Eq.laws g.S.Service.sound _ _ _ (subst (λ p. g.S.Service.sound p.1) (sym is) c.poll_ready.ensures.sound) s.pending);
     }
+
+pub returns-in-Ready-Ok-clause-heard : goal.returns-in-Ready-Ok-clause-heard
+returns-in-Ready-Ok-clause-heard g c = λ h.
+    let needs = g.S.Service.needs in
+    heard_kept needs _ _ c.poll_ready.ensures.kept 0 _ (subst (λ v. HeardFrom needs c.args.cx.now 0 v.lists.pending) (sym c.self.view_is) h)
+
+pub returns-in-Ready-Err-clause-heard : goal.returns-in-Ready-Err-clause-heard
+returns-in-Ready-Err-clause-heard g c = λ h.
+    let needs = g.S.Service.needs in
+    subst (HeardFrom needs _ 0) (sym c.let_go.ensures.items)
+    (heard_kept needs _ _ c.poll_ready.ensures.kept 0 _ (subst (λ v. HeardFrom needs c.args.cx.now 0 v.lists.pending) (sym c.self.view_is) h))
+
+pub returns-in-Pending-clause-heard : goal.returns-in-Pending-clause-heard
+returns-in-Pending-clause-heard g c = λ h.
+    let needs = g.S.Service.needs in
+    let es = c.self.inside.ready.entries in
+    let w = c.poll_ready.new.self in
+    let u = c.unwrap-key-in-Pending.result in
+    let there = sym c.swap_remove_index-in-Pending.ensures.entry ∙ c.unwrap-key-in-Pending.ensures in
+    let is = taken _ c.args.index _ u (at_written es c.args.index _ _ w c.pair_mut-service.ensures.value) there in
+    subst (HeardFrom needs _ 0) (sym c.put_back.ensures.items)
+    (heard_back needs _ _ c.poll_ready.ensures.kept (awaited g.K.PartialEq.eq u.0 c.self.inside.pending.items) c.self.inside.pending.items (waiting u.0 u.1)
+    (subst (λ p. (source : ℕ) → needs p.1 source → Hears c.poll_ready.new.cx source) (sym is) c.in-Pending.ensures.heard)
+    (subst (λ v. HeardFrom needs c.args.cx.now 0 v.lists.pending) (sym c.self.view_is) h))

@@ -1,9 +1,9 @@
-use Rattle.std.proofs.Common.{rules, ◌≡◌, ◌∙◌, ◌++◌, ◌+◌, ◌<◌, sym, ap, length, subst, Option, Some, None, true, false, refl, cond, ℕ}
+use Rattle.std.proofs.Common.{rules, ◌≡◌, ◌∙◌, ◌++◌, ◌+◌, ◌<◌, sym, ap, length, subst, Option, Some, None, inr, true, false, true≢false, refl, cond, ℕ}
 use Rattle.std.specs.Map.{lookup}
 use Rattle.std.specs.Result.{is_ok}
 use Rattle.tower_pool.specs.ReadyCache.{Apart, cancel}
 use Rattle.tower_pool.specs.Pending.{Stands, last_of}
-use Rattle.tower_pool.proofs.PendingPlaces.{fits_all, items_all, items_room, put_of, stands_marked, stands_room, when_put, when_refused}
+use Rattle.tower_pool.proofs.PendingPlaces.{fits_all, items_all, items_room, put_of, room_missed, stands_marked, stands_room, when_none, when_put, when_refused}
 use Rattle.tower_pool.proofs.ready_cache.pending.Pending.make_room.Goals as goal
 
 abbrev free : Option ℕ
@@ -50,3 +50,11 @@ returns-clause-fits g c =
     let ok : is_ok c.reserve.result ≡ true = search rules in
     fits_all g.K.PartialEq.eq g.met.K.Eq.laws c.self.inside.places.entries c.self.inside.entries c.self.inside.last c.self.invariant c.reserve.new.self c.reserve.ensures.order (ap (λ s. s.slots) c.reserve.ensures.rest_kept)
     c.args.self.now.items c.args.more (ap (λ v. v.items) c.self.view_is) small (when_put c.reserve.result _ ok c.reserve.ensures.room)
+
+pub returns-in_err-ok-clause-excused : goal.returns-in_err-ok-clause-excused
+returns-in_err-ok-clause-excused g c =
+    let refused : is_ok c.reserve.result ≡ false = search rules in
+    when_none c.from_residual-in_err-ok.result (inr (inr (
+    room_missed g.K.PartialEq.eq g.met.K.Eq.laws c.self.inside.places.entries c.self.inside.entries c.self.inside.last c.self.invariant c.args.self.now.items c.args.more c.args.self.now.room
+    (ap (λ v. v.items) c.self.view_is) (ap (λ v. v.room) c.self.view_is) (λ fits. true≢false (sym (c.reserve.ensures.succeeds fits) ∙ refused))
+    )))

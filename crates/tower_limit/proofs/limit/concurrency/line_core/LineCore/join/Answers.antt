@@ -3,8 +3,8 @@ use Rattle.tower_limit.proofs.LineMoves.{Fits, enters, enters_fits, joins, no_me
 use Rattle.tower_latch.proofs.WaitQueues.{full_room}
 use Rattle.tower_limit.proofs.limit.concurrency.line_core.LineCore.join.Goals as goal
 
-pub returns-then-self-granted : goal.returns-then-self-granted
-returns-then-self-granted c = record {
+pub returns-then-self-granted-clause-follows : goal.returns-then-self-granted-clause-follows
+returns-then-self-granted-clause-follows c = record {
   same = refl;
   goes = λ line s. joins c.args.self.now.max c.args.self.now.held c.args.self.now.queue line s (omega (arith, c.granted.ensures, c.if-self-granted.true)) c.args.self.now.full;
   excused = tt;
@@ -19,8 +19,8 @@ invariant_of-self-2 c =
     let w = enters_fits old.max old.held old.queue c.wait.new.self was c.wait.result c.wait.ensures.follows (omega (arith, c.granted.ensures, c.if-self-granted.false)) in
     record { limit = c.args.self.now.limit; fits = w.fits; full = w.full }
 
-pub returns-in-Ok : goal.returns-in-Ok
-returns-in-Ok c = record {
+pub returns-in-Ok-clause-follows : goal.returns-in-Ok-clause-follows
+returns-in-Ok-clause-follows c = record {
   same = refl;
   goes = λ line s. enters c.args.self.now.max c.args.self.now.held c.args.self.now.queue line s c.wait.new.self c.in-Ok.key c.in-Ok.ensures.follows (omega (arith, c.granted.ensures, c.if-self-granted.false));
   excused = tt;
@@ -28,8 +28,8 @@ returns-in-Ok c = record {
   few = omega (arith, c.wait.ensures.touches);
 }
 
-pub returns-in-Err : goal.returns-in-Err
-returns-in-Err c = record {
+pub returns-in-Err-clause-follows : goal.returns-in-Err-clause-follows
+returns-in-Err-clause-follows c = record {
   same = refl;
   goes = λ line s. no_memory c.args.self.now.max c.args.self.now.held c.args.self.now.queue line s c.wait.new.self _ c.in-Err.ensures.follows (omega (arith, c.granted.ensures, c.if-self-granted.false));
   excused = full_room _ _ (λ less. c.in-Err.ensures.succeeds (omega (arith, less)));

@@ -15,8 +15,8 @@ invariant_of-self c =
     let w = sees_fits old.max old.held old.queue c.look.new.self was c.args.key c.in-Granted.ensures.follows in
     record { limit = c.args.self.now.limit; fits = w.fits; full = w.full }
 
-pub returns-in-Granted : goal.returns-in-Granted
-returns-in-Granted c = record {
+pub returns-in-Granted-clause-follows : goal.returns-in-Granted-clause-follows
+returns-in-Granted-clause-follows c = record {
   same = refl;
   goes = λ line s. sees c.args.self.now.max c.args.self.now.held c.args.self.now.queue line s c.look.new.self c.args.key c.in-Granted.ensures.follows c.args.self.now.fits;
   excused = tt;
@@ -31,8 +31,8 @@ invariant_of-self-in-Waiting c =
     let w = waits_on_fits old.max old.held old.queue c.look.new.self was c.args.key c.in-Waiting.ensures.follows in
     record { limit = c.args.self.now.limit; fits = w.fits; full = w.full }
 
-pub returns-in-Waiting : goal.returns-in-Waiting
-returns-in-Waiting c = record {
+pub returns-in-Waiting-clause-follows : goal.returns-in-Waiting-clause-follows
+returns-in-Waiting-clause-follows c = record {
   same = refl;
   goes = λ line s.
       let all = c.args.self.now.full (saw_waiting c.args.self.now.queue c.look.new.self c.args.key c.in-Waiting.ensures.follows).0 in
@@ -49,8 +49,8 @@ invariant_of-self-in-Unknown c =
     let w = nobody_fits old.max old.held old.queue c.look.new.self was c.args.key c.in-Unknown.ensures.follows in
     record { limit = c.args.self.now.limit; fits = w.fits; full = w.full }
 
-pub returns-in-Unknown : goal.returns-in-Unknown
-returns-in-Unknown c = record {
+pub returns-in-Unknown-clause-follows : goal.returns-in-Unknown-clause-follows
+returns-in-Unknown-clause-follows c = record {
   same = refl;
   goes = λ line s. nobody c.args.self.now.max c.args.self.now.held c.args.self.now.queue line s c.look.new.self c.args.key c.in-Unknown.ensures.follows;
   excused = tt;

@@ -9,7 +9,7 @@ abbrev pub invariant-loop-permit : goal.invariant-loop-permit
 invariant-loop-permit g l = record {
   its : g.L.Latch.its l.fn.self.latch l.token;
   counts : places l.token + vec_len l.permits ≡ l.count;
-  within : places l.token ≤ g.L.Latch.size l.fn.self.latch;
+  within : places l.token ≤ g.L.Latch.terms l.fn.self.latch;
   each : All (IsOf g.L.Latch l.fn.self) l.permits.items;
 }
 
@@ -19,6 +19,6 @@ decreases-loop-permit g l = vec_len l.permits
 abbrev pub invariant-loop : goal.invariant-loop
 invariant-loop g l = record {
   its : g.L.Latch.its l.fn.self.latch l.token;
-  rest : l.count ≤ places l.token + l.counter;
+  rest : places l.token + l.counter ≡ l.count;
   released : 0 < l.counter → (reply : LineReply) × g.L.Latch.gave l.fn.self.latch Release reply;
 }

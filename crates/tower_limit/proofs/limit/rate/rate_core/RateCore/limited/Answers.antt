@@ -11,6 +11,7 @@ returns c =
     let counts : core.num ≢ 0 = i.rate.counts in
     let fits : length core.kept ≤ core.num = c.self.invariant.1 in
     record {
+      full = ap (λ (n : ℕ). nat_eq n core.num) c.len.ensures.len ∙ ap (λ (v : RateCoreView). nat_eq (length v.kept) v.num) at;
       limited = λ plain s. ap (λ (n : ℕ). nat_eq n core.num) c.len.ensures.len
           ∙ full core plain (subst (λ (v : RateCoreView). StandsFor v plain) (sym at) s);
       stands = subst (λ (v : RateCoreView). Stands v (λ plain. Unit {0})) at (stands core counts fits);

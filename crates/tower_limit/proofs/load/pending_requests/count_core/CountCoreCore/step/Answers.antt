@@ -9,11 +9,11 @@ use Rattle.tower_limit.proofs.load.pending_requests.count_core.CountCoreCore.ste
 some_holders : (core : CountCore) → (holders : List Holder) × StandsFor core holders
 some_holders core = (replicate core.count Holder.holder, length-replicate core.count Holder.holder)
 
-pub returns-in-Take : goal.returns-in-Take
-returns-in-Take c = rw c.in-Take.is (some_holders c.args.self.now, c.take.ensures)
+pub returns-in-Take-clause-steps : goal.returns-in-Take-clause-steps
+returns-in-Take-clause-steps c = rw c.in-Take.is (some_holders c.args.self.now, c.take.ensures)
 
-pub returns-in-Give : goal.returns-in-Give
-returns-in-Give c = rw c.in-Give.is (some_holders c.args.self.now, c.give.ensures)
+pub returns-in-Give-clause-steps : goal.returns-in-Give-clause-steps
+returns-in-Give-clause-steps c = rw c.in-Give.is (some_holders c.args.self.now, c.give.ensures)
 
-pub returns-in-Load : goal.returns-in-Load
-returns-in-Load c = rw c.in-Load.is (some_holders c.args.self.now, λ plain stands. (plain, (sym stands, refl), stands))
+pub returns-in-Load-clause-steps : goal.returns-in-Load-clause-steps
+returns-in-Load-clause-steps c = rw c.in-Load.is (some_holders c.args.self.now, λ plain stands. (plain, (sym stands, refl), stands))

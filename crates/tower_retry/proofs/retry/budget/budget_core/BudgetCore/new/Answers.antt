@@ -32,7 +32,7 @@ returns-clause-opens c =
       c.args.moment,
       c.requires,
       record {
-        terms = sym c.terms-terms.ensures;
+        terms = sym c.terms-terms.ensures.terms;
         made = refl;
         generation = refl;
         present = λ small. refl;

@@ -1,6 +1,6 @@
-use Rattle.std.proofs.Common.{rules, arith}
+use Rattle.std.proofs.Common.{inl, inr, rules, arith}
 use Rattle.tower_base.specs.PassesLemmas.{goes_more, goes_start, passes_answer, passes_tired}
-use Rattle.tower_ware.specs.CallAll.{Pass}
+use Rattle.tower_ware.specs.CallAll.{Pass, view_of}
 use Rattle.tower_ware.proofs.util.call_all.caller.Caller+Svc+S+Q+S+Item.passes.Goals as goal
 
 pub loop-pass-init : goal.loop-pass-init
@@ -10,6 +10,15 @@ pub returns-in-Some-clause-flowed : goal.returns-in-Some-clause-flowed
 returns-in-Some-clause-flowed g c = record {
   passes = passes_answer _ c.loop-pass._pass _ _ _ _ _ c.loop-pass.invariant.went (omega arith) (rw c.in-Some.is at c.pass.ensures.pass);
 }
+
+pub returns-in-Some-clause-woken : goal.returns-in-Some-clause-woken
+returns-in-Some-clause-woken g c = inl (record {
+  count = c.loop-pass._pass;
+  last = view_of c.loop-pass.self;
+  went = c.loop-pass.invariant.went;
+  below = omega arith;
+  ends = rw c.in-Some.is at c.pass.ensures.pass;
+})
 
 pub loop-pass-preserved : goal.loop-pass-preserved
 loop-pass-preserved g c = record {
@@ -23,5 +32,8 @@ loop-pass-preserved g c = record {
 
 pub returns-clause-flowed : goal.returns-clause-flowed
 returns-clause-flowed g c = record {
-  passes = passes_tired _ c.loop-pass._pass _ _ _ _ c.loop-pass.invariant.went (omega arith) c.yield_now.ensures.pending;
+  passes = passes_tired _ c.loop-pass._pass _ _ _ _ c.loop-pass.invariant.went (omega arith) (search rules);
 }
+
+pub returns-clause-woken : goal.returns-clause-woken
+returns-clause-woken g c = inr (search rules)

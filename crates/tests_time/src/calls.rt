@@ -1,0 +1,200 @@
+//! One response at a time.
+
+use crate::flight::{Board, Flight, Late};
+use futures::executor::block_on;
+use futures::future::Future;
+use futures::task::{Context, Doorbell, Poll, Solo};
+use std::alloc::AllocGlobal;
+use std::cell::Cell;
+use std::io;
+use std::random::RandomSource;
+use std::rt::Clock as ReadsClock;
+use std::sync::Wait;
+use std::test::Fail;
+use std::thread::Threads;
+use tower_base::service::{Clock, Service};
+use tower_limit::limit::rate::{Rate, RateLimit};
+use tower_time::{ClockLoop, Timers};
+
+/// The responses answer after 20 ms, far below their limit, in nanoseconds.
+const WAIT: u64 = 20_000_000;
+
+const LIMIT: u64 = 100_000_000_000;
+
+// One response: whether it answered, and how many were polled more than three times.
+fn one_call<R, C>(rt: &R, clock: C, limit: u64) -> io::Result<(u64, u64)>
+where
+    R: Wait + RandomSource + AllocGlobal,
+    C: Clock,
+{
+    let board = Board::new();
+    block_on(rt, Flight::new(&clock, &board, WAIT, limit))?;
+    Ok(board.told())
+}
+
+// Polls a response once, and drops it. Returns whether it was pending, and how many timers there were then.
+fn dropped<R, K>(rt: &R, timers: &Timers<K>) -> io::Result<(bool, usize)>
+where
+    R: RandomSource + AllocGlobal,
+    K: ReadsClock + Copy,
+{
+    let board = Board::new();
+    let solo = Solo::new(rt, Doorbell::spinning())?;
+    let mut flight = Flight::new(&timers.clock(), &board, LIMIT, LIMIT);
+    let mut cx = solo.begin();
+    let polled = flight.poll(&mut cx);
+    cx.cancel();
+    Ok((polled == Poll::Pending, timers.len()))
+}
+
+#[test]
+fn dropped_response_leaves_no_timer(rt: HostRuntime) -> Result<(), Fail> {
+    let timers = Timers::new(rt, rt.alloc())?;
+    let found = timers.beside(&rt, || dropped(&rt, &timers))?;
+    // That of the response, and that of its timeout.
+    assert_eq!(rt; found, (true, 2));
+    assert_eq!(rt; timers.len(), 0);
+    Ok(())
+}
+
+// 2^64 - 1 nanoseconds from a moment that isn't zero.
+#[test]
+fn limit_past_the_last_moment(rt: HostRuntime) -> Result<(), Fail> {
+    assert_eq!(rt; call_beside(rt, u64::MAX)?, (1, 0));
+    Ok(())
+}
+
+// Leaves the task at a deadline that is far past the last tick, 2^64 microseconds. Returns whether it is to be polled again at once,
+// and the clock, whose drop would remove the timer.
+fn left_for_ever<C: Clock>(solo: &Solo, mut clock: C) -> (bool, C) {
+    let mut cx = solo.begin();
+    clock.wake_at(u128::MAX, &mut cx);
+    cx.park();
+    (is_woken(solo), clock)
+}
+
+fn is_woken(solo: &Solo) -> bool {
+    match solo.sleep() {
+        Some(asleep) => {
+            asleep.end();
+            false
+        }
+        None => true,
+    }
+}
+
+#[test]
+fn deadline_past_the_last_tick_lasts_until_the_end(rt: HostRuntime) -> Result<(), Fail> {
+    let timers = Timers::new(rt, rt.alloc())?;
+    let solo = Solo::new(&rt, Doorbell::spinning())?;
+    let (woken_at_once, _clock) = timers.beside(&rt, || left_for_ever(&solo, timers.clock()));
+    assert_eq!(rt; (woken_at_once, is_woken(&solo)), (false, true));
+    Ok(())
+}
+
+// Where no thread fires the timers, and outside its loop, a clock's task is polled all the while.
+#[test]
+fn busy_without_the_thread_or_the_loop(rt: HostRuntime) -> Result<(), Fail> {
+    let timers = Timers::new(rt, rt.alloc())?;
+    assert_eq!(rt; one_call(&rt, timers.clock(), LIMIT)?, (1, 1));
+    timers.beside(&rt, || ());
+    assert_eq!(rt; one_call(&rt, timers.clock(), LIMIT)?, (1, 1));
+    let tasks = ClockLoop::new(rt, &rt)?;
+    assert_eq!(rt; one_call(&rt, tasks.clock(), LIMIT)?, (1, 1));
+    Ok(())
+}
+
+// What a call under timers told, or an error if the timers or the executor got no memory.
+fn call_beside<R>(rt: R, limit: u64) -> io::Result<(u64, u64)>
+where
+    R: Wait + RandomSource + AllocGlobal + Threads + ReadsClock + Copy + Sync,
+{
+    let timers = Timers::new(rt, rt.alloc())?;
+    timers.beside(&rt, || one_call(&rt, timers.clock(), limit))
+}
+
+#[test]
+fn refused_wait_loses_nothing(rt: HostRuntime) -> Result<(), Fail> {
+    if let Ok((answered, _often)) = call_beside(rt, LIMIT) {
+        assert_eq!(rt; answered, 1);
+    }
+    Ok(())
+}
+
+#[test]
+fn ample_wait(rt: HostRuntime) -> Result<(), Fail> {
+    assert_eq!(rt; call_beside(rt, LIMIT)?, (1, 0));
+    Ok(())
+}
+
+// The readiness of a service, whose polls are counted.
+#[derive(Drop)]
+struct Asked<'a, S> {
+    service: S,
+    polls: &'a Cell<u64>,
+}
+
+impl<S: Service<u64>> Future for Asked<'_, S> {
+    type Output = Result<(), S::Error>;
+
+    ghost can_poll = { λ a. S.sound a.service };
+
+    fn poll(&mut self, cx: &mut Context<'_>) -> Poll<Result<(), S::Error>> {
+        self.polls.set(self.polls.get().saturating_add(1));
+        self.service.poll_ready(cx)
+    }
+}
+
+// Waits until the service is ready. Returns how often it was polled, or none if it failed.
+fn polls_of<R, S>(rt: &R, service: S) -> io::Result<Option<u64>>
+where
+    R: Wait + RandomSource + AllocGlobal,
+    S: Service<u64>,
+    requires { S.sound service }
+{
+    let polls = Cell::new(0u64);
+    let asked = Asked {
+        service,
+        polls: &polls,
+    };
+    let is_ready = block_on(rt, asked)?.is_ok();
+    Ok(is_ready.then_some(polls.get()))
+}
+
+// Makes a call, and then waits for the next one.
+fn second_call<R, S>(rt: &R, mut service: S) -> io::Result<Option<u64>>
+where
+    R: Wait + RandomSource + AllocGlobal,
+    S: Service<u64>,
+    requires { S.sound service }
+{
+    let solo = Solo::new(rt, Doorbell::spinning())?;
+    let mut cx = solo.begin();
+    let answer = service.poll_ready(&mut cx);
+    cx.cancel();
+    let Poll::Ready(Ok(())) = answer else {
+        return Ok(None);
+    };
+    drop(service.call(0));
+    polls_of(rt, service)
+}
+
+// How often a rate of one call in 20 ms is polled before its second call.
+fn limited<R, C>(rt: &R, clock: C) -> io::Result<Option<u64>>
+where
+    R: Wait + RandomSource + AllocGlobal,
+    C: Clock,
+{
+    let late = Late::new(clock.share());
+    let limit = RateLimit::new(rt.alloc(), late, Rate::new(1, WAIT), clock)?;
+    second_call(rt, limit)
+}
+
+// Once when it is asked, and once at the deadline, or a little before it.
+#[test]
+fn rate_limit_is_polled_three_times_at_most(rt: HostRuntime) -> Result<(), Fail> {
+    let timers = Timers::new(rt, rt.alloc())?;
+    let polls = timers.beside(&rt, || limited(&rt, timers.clock()))?;
+    assert!(rt; matches!(polls, Some(2..=3)));
+    Ok(())
+}

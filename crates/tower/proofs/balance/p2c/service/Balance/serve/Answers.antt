@@ -1,9 +1,0 @@
-use Rattle.std.proofs.Common.{Ok, Err, refl}
-use Rattle.tower.specs.Balance.{view_of}
-use Rattle.tower.proofs.balance.p2c.service.Balance.serve.Goals as goal
-
-pub returns-in-Err-clause-served : goal.returns-in-Err-clause-served
-returns-in-Err-clause-served g c = (Err c.in-Err.error, record (view_of c.args.self.now) { services = c.promote.new.services.lists }, (c.in-Err.ensures.promoted, refl), (refl, refl))
-
-pub returns-in-Ok-clause-served : goal.returns-in-Ok-clause-served
-returns-in-Ok-clause-served g c = (Ok c.in-Ok.field-0, record (view_of c.args.self.now) { services = c.promote.new.services.lists }, (c.in-Ok.ensures.promoted, refl), c.settle.ensures.chosen)

@@ -1,0 +1,41 @@
+use Rattle.std.proofs.Common.{◌+◌, ◌-◌, refl, arith}
+use Rattle.tower_buffer.specs.MessageSteps.{queued}
+use Rattle.tower_limit.proofs.LineMoves.{admits, admits_fits, returned, stands_as}
+use Rattle.tower_latch.proofs.WaitQueues.{admits_size}
+use Rattle.tower_buffer.proofs.MailOnes.{named_goes}
+use Rattle.tower_buffer.proofs.buffer.mailbox.Mailbox.take_first.Goals as goal
+
+pub invariant_of-self : goal.invariant_of-self
+invariant_of-self g c =
+    let old = c.args.self.now in
+    let less = c.open-request.ensures.queued in
+    let w = admits_fits old.bound (old.reserved + queued c.open-request.new.self) old.queue c.admit.new.self (record { fits = omega (arith, old.fits, less); full = λ waits. omega (arith, old.full waits, less) }) c.admit.ensures.follows in
+    let same = admits_size old.queue c.admit.new.self c.admit.ensures.follows in
+    record {
+      limit = old.limit;
+      fits = w.fits;
+      full = w.full;
+      room = omega (arith, old.room, same, c.open-request.ensures.room.0, c.open-request.ensures.room.1);
+    }
+
+pub returns-clause-takes : goal.returns-clause-takes
+returns-clause-takes g c = (
+  _,
+  refl,
+  λ messages line h s.
+      let old = c.args.self.now in
+      let less = c.open-request.ensures.queued in
+      let k = c.open-request.ensures.follows messages h in
+      let r = returned old.bound (old.reserved + queued old.messages) old.queue line s (omega (arith, less)) in (
+        k.0,
+        r.0,
+        (k.1.0, k.1.1, k.1.2, k.1.3, k.1.4, r.1, rw (k.1.5, c.open-request.ensures.stored) refl),
+        k.2,
+        admits old.bound (old.reserved + queued c.open-request.new.self) old.queue r.0
+            (stands_as old.bound (old.reserved + queued old.messages - 1) (old.reserved + queued c.open-request.new.self) old.queue r.0 (omega (arith, less)) r.2)
+            c.admit.new.self c.admit.ensures.follows,
+      ),
+)
+
+pub returns-clause-one : goal.returns-clause-one
+returns-clause-one g c = named_goes c.admit.new.self c.admit.result c.named.result c.named.ensures.one c.admit.ensures.one

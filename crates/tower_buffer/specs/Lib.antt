@@ -1,0 +1,15 @@
+pub mod Buffer
+pub mod BufferReady
+pub mod Mail
+pub mod MailHistory
+pub mod MailLaws
+pub mod MailTerms
+pub mod Mailbox
+pub mod MailKeys
+pub mod MailNamed
+pub mod MailWakes
+pub mod Making
+pub mod MessageSteps
+pub mod Messages
+pub mod Worker
+pub mod WorkerOrder

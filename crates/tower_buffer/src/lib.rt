@@ -1,0 +1,4 @@
+//! Buffers: services that are called by a worker of their own.
+#![tactic(auto)]
+
+pub mod buffer;

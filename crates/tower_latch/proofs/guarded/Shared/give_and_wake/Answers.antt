@@ -1,0 +1,24 @@
+use Rattle.std.proofs.Common.{◌≡◌, ◌∙◌}
+use Rattle.tower_latch.proofs.CoreTableMoves.{has_slot, held_before, may_free, after_step}
+use Rattle.tower_latch.proofs.guarded.Shared.give_and_wake.Goals as goal
+
+pub slot_mut-requires : goal.slot_mut-requires
+slot_mut-requires g c =
+    let h = c.requires.core in
+    (c.requires.its, (h.0, has_slot (λ k. g.C.Core.terms k.core ≡ c.args.self.now.table.shared.key) (λ k. g.C.Core.out k.core) _ _ h.1))
+
+pub free-token-requires-clause-core : goal.free-token-requires-clause-core
+free-token-requires-clause-core g c =
+    may_free (λ k. g.C.Core.terms k.core ≡ c.args.self.now.table.shared.key) (λ k. g.C.Core.out k.core) c.args.seat.me c.slot_mut.result.now c.step-reply.new.self _ _ c.requires.core c.slot_mut.ensures.value (λ it. c.step-reply.ensures.counted.0 ∙ it) c.step-reply.ensures.counted.1 (c.requires.paid c.step-reply.result)
+
+pub returns-clause-places : goal.returns-clause-places
+returns-clause-places g c =
+    after_step (λ k. g.C.Core.terms k.core ≡ c.args.self.now.table.shared.key) (λ k. g.C.Core.out k.core) c.args.seat.me c.slot_mut.result.now c.step-reply.new.self _ _ _ c.requires.core c.slot_mut.ensures.value c.step-reply.ensures.counted.1 (c.requires.paid c.step-reply.result) c.free-token.ensures.left
+
+pub returns-clause-held : goal.returns-clause-held
+returns-clause-held g c = (
+  c.slot_mut.result.now.core,
+  c.step-reply.new.self.core,
+  c.step-reply.ensures.machine.steps,
+  held_before (λ k. g.C.Core.terms k.core ≡ c.args.self.now.table.shared.key) (λ k. g.C.Core.out k.core) c.args.seat.me c.slot_mut.result.now c.step-reply.new.self _ c.requires.core c.slot_mut.ensures.value c.free-token.ensures.left,
+)

@@ -1,0 +1,358 @@
+-- A `Hedge` makes at most two calls.
+use Rattle.std.proofs.Common.{◌≡◌, ◌⊎◌, inl, inr, ⊎_elim, ℕ, zero, suc, ◌+◌, Bool, true, false, nat_lt, if◌then◌else◌, Option, Some, None, Result, Ok, Err, refl, ap, sym, ◌∙◌, subst, arith}
+use Rattle.std.specs.declared.clone.Clone.{Ghosts as CloneOf}
+use Rattle.std.specs.declared.convert.Infallible.{Infallible}
+use Rattle.futures.specs.declared.task.Poll.{Poll}
+use Rattle.futures.specs.declared.task.Poll.TheVariants.{Ready, Pending}
+use Rattle.tower_base.specs.Answers.{answered}
+use Rattle.tower_base.specs.Sleep.{SleepView}
+use Rattle.tower_base.specs.declared.service.Clock.{Ghosts as ClockOf}
+use Rattle.tower_base.specs.declared.service.Service.{Ghosts as ServiceOf}
+use Rattle.tower_base.specs.declared.service.Steps.{Ghosts as StepsOf}
+use Rattle.tower_laws.proofs.AsyncFilterLemmas.{checks_first}
+use Rattle.tower_laws.proofs.DelayLemmas.{calls_after_delay}
+use Rattle.tower_laws.proofs.Responses.{Forwards, answered_pending, carries}
+use Rattle.tower_laws.proofs.SelectLemmas.{first_else_second}
+use Rattle.tower_laws.specs.Delay.{CallOnceReady, PastAfter}
+use Rattle.tower_laws.specs.Hedge.{HedgesOnce, SecondSide}
+use Rattle.tower_laws.specs.Responses.{AtOnce, Call, Comes, ReadyAfter, wrapped}
+use Rattle.tower_laws.specs.Select.{SecondPends}
+use Rattle.tower_limit.specs.RotatingHistogram.{RotatingHistogramView}
+use Rattle.tower_limit.specs.declared.hedge.rotating_histogram.steps.HistoStep.{HistoStep}
+use Rattle.tower_limit.specs.declared.hedge.rotating_histogram.steps.HistoReply.{HistoReply}
+use Rattle.tower_retry.specs.Delay.{DelayView, Called as DelayCalled, Stepped as DelayStepped}
+use Rattle.tower_retry.specs.Hedge.{HedgeView, RecordedView, Checked as PolicyChecked, Stepped as HedgeStepped, flat}
+use Rattle.tower_retry.specs.HedgeCheck.{CheckStepped}
+use Rattle.tower_retry.specs.HedgePolicies.{AfterCopy, Copied, Delayed, DelayPolicyView, SelectPolicyView}
+use Rattle.tower_retry.specs.Latency.{ResponseFutureView as LatencyFuture}
+use Rattle.tower_retry.specs.Select.{ResponseFutureView as SelectFuture, SecondCalled, Called as SelectCalled, Stepped as SelectStepped}
+use Rattle.tower_retry.specs.declared.hedge.check.CheckState.{CheckState}
+use Rattle.tower_retry.specs.declared.hedge.check.CheckState.TheVariants.{Passed, Given, Waiting}
+use Rattle.tower_retry.specs.declared.hedge.delay.error.Error.{Error as DelayError}
+use Rattle.tower_retry.specs.declared.hedge.delay.error.Error.TheVariants.{Inner as DelayedError, Memory as NoDelayed}
+use Rattle.tower_retry.specs.declared.hedge.delay.policy.Policy.{Ghosts as DelayPolicyOf}
+use Rattle.tower_retry.specs.declared.hedge.delay.state.State.{State as DelayState}
+use Rattle.tower_retry.specs.declared.hedge.error.Error.{Error}
+use Rattle.tower_retry.specs.declared.hedge.error.Error.TheVariants.{Inner}
+use Rattle.tower_retry.specs.declared.hedge.policy.Policy.{Ghosts as PolicyOf}
+use Rattle.tower_retry.specs.declared.hedge.select.error.Error.{Error as SelectError}
+use Rattle.tower_retry.specs.declared.hedge.select.error.Error.TheVariants.{First, Second}
+use Rattle.tower_retry.specs.declared.hedge.select.policy.Policy.{Ghosts as SelectPolicyOf}
+use Rattle.tower_util.specs.declared.util.oneshot.Oneshot.{Oneshot}
+use Rattle.tower_ware.specs.Filter.{FilterView, Polled as FilterPolled, AsyncFilterCalled, AsyncResponseFutureStepped}
+use Rattle.tower_ware.specs.declared.filter.error.Error.{Error as FilterError}
+use Rattle.tower_ware.specs.declared.filter.error.Error.TheVariants.{Inner as FilteredError}
+use Rattle.tower_ware.specs.declared.filter.predicate.AsyncPredicate.{Ghosts as AsyncPredicateOf}
+use Rattle.tower_ware.specs.declared.filter.state.AsyncState.{AsyncState}
+
+only_after : (polls before after : ℕ) → polls ≡ before + after → before ≡ 0 → polls ≡ after
+only_after polls before after sum none = omega arith
+
+module _ {S P L C Q A E F : Type 0} (N : Type 0) (s : ServiceOf S Q A E F) (stepped : F → Poll (Result A E) → F → Type 0) (p : PolicyOf P Q)
+    (policy_clone : P → P → Type 0) (service_clone : S → S → Type 0) (gave : L → HistoStep → HistoReply → Type 0) (c : ClockOf C) where
+  abbrev pub Recorded : Type 0
+  Recorded = RecordedView S L C
+
+  abbrev pub RecordedFuture : Type 0
+  RecordedFuture = LatencyFuture (RotatingHistogramView L C) F C
+
+  abbrev pub Filtered : Type 0
+  Filtered = FilterView Recorded P
+
+  abbrev pub Fails : Type 0
+  Fails = FilterError E Infallible
+
+  abbrev pub FilteredFuture : Type 0
+  FilteredFuture = AsyncState (CheckState Q N) Recorded RecordedFuture
+
+  abbrev pub DelayedService : Type 0
+  DelayedService = DelayView (DelayPolicyView L C) Filtered C
+
+  abbrev pub DelayedFuture : Type 0
+  DelayedFuture = DelayState (SleepView C) Filtered Q (Oneshot Filtered Q A Fails FilteredFuture)
+
+  -- the services and policies of the nest, and what they are
+  pub record Nest (rec : ServiceOf Recorded Q A E RecordedFuture) (rec_steps : StepsOf RecordedFuture (Result A E)) (rec_clone : CloneOf Recorded)
+      (u : AsyncPredicateOf P Q Q Infallible (CheckState Q N)) (check : StepsOf (CheckState Q N) (Result Q Infallible))
+      (fil : ServiceOf Filtered Q A Fails FilteredFuture) (fil_stepped : FilteredFuture → Poll (Result A Fails) → FilteredFuture → Type 0) (fil_clone : CloneOf Filtered)
+      (named : DelayPolicyOf (DelayPolicyView L C) Q) (copies : SelectPolicyOf (SelectPolicyView P L C) Q) : Type 0 where
+    pub rec_polled : (old : Recorded) (answer : Poll (Result (Unit {0}) E)) (new : Recorded) → rec.polled old answer new → s.polled old.service answer new.service
+    pub rec_called : (old : Recorded) (request : Q) (future : RecordedFuture) (new : Recorded) → rec.called old request future new
+        → s.ready old.service × s.called old.service request future.inner new.service
+    pub rec_stepped : (old : RecordedFuture) (answer : Poll (Result A E)) (new : RecordedFuture) → rec_steps.stepped old answer new → stepped old.inner answer new.inner
+    pub rec_cloned : (old new : Recorded) → rec_clone.is_clone old new → service_clone old.service new.service
+    pub asked : (old : P) (request : Q) (future : CheckState Q N) (new : P) → u.asked old request future new → PolicyChecked p old request future new
+    pub checked : (old : CheckState Q N) (answer : Poll (Result Q Infallible)) (new : CheckState Q N) → check.stepped old answer new → CheckStepped old answer new
+    pub fil_polled : (old : Filtered) (answer : Poll (Result (Unit {0}) Fails)) (new : Filtered) → fil.polled old answer new → FilterPolled rec old answer new
+    pub fil_called : (old : Filtered) (request : Q) (future : FilteredFuture) (new : Filtered) → fil.called old request future new
+        → AsyncFilterCalled rec rec_clone u old request future new
+    pub fil_steps : (old : FilteredFuture) (answer : Poll (Result A Fails)) (new : FilteredFuture) → fil_stepped old answer new
+        → AsyncResponseFutureStepped rec rec_steps check old answer new
+    pub fil_cloned : (old new : Filtered) → fil_clone.is_clone old new → rec_clone.is_clone old.inner new.inner × policy_clone old.predicate new.predicate
+    pub delayed : (old : DelayPolicyView L C) (request : Q) (delay : ℕ) (new : DelayPolicyView L C) → named.delayed old request delay new → Delayed gave c old request delay new
+    pub copied : (old : SelectPolicyView P L C) (request : Q) (copy : Option Q) (new : SelectPolicyView P L C) → copies.cloned old request copy new
+        → Copied p gave c old request copy new
+
+  module _ {rec : ServiceOf Recorded Q A E RecordedFuture} {rec_steps : StepsOf RecordedFuture (Result A E)} {rec_clone : CloneOf Recorded}
+      {u : AsyncPredicateOf P Q Q Infallible (CheckState Q N)} {check : StepsOf (CheckState Q N) (Result Q Infallible)}
+      {fil : ServiceOf Filtered Q A Fails FilteredFuture} {fil_stepped : FilteredFuture → Poll (Result A Fails) → FilteredFuture → Type 0} {fil_clone : CloneOf Filtered}
+      {named : DelayPolicyOf (DelayPolicyView L C) Q} {copies : SelectPolicyOf (SelectPolicyView P L C) Q}
+      (nest : Nest rec rec_steps rec_clone u check fil fil_stepped fil_clone named copies) where
+    -- a recorded call
+
+    recorded : (polls : ℕ) (future : RecordedFuture) (answer : Option (Result A E)) → Comes rec_steps.stepped polls future answer → Comes stepped polls future.inner answer
+    recorded zero future (Some answer) (last, step) = (last.inner, nest.rec_stepped future (Ready answer) last step)
+    recorded zero future None here = tt
+    recorded (suc polls) future answer (next, step, rest) = (next.inner, nest.rec_stepped future Pending next step, recorded polls next answer rest)
+
+    called_inside : (old : Recorded) (request : Q) (future : RecordedFuture) (new : Recorded) (polls : ℕ) (answer : Option (Result A E)) → rec.called old request future new
+        → Comes rec_steps.stepped polls future answer → Call s stepped old.service request polls answer
+    called_inside old request future new polls answer called comes =
+        let inside = nest.rec_called old request future new called in
+        record { ready = inside.0; response = future.inner; left = new.service; called = inside.1; comes = recorded polls future answer comes }
+
+    -- the filter's readiness
+
+    readiness_inside : (inner : Poll (Result (Unit {0}) E)) (answer : Result (Unit {0}) Fails) → Ready answer ≡ answered FilteredError inner
+        → ((inner ≡ Ready (Ok tt)) × (answer ≡ Ok tt)) ⊎ ((error : E) × (inner ≡ Ready (Err error)) × (answer ≡ Err (FilteredError error)))
+    readiness_inside (Ready (Ok x)) answer e = let same : answer ≡ Ok x = cc (e) in inl (refl, same)
+    readiness_inside (Ready (Err error)) answer e = inr (error, refl, cc (e))
+    readiness_inside Pending answer e = absurd (cc (e))
+
+    willing : (polls : ℕ) (old new : Filtered) → ReadyAfter fil polls old (Some (Ok tt)) new
+        → ReadyAfter s polls old.inner.service (Some (Ok tt)) new.inner.service × (new.predicate ≡ old.predicate)
+    willing zero old new polled =
+        let here = nest.fil_polled old (Ready (Ok tt)) new polled in
+        let inside : here.inner ≡ Ready (Ok tt) = ⊎_elim (λ ok. ok.0) (λ fails. absurd (let is = fails.2 in cc)) (readiness_inside here.inner (Ok tt) here.answers) in
+        (nest.rec_polled old.inner (Ready (Ok tt)) new.inner (subst (λ (a : Poll (Result (Unit {0}) E)). rec.polled old.inner a new.inner) inside here.polled), here.same)
+    willing (suc polls) old new (next, polled, rest) =
+        let here = nest.fil_polled old Pending next polled in
+        let more = willing polls next new rest in
+        let inside = answered_pending FilteredError here.inner here.answers in
+        ((next.inner.service, nest.rec_polled old.inner Pending next.inner (subst (λ (a : Poll (Result (Unit {0}) E)). rec.polled old.inner a next.inner) inside here.polled), more.0), more.1 ∙ here.same)
+
+    failed : (polls : ℕ) (old new : Filtered) (error : Fails) → ReadyAfter fil polls old (Some (Err error)) new
+        → (inner : E) × (before after : S) × s.polled before (Ready (Err inner)) after × (error ≡ FilteredError inner)
+    failed zero old new error polled =
+        let here = nest.fil_polled old (Ready (Err error)) new polled in
+        ⊎_elim (λ ok. absurd (let is = ok.1 in cc))
+        (λ fails. let same : error ≡ FilteredError fails.0 = (let is = fails.2 in cc) in (
+          fails.0,
+          old.inner.service,
+          new.inner.service,
+          nest.rec_polled old.inner (Ready (Err fails.0)) new.inner (subst (λ (a : Poll (Result (Unit {0}) E)). rec.polled old.inner a new.inner) fails.1 here.polled),
+          same,
+        ))
+        (readiness_inside here.inner (Err error) here.answers)
+    failed (suc polls) old new error (next, polled, rest) = failed polls next new error rest
+
+    -- the check of a policy that allows the request passes at once
+    passes : (polls : ℕ) (policy : P) (request : Q) (state : CheckState Q N) (left : P) (given : Q) → PolicyChecked p policy request state left
+        → Comes check.stepped polls state (Some (Ok given)) → (polls ≡ 0) × (given ≡ request) × p.allowed policy request true
+    passes zero policy request (Passed kept) left given asked (last, step) =
+        let here = nest.checked (Passed kept) (Ready (Ok given)) last step in
+        let is = here.0 in
+        let allowed = asked.checks.0 in
+        let same = asked.checks.1 in
+        (refl, cc (is, same), subst (λ (b : Bool). p.allowed policy request b) allowed asked.asked)
+    passes (suc polls) policy request (Passed kept) left given asked (next, step, rest) =
+        let here = nest.checked (Passed kept) Pending next step in absurd (let is = here.0 in cc)
+    passes polls policy request Given left given asked comes = absurd asked.checks
+    passes polls policy request (Waiting never) left given asked comes = absurd (waits polls never comes)
+      where
+        waits : (polls : ℕ) (never : N) → Comes check.stepped polls (Waiting never) (Some (Ok given)) → ⊥
+        waits zero never (Passed kept, step) = nest.checked (Waiting never) (Ready (Ok given)) (Passed kept) step
+        waits zero never (Given, step) = nest.checked (Waiting never) (Ready (Ok given)) Given step
+        waits zero never (Waiting left, step) = let is = nest.checked (Waiting never) (Ready (Ok given)) (Waiting left) step in cc
+        waits (suc polls) never (Passed kept, step, rest) = nest.checked (Waiting never) Pending (Passed kept) step
+        waits (suc polls) never (Given, step, rest) = nest.checked (Waiting never) Pending Given step
+        waits (suc polls) never (Waiting left, step, rest) = waits polls left rest
+
+    -- what comes of the second side, in the errors of the delay
+    abbrev Goes : HedgeView S P L C → HedgeView S P L C → Q → ℕ → Option (Result A (DelayError Fails)) → Type 0
+    Goes old new request polls output = SecondSide s stepped p policy_clone service_clone gave c old new request polls (wrapped (λ e. flat (Second e)) output)
+
+    abbrev Steps : FilteredFuture → Poll (Result A Fails) → FilteredFuture → Type 0
+    Steps = AsyncResponseFutureStepped rec rec_steps check
+
+    steps_inside : (polls : ℕ) (future : FilteredFuture) (answer : Option (Result A Fails)) → Comes fil_stepped polls future answer → Comes Steps polls future answer
+    steps_inside zero future (Some answer) (last, step) = (last, nest.fil_steps future (Ready answer) last step)
+    steps_inside zero future None here = tt
+    steps_inside (suc polls) future answer (next, step, rest) = (next, nest.fil_steps future Pending next step, steps_inside polls next answer rest)
+
+    nothing : {B D : Type 0} (outer : D → B) (output : Option (Result A D)) → output ≡ None → wrapped outer output ≡ None
+    nothing outer output e = ap (λ (o : Option (Result A _)). wrapped outer o) e
+
+    module _ (old new : HedgeView S P L C) (request copy : Q) (copied : p.cloned old.policy.policy request (Some copy)) where
+      no_memory : (polls : ℕ) (output : Option (Result A (DelayError Fails))) → AtOnce (Err NoDelayed) polls output → Goes old new request polls output
+      no_memory polls output (at, inl none) = inr (inl (nothing (λ e. flat (Second e)) output none))
+      no_memory polls output (at, inr some) = inr (inr ((copy, copied), inl (ap (λ (o : Option (Result A (DelayError Fails))). wrapped (λ e. flat (Second e)) o) some)))
+
+      -- the answers of the filter, as those of the delay
+      abbrev Of : Option (Result A Fails) → Option (Result A (Error E))
+      Of answer = wrapped (λ e. flat (Second e)) (wrapped DelayedError answer)
+
+      of_none : (answer : Option (Result A Fails)) → answer ≡ None → Of answer ≡ None
+      of_none answer e = ap Of e
+
+      of_inner : (answer : Option (Result A E)) → Of (wrapped FilteredError answer) ≡ wrapped Inner answer
+      of_inner (Some (Ok x)) = refl
+      of_inner (Some (Err error)) = refl
+      of_inner None = refl
+
+      as_inner : (answer : Option (Result A Fails)) (inner : Option (Result A E)) → answer ≡ wrapped FilteredError inner → Of answer ≡ wrapped Inner inner
+      as_inner answer inner is = ap Of is ∙ of_inner inner
+
+      abbrev Side : ℕ → Option (Result A Fails) → Type 0
+      Side polls answer = SecondSide s stepped p policy_clone service_clone gave c old new request polls (Of answer)
+
+      filtered : (delay waited before rest polls : ℕ) (share clock : C) (clone ready : Filtered) (answer : Option (Result A Fails)) → Delayed gave c old.b.policy copy delay new.b.policy
+          → c.shared old.b.clock share → c.read share clock → PastAfter c waited clock (c.reading clock + delay) → fil_clone.is_clone old.b.service clone
+          → ReadyAfter fil before clone (Some (Ok tt)) ready → polls ≡ waited + (before + rest) → Call fil fil_stepped ready copy rest answer → Side polls answer
+      filtered delay waited before rest polls share clock clone ready answer named shared read past cloned polled sum call =
+          let law = checks_first rec rec_steps check rec_clone u ready call.left copy call.response rest answer
+          (nest.fil_called ready copy call.response call.left call.called) (steps_inside rest call.response answer call.comes) in
+          ⊎_elim (λ refused. ⊎_elim (λ none. inr (inl (of_none answer none))) (λ some. inr (inr ((copy, copied), inl (ap Of some)))) refused.2.1)
+          (λ goes. ⊎_elim (λ pends. inr (inl (of_none answer pends.1)))
+          (λ ends. ⊎_elim (λ rejected. absurd (elim rejected.0 [ ]))
+          (λ passed.
+          let at = passes passed.0 ready.predicate copy goes.0 call.left.predicate passed.3 (nest.asked ready.predicate copy goes.0 call.left.predicate goes.1) passed.4 in
+          let clones = nest.fil_cloned old.b.service clone cloned in
+          let found = willing before clone ready polled in
+          let inside = called_inside ready.inner passed.3 passed.6.response passed.6.left passed.1 passed.5 passed.6.called passed.6.comes in
+          let same : rest ≡ passed.1 = only_after rest passed.0 passed.1 passed.2 at.0 in
+          inl (
+            passed.5,
+            record {
+              copy = copy;
+              copied = copied;
+              allowed = (clone.predicate, clones.1, subst (λ (v : P). p.allowed v copy true) found.1 at.2);
+              delay = delay;
+              named = named;
+              waited = waited;
+              over = (share, clock, shared, read, past);
+              ready = (
+                clone.inner.service,
+                ready.inner.service,
+                before,
+                rest,
+                nest.rec_cloned old.b.service.inner clone.inner clones.0,
+                found.0,
+                sum,
+                subst (λ (k : ℕ). Call s stepped ready.inner.service copy k passed.5) (sym same)
+                    (subst (λ (q : Q). Call s stepped ready.inner.service q passed.1 passed.5) at.1 inside),
+              );
+            },
+            as_inner answer passed.5 passed.7,
+          ))
+          ends) goes.3)
+          law
+
+      readied : (delay waited after polls : ℕ) (share clock : C) (clone : Filtered) (answer : Option (Result A Fails)) → Delayed gave c old.b.policy copy delay new.b.policy
+          → c.shared old.b.clock share → c.read share clock → PastAfter c waited clock (c.reading clock + delay) → fil_clone.is_clone old.b.service clone
+          → polls ≡ waited + after → CallOnceReady fil fil_stepped clone copy after answer → Side polls answer
+      readied delay waited after polls share clock clone answer named shared read past cloned sum (inl ((last, ready), is)) = inr (inl (of_none answer is))
+      readied delay waited after polls share clock clone answer named shared read past cloned sum (inr (inl (error, last, ready, is))) =
+          let found = failed after clone last error ready in
+          inr (inr ((copy, copied), inr (found.0, found.1, found.2, found.3, ap Of (is ∙ ap (λ (e : Fails). Some (Err e)) found.4))))
+      readied delay waited after polls share clock clone answer named shared read past cloned sum (inr (inr (before, rest, parts, ready, polled, call))) =
+          filtered delay waited before rest polls share clock clone ready answer named shared read past cloned polled (sum ∙ ap (λ (k : ℕ). waited + k) parts) call
+
+      second : (future : DelayedFuture) (polls : ℕ) (output : Option (Result A (DelayError Fails))) → DelayCalled named fil_clone c old.b copy future new.b
+          → Comes (DelayStepped fil fil_stepped c) polls future output → Goes old new request polls output
+      second future polls output called comes =
+          ⊎_elim (λ refused. no_memory polls output refused.1)
+          (λ goes.
+          ⊎_elim (λ waits. inr (inl (nothing (λ e. flat (Second e)) output waits.1)))
+          (λ over. subst (λ (o : Option (Result A (DelayError Fails))). Goes old new request polls o) (sym over.6)
+          (readied goes.0 over.0 over.1 polls goes.4 goes.5 goes.2 over.4 (nest.delayed old.b.policy copy goes.0 new.b.policy goes.1) goes.6 goes.7 over.3 goes.3 over.2 over.5))
+          goes.8)
+          (calls_after_delay fil fil_stepped c named fil_clone old.b new.b copy future polls output called comes)
+
+    copy_is : (points least : ℕ) (made copy : Q) → Some copy ≡ (if nat_lt points least then None else Some made) → made ≡ copy
+    copy_is points least made copy e = by (nat_lt points least) e
+      where
+        by : (b : Bool) → Some copy ≡ (if b then None else Some made) → made ≡ copy
+        by true e = absurd (cc e)
+        by false e = cc (e)
+
+    copied_by : (old : SelectPolicyView P L C) (request copy : Q) (new : SelectPolicyView P L C) → Copied p gave c old request (Some copy) new → p.cloned old.policy request (Some copy)
+    copied_by old request copy new made = by made.copy made.cloned made.kept
+      where
+        by : (given : Option Q) → p.cloned old.policy request given → AfterCopy p gave c given old.min_data_points old.histogram (Some copy) new.histogram → p.cloned old.policy request (Some copy)
+        by (Some given) cloned (points, counted, is) = subst (λ (q : Q). p.cloned old.policy request (Some q)) (copy_is points old.min_data_points given copy is) cloned
+        by None cloned (is, same) = absurd (cc (is))
+
+    module _ (delayed : ServiceOf DelayedService Q A (DelayError Fails) DelayedFuture) (del_steps : StepsOf DelayedFuture (Result A (DelayError Fails)))
+        (del_called : (old : DelayedService) (request : Q) (future : DelayedFuture) (new : DelayedService) → delayed.called old request future new
+        → DelayCalled named fil_clone c old request future new)
+        (del_stepped : (old : DelayedFuture) (answer : Poll (Result A (DelayError Fails))) (new : DelayedFuture) → del_steps.stepped old answer new
+        → DelayStepped fil fil_stepped c old answer new) where
+      abbrev HedgeFuture : Type 0
+      HedgeFuture = SelectFuture RecordedFuture DelayedFuture
+
+      del_inside : (polls : ℕ) (future : DelayedFuture) (answer : Option (Result A (DelayError Fails))) → Comes del_steps.stepped polls future answer
+          → Comes (DelayStepped fil fil_stepped c) polls future answer
+      del_inside zero future (Some answer) (last, step) = (last, del_stepped future (Ready answer) last step)
+      del_inside zero future None here = tt
+      del_inside (suc polls) future answer (next, step, rest) = (next, del_stepped future Pending next step, del_inside polls next answer rest)
+
+      -- what comes of the second side, if there is one
+      side : (old new : HedgeView S P L C) (request : Q) (copy : Option Q) (future : DelayedFuture) (polls : ℕ) (output : Option (Result A (DelayError Fails)))
+          → Copied p gave c old.policy request copy new.policy → SecondCalled copies rec delayed old.b copy (Some future) new.b → Comes del_steps.stepped polls future output
+          → Goes old new request polls output
+      side old new request (Some copy) future polls output made called comes =
+          second old new request copy (copied_by old.policy request copy new.policy made) future polls output (del_called old.b copy future new.b called.1) (del_inside polls future output comes)
+      side old new request None future polls output made none comes = absurd none
+
+      pends : (old new : HedgeView S P L C) (request : Q) (copy : Option Q) (future : Option DelayedFuture) (polls : ℕ) → Copied p gave c old.policy request copy new.policy
+          → SecondCalled copies rec delayed old.b copy future new.b → SecondPends rec_steps del_steps polls future
+          → SecondSide s stepped p policy_clone service_clone gave c old new request polls None
+      pends old new request copy (Some future) polls made called comes = side old new request copy future polls None made called comes
+      pends old new request copy None polls made called comes = inr (inl refl)
+
+      abbrev Outside : HedgeFuture → Poll (Result A (SelectError E (DelayError Fails))) → HedgeFuture → Type 0
+      Outside = SelectStepped rec_steps del_steps
+
+      first_of : (answer : Result A E) → wrapped flat (wrapped First (Some answer)) ≡ wrapped Inner (Some answer)
+      first_of (Ok x) = refl
+      first_of (Err error) = refl
+
+      second_of : (answer : Result A (DelayError Fails)) → wrapped flat (wrapped Second (Some answer)) ≡ wrapped (λ e. flat (Second e)) (Some answer)
+      second_of (Ok x) = refl
+      second_of (Err error) = refl
+
+      module _ (hedge : StepsOf HedgeFuture (Result A (SelectError E (DelayError Fails))))
+          (hedge_stepped : (old : HedgeFuture) (answer : Poll (Result A (SelectError E (DelayError Fails)))) (new : HedgeFuture) → hedge.stepped old answer new → Outside old answer new) where
+        forwards : Forwards Outside (HedgeStepped {A = A} {E = E} hedge) flat (λ (future : HedgeFuture). future)
+        forwards future (Ready output) new step = (step.inner, new, hedge_stepped future step.inner new step.stepped, step.answers, tt)
+        forwards future Pending new step = (step.inner, new, hedge_stepped future step.inner new step.stepped, step.answers, refl)
+
+        pub hedges_once : HedgesOnce s stepped p policy_clone service_clone gave c (SelectCalled copies rec delayed) (HedgeStepped {A = A} {E = E} hedge)
+        hedges_once old new request future polls output called comes =
+            let made = nest.copied old.policy request called.copy new.policy called.cloned in
+            let inside = carries Outside (HedgeStepped {A = A} {E = E} hedge) flat (λ (v : HedgeFuture). v) forwards polls future (Some output) comes in
+            answers old new request future polls output called made inside.0 inside.1 inside.2
+          where
+            answers : (old new : HedgeView S P L C) (request : Q) (future : HedgeFuture) (polls : ℕ) (output : Result A (Error E)) (called : SelectCalled copies rec delayed old request future new)
+                → Copied p gave c old.policy request called.copy new.policy → (answer : Option (Result A (SelectError E (DelayError Fails)))) → Comes Outside polls future answer
+                → Some output ≡ wrapped flat answer
+                → ((first : Result A E) × Call s stepped old.a.service request polls (Some first) × SecondSide s stepped p policy_clone service_clone gave c old new request polls None
+                × (Some output ≡ wrapped Inner (Some first)))
+                ⊎ (Call s stepped old.a.service request (suc polls) None × SecondSide s stepped p policy_clone service_clone gave c old new request polls (Some output))
+            answers old new request future polls output called made None comes is = absurd (cc (is))
+            answers old new request future polls output called made (Some answer) comes is = ⊎_elim
+                (λ one. inl (
+                  one.0,
+                  called_inside old.a request future.a_fut new.a polls (Some one.0) called.called one.1,
+                  pends old new request called.copy future.b_fut polls made called.second_called one.2,
+                  is ∙ (ap (λ (o : Option (Result A (SelectError E (DelayError Fails)))). wrapped flat o) one.3 ∙ first_of one.0),
+                ))
+                (λ two. inr (
+                  called_inside old.a request future.a_fut new.a (suc polls) None called.called two.4,
+                  subst (λ (o : Option (Result A (Error E))). SecondSide s stepped p policy_clone service_clone gave c old new request polls o)
+                      (sym (is ∙ (ap (λ (o : Option (Result A (SelectError E (DelayError Fails)))). wrapped flat o) two.5 ∙ second_of two.2)))
+                      (side old new request called.copy two.0 polls (Some two.2) made
+                      (subst (λ (b : Option DelayedFuture). SecondCalled copies rec delayed old.b called.copy b new.b) two.1 called.second_called) two.3),
+                ))
+                (first_else_second rec_steps del_steps future polls answer comes)

@@ -1,0 +1,50 @@
+-- How many calls a `Retry` makes, over one response.
+use Rattle.std.specs.Prelude.{◌≡◌, ◌⊎◌, ℕ, ◌+◌, List, [], ◌∷◌, length, Some, None, Result, Err}
+use Rattle.std.specs.declared.clone.Clone.{Ghosts as CloneOf}
+use Rattle.futures.specs.declared.task.Poll.{Poll}
+use Rattle.futures.specs.declared.task.Poll.TheVariants.{Ready}
+use Rattle.tower_base.specs.Gives.{MayGive}
+use Rattle.tower_base.specs.ServiceRun.{relations, Makes}
+use Rattle.tower_base.specs.declared.service.Service.{Ghosts as ServiceOf}
+use Rattle.tower_retry.specs.Retry.{Called, ResponseFutureView, RetryView, Stepped}
+use Rattle.tower_retry.specs.RetryAttempts.{Attempt, Attempted, Word, NotKept, NoRetry, RetryAfter}
+use Rattle.tower_retry.specs.declared.retry.error.Error.{Error}
+use Rattle.tower_retry.specs.declared.retry.error.Error.TheVariants.{Inner, Memory}
+use Rattle.tower_retry.specs.declared.retry.policy.Policy.{Ghosts as PolicyOf}
+
+-- how many of the decisions are to retry
+abbrev pub is_retry : {W : Type 0} → Word W → ℕ
+is_retry NotKept = 0
+is_retry NoRetry = 0
+is_retry (RetryAfter wait) = 1
+
+abbrev pub retries : {Q A E W : Type 0} → List (Attempt Q A E W) → ℕ
+retries [] = 0
+retries (attempt ∷ rest) = is_retry attempt.word + retries rest
+
+-- the requests of the attempts, and of those after the first
+abbrev pub asked : {Q A E W : Type 0} → List (Attempt Q A E W) → List Q
+asked [] = []
+asked (attempt ∷ rest) = attempt.request ∷ asked rest
+
+abbrev pub asked_again : {Q A E W : Type 0} → List (Attempt Q A E W) → List Q
+asked_again [] = []
+asked_again (first ∷ rest) = asked rest
+
+module _ {P S Q A E F W : Type 0} (s : ServiceOf S Q A E F) (stepped : F → Poll (Result A E) → F → Type 0)
+    (p : PolicyOf P Q A E W) (waited : W → Poll (Unit {0}) → W → Type 0) where
+  -- There is one attempt more than decisions to retry. Or as many, and the answer is an error of readiness after the last wait.
+  abbrev pub OneMore : List (Attempt Q A E W) → Result A (Error E) → Type 0
+  OneMore attempts output = (length attempts ≡ retries attempts + 1) ⊎ ((length attempts ≡ retries attempts)
+      × ((error : E) × (old new : S) × s.polled old (Ready (Err error)) new × (output ≡ Err (Inner error))))
+
+  -- The answer is that of a list of attempts. The call makes the first, and a run of the clone that the future has makes just the others.
+  abbrev pub CallsPerAttempt : Q → ResponseFutureView P S Q F W → Result A (Error E) → Type 0
+  CallsPerAttempt request (Some first) output = (attempts : List (Attempt Q A E W)) × Attempted s stepped p waited attempts request first output
+      × OneMore attempts output × ((last : S) × Makes (relations s) first.service (asked_again attempts) last)
+  CallsPerAttempt request None output = output ≡ Err Memory
+
+  abbrev pub AnswersCountCalls : CloneOf P → CloneOf S → Type 0
+  AnswersCountCalls policy_clone service_clone = (old : RetryView P S) (request : Q) (future : ResponseFutureView P S Q F W) (new : RetryView P S)
+      (output : Result A (Error E)) → Called s p policy_clone service_clone old request future new
+      → MayGive (Stepped s stepped p waited) future output → CallsPerAttempt request future output

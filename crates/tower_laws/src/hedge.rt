@@ -1,0 +1,22 @@
+//! The law of `Hedge`.
+ghost use Rattle.tower_laws.specs.Hedge.{HedgesOnce};
+
+use tower_base::service::{Clock, Service, Steps};
+use tower_latch::Latch;
+use tower_retry::hedge::rotating_histogram::HistoCore;
+use tower_retry::hedge::{Hedge, Policy};
+
+/// States of each response: it makes at most two calls. The second is of a copy that the policy made and
+/// said may be tried, after the delay that the histogram named, of a clone that is ready, if the first had
+/// no answer before. The answer is that of the side that answers first, and the first side's if both do in
+/// the same poll; an error of the second side's readiness, or `Memory`, counts as its answer.
+pub fn law<Request, S, P, L, C>()
+where
+    Request: Drop,
+    S: Service<Request> + Clone,
+    P: Policy<Request> + Clone,
+    L: Latch<HistoCore>,
+    C: Clock,
+    ensures { HedgesOnce S.Service S.Future.stepped P.Policy P.is_clone S.is_clone L.gave C.Clock
+        ⟦<Hedge<S, P, L, C> as Service<Request>>⟧.called ⟦<<Hedge<S, P, L, C> as Service<Request>>::Future as Steps>⟧.stepped }
+{}

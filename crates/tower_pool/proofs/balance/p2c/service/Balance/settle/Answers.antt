@@ -1,0 +1,34 @@
+use Rattle.std.proofs.Common.{rules}
+use Rattle.tower_pool.specs.Balance.{view_of}
+use Rattle.tower_pool.proofs.BalanceLemmas.{settling_begins, settling_ends, settling_goes, settling_less}
+use Rattle.tower_pool.proofs.balance.p2c.service.Balance.settle.Goals as goal
+
+pub loop-answer-init : goal.loop-answer-init
+loop-answer-init g c = record {
+  settling = settling_begins g.row.X.Denot g.K.PartialEq.eq g.S.Service g.S.Load.loaded g.S.Metric.PartialOrd.partial_cmp g.R.Rng.drew (view_of c.args.self.now);
+  sound = search rules;
+  heard = λ h. h;
+  discover = search rules;
+  over = search rules;
+  kept = search rules;
+}
+
+pub returns-in-Some-clause-chosen : goal.returns-in-Some-clause-chosen
+returns-in-Some-clause-chosen g c =
+    settling_ends g.row.X.Denot g.K.PartialEq.eq g.S.Service g.S.Load.loaded g.S.Metric.PartialOrd.partial_cmp g.R.Rng.drew (view_of c.args.self.now) (view_of c.loop-answer.self) c.in-Some.answer (view_of c.pass.new.self)
+    (rw c.in-Some.is at c.pass.ensures.pass) c.loop-answer.invariant.settling
+
+pub loop-answer-preserved : goal.loop-answer-preserved
+loop-answer-preserved g c = record {
+  settling = settling_goes g.row.X.Denot g.K.PartialEq.eq g.S.Service g.S.Load.loaded g.S.Metric.PartialOrd.partial_cmp g.R.Rng.drew (view_of c.args.self.now) (view_of c.loop-answer.self) (view_of c.pass.new.self)
+      (rw c.in_default.is at c.pass.ensures.pass) c.loop-answer.invariant.settling;
+  sound = search rules;
+  heard = λ h. c.pass.ensures.heard (c.loop-answer.invariant.heard h);
+  discover = search rules;
+  over = search rules;
+  kept = search rules;
+}
+
+pub loop-answer-smaller : goal.loop-answer-smaller
+loop-answer-smaller g c =
+    settling_less g.row.X.Denot g.K.PartialEq.eq g.S.Service g.S.Load.loaded g.S.Metric.PartialOrd.partial_cmp g.R.Rng.drew (view_of c.loop-answer.self) (view_of c.pass.new.self) (rw c.in_default.is at c.pass.ensures.pass)

@@ -1,5 +1,0 @@
-use Rattle.tower_pool.proofs.Orders.{poll_orderly}
-use Rattle.tower_pool.proofs.buffer.worker.WorkerFuture.poll.Goals as goal
-
-pub returns-clause-orderly : goal.returns-clause-orderly
-returns-clause-orderly g c = poll_orderly g.L.Latch.gave g.S.Service _ _ _ c.step.ensures.step

@@ -1,0 +1,3 @@
+pub mod Clocks
+pub mod Firing
+pub mod TimerSource

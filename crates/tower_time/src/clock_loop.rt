@@ -1,0 +1,206 @@
+//! An event loop whose tasks wait for the machine's clock, and that clock.
+ghost use Rattle.std.specs.Prelude.{◌≡◌, ◌⊎◌, true, option_map, IfOk, IsSomeAnd};
+ghost use Rattle.futures.specs.Runs.{AllItems};
+ghost use Rattle.futures.specs.Task.{Covers, IsLent, Keeps};
+ghost use Rattle.futures.specs.Task.EventLoop.Names.{key_source};
+ghost use Rattle.futures.specs.Task.EventLoop.Settled.{WaitsUntil};
+ghost use Rattle.tower_base.specs.SystemClock.{Read};
+ghost use Rattle.tower_time.specs.Clocks.{ClockView, Hears, WakesBy};
+
+use crate::ticks::{nanos_until, tick_at, tick_from};
+use futures::executor::{EventLoop, Events, Rest, TaskSet};
+use futures::future::Future;
+use futures::stream::Stream;
+use futures::task::{Context, Doorbell, Key, Keys, Poll};
+use std::alloc::AllocGlobal;
+use std::marker::Model;
+use std::random::RandomSource;
+use std::sync::Wait;
+use std::time::Duration;
+use std::{io, rt, thread};
+use tower_base::service::{Clock, Monotonic, SystemClock};
+
+// The longest sleep in nanoseconds. A wake by another thread doesn't end it, and may be seen so late.
+const LONGEST: u64 = 1_000_000;
+
+/// An event loop on the calling thread. A task that waits for one of its clocks is polled again once its
+/// deadline has come, and meanwhile the thread sleeps.
+///
+/// It needs no second thread. In return, a wake by another thread may be seen 1 millisecond late, since the
+/// loop sleeps so long at most.
+#[derive(Drop)]
+pub struct ClockLoop<R> {
+    event_loop: EventLoop,
+    naps: Naps<R>,
+}
+
+// How the loop sleeps.
+#[derive(Drop)]
+struct Naps<R> {
+    rt: R,
+    clock: SystemClock<R>,
+}
+
+impl<R: rt::Clock + Copy> ClockLoop<R> {
+    /// Creates a loop. Reads the machine's clock once, and returns an
+    /// error if that fails, or if there is no memory or no random number.
+    pub fn new<A: RandomSource + AllocGlobal>(rt: R, alloc: &A) -> io::Result<ClockLoop<R>> {
+        Ok(ClockLoop {
+            event_loop: EventLoop::new(alloc, Doorbell::spinning())?,
+            naps: Naps {
+                rt,
+                clock: SystemClock::new(rt)?,
+            },
+        })
+    }
+
+    /// Returns a clock of the loop. It doesn't allocate, and doesn't read the clock.
+    pub fn clock(&self) -> LoopClock<R> {
+        LoopClock {
+            clock: self.naps.clock.share(),
+            keys: self.event_loop.keys().clone().ok(),
+            key: None,
+        }
+    }
+
+    /// Polls the future until it is ready, and returns its output. Returns an error if there is no memory.
+    pub fn block_on<W, B>(&mut self, rt: &W, future: B) -> io::Result<B::Output>
+    where
+        W: Wait + AllocGlobal,
+        B: Future,
+        requires { B.can_poll future }
+        ensures { IfOk result (B.gives future) }
+    {
+        self.event_loop.block_on(rt, &mut self.naps, future)
+    }
+
+    /// As `block_on`, and polls what is spawned into the set too, until no task is left. No other thread
+    /// may work at the set meanwhile.
+    pub fn block_on_with<W, F, B>(
+        &mut self,
+        rt: &W,
+        tasks: &TaskSet<F>,
+        future: B,
+    ) -> io::Result<B::Output>
+    where
+        W: Wait + AllocGlobal,
+        F: Future<Output = ()>,
+        B: Future<Output: Drop>,
+        requires { B.can_poll future }
+        ensures { IfOk result (B.gives future) }
+    {
+        self.event_loop
+            .block_on_with(rt, &mut self.naps, tasks, future, None)
+    }
+
+    /// Polls each future that the stream yields as a task, until no task is left. Returns an error if
+    /// there is no memory.
+    pub fn run_all<W, S, F>(&mut self, rt: &W, futures: S) -> io::Result<()>
+    where
+        W: Wait + AllocGlobal,
+        S: Stream<Item = F>,
+        F: Future<Output = ()>,
+        requires stream { S.can_poll futures }
+        requires items { AllItems (S.yields futures) F.can_poll }
+    {
+        self.event_loop.run_all(rt, &mut self.naps, futures, None)
+    }
+}
+
+impl<W: Wait, R: rt::Clock + Copy> Events<W> for Naps<R> {
+    fn look(&mut self, _rt: &W) -> io::Result<()> {
+        Ok(())
+    }
+
+    fn wait(&mut self, _rt: &W, rest: &Rest<'_>) -> io::Result<()> {
+        let left = match rest.until() {
+            Some(tick) => nanos_until(tick, self.clock.now(), LONGEST),
+            None => LONGEST,
+        };
+        thread::sleep(&self.rt, Duration::from_nanos(left));
+        Ok(())
+    }
+
+    fn dispatch(&mut self, _rt: &W, _cx: &mut Context<'_>) -> io::Result<u64> {
+        Ok(tick_at(self.clock.now()))
+    }
+}
+
+/// The machine's monotonic clock, as `SystemClock`, whose tasks wait in a `ClockLoop`. A reading is the
+/// number of nanoseconds since the loop was created.
+///
+/// A task of the loop is polled again once the machine's clock has reached the first whole microsecond
+/// that isn't before its deadline. Under another executor, or if there is no memory, a task that waits for
+/// it is polled again at once. A task that is nested in a task of the loop, as in a `FuturesUnordered`, waits
+/// in the loop too.
+#[derive(Drop)]
+pub struct LoopClock<R> {
+    clock: SystemClock<R>,
+    keys: Option<Keys>,
+    key: Option<Key>,
+}
+
+impl<R> Model for LoopClock<R> {
+    ghost Value = { ClockView R };
+
+    ghost view = { λ c. record { clock = c.clock; source = option_map key_source c.key } };
+}
+
+impl<R> LoopClock<R> {
+    // The task waits at the clock's source until the tick, or asks to be polled again.
+    fn wait_until(&mut self, when: u64, cx: &mut Context<'_>)
+        ensures registered { Covers cx.new (Hears self.new) }
+        ensures timed { (cx.new.is_woken ≡ true) ⊎ (IsLent cx.new ⊎ IsSomeAnd self.new.source (λ source. WaitsUntil cx.new source when)) }
+        ensures kept { Keeps cx.old cx.new }
+        ensures same { self.new.clock ≡ self.old.clock }
+    {
+        if self.key.is_none()
+            && let Some(keys) = &self.keys
+        {
+            self.key = keys.issue().ok();
+        }
+        let Some(key) = &self.key else {
+            let _pending: Poll<()> = cx.yield_now();
+            return;
+        };
+        if let Poll::Ready(_) = cx.poll_at(key, when) {
+            let _pending: Poll<()> = cx.yield_now();
+        }
+    }
+}
+
+impl<R: rt::Clock + Copy> Clock for LoopClock<R> {
+    ghost reading = { λ c. c.clock.last };
+
+    ghost read = { λ old new. Read old.clock new.clock };
+
+    ghost shared = { λ c other. other.clock ≡ c.clock };
+
+    ghost hears = { Hears };
+
+    ghost wakes_by = { WakesBy };
+
+    fn now(&mut self) -> u64 {
+        self.clock.now()
+    }
+
+    fn share(&self) -> LoopClock<R> {
+        let keys = match &self.keys {
+            Some(keys) => keys.clone().ok(),
+            None => None,
+        };
+        LoopClock {
+            clock: self.clock.share(),
+            keys,
+            key: None,
+        }
+    }
+
+    fn wake_at(&mut self, deadline: u128, cx: &mut Context<'_>) {
+        self.wait_until(tick_from(deadline), cx);
+    }
+}
+
+impl<R: rt::Clock + Copy> Monotonic for LoopClock<R> {
+    ghost forward = { λ old new read. read.0 };
+}

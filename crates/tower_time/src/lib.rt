@@ -1,0 +1,10 @@
+//! Clocks that have a waiting task polled again once its deadline has come, and not before: `Timers` for
+//! any executor, with a thread of its own, and `ClockLoop` for tasks of one thread.
+#![tactic(auto)]
+
+pub mod clock_loop;
+mod ticks;
+pub mod timers;
+
+pub use clock_loop::{ClockLoop, LoopClock};
+pub use timers::{TimerClock, Timers};

@@ -1,0 +1,264 @@
+#!/usr/bin/env python3
+"""scripts/refused_scripts.py CRATE..: plays each file of scripts of the crates' data/ but the large ones once for each allocation, which is refused (fail_alloc.c),
+with the proved program that `rt ci` or `rt run` left in out/, or with those in the folder PROGRAMS.
+
+Each time the program ends for want of its own memory, or one line of one script meets the refusal. (The parts are `quiet`, so a wake of the task's own
+shows.) The lines before it are as in a play with ample memory, and from there on each answer, note and drop is the one of a play that is known: of the plain machine in Python that the row has in
+`hostile/`, which is refused room at a place that it names (`MACHINES`), or of the same program on a script that leads to the same state without a
+refusal (`alike`). New copies are compared by their order, since what the refusal made and dropped counts too. It stops after 40 allocations in
+a row that change nothing: the last were past the end. It prints how often each was met, and how many refused plays went on to their last line."""
+import collections
+import concurrent.futures
+import os
+import re
+import subprocess
+import sys
+import tempfile
+
+HERE = os.path.dirname(os.path.realpath(__file__))
+sys.path.insert(0, f"{HERE}/hostile")
+sys.dont_write_bytecode = True
+import replay  # noqa: E402
+
+# So many allocations in a row that change nothing are past the end.
+QUIET = 40
+# Scripts of many thousand allocations, which aren't played so often.
+LARGE = "many.script"
+REFUSED = "out of memory"
+Line = collections.namedtuple("Line", "asked answer notes")
+
+
+def line_of(text):
+    rest, _, notes = (text + " ").partition(" | ")
+    asked, _, answer = rest.partition(" => ")
+    return Line(asked.strip(), answer.strip(), notes.strip())
+
+
+def scripts_of(text):
+    """The lines of each script, without comments."""
+    texts = ([it for it in part.splitlines() if not it.startswith("#")] for part in re.split(r"\n(?:[ \t]*\n)+", text))
+    return [list(map(line_of, lines)) for lines in texts if lines]
+
+
+def notes_of(text):
+    """The notes one by one."""
+    for note in filter(None, (it.strip() for it in text.split(";"))):
+        names, is_drop, _ = note.partition(" dropped")
+        for name in names.split(", ") if is_drop else [note]:
+            name, _, count = name.partition(" x") if re.search(r" x\d+$", name) else (name, "", "1")
+            yield from [name + " dropped" * bool(is_drop)] * int(count)
+
+
+class Program:
+    """A program that plays scripts, and what it says of them."""
+
+    def __init__(self, path, room):
+        self.path, self.room = path, room
+
+    def write(self, name, scripts):
+        """A file of scripts that asks only."""
+        path = f"{self.room}/{name}"
+        with open(path, "w", encoding="utf-8") as out:
+            out.write("\n\n".join("\n".join(it.asked for it in script) for script in scripts) + "\n")
+        return path
+
+    def run(self, path, **fails):
+        return subprocess.run([self.path, "--write", path], env={**os.environ, **fails}, capture_output=True, text=True, timeout=60)
+
+    def play(self, scripts):
+        """What comes with ample memory."""
+        ran = self.run(self.write("alike.script", scripts))
+        assert ran.returncode == 0, ran.stderr
+        return scripts_of(ran.stdout)
+
+
+def drops(notes):
+    return [it[: -len(" dropped")] for it in notes if it.endswith(" dropped")]
+
+
+def made_by(notes):
+    """What these notes made: copies, shares and responses."""
+    for note in notes:
+        if match := re.fullmatch(r"\S+ cloned (\S+)", note):
+            yield match[1]
+        elif match := re.fullmatch(r"(\S+) shared", note):
+            yield match[1]
+        elif match := re.fullmatch(r"(\S+) called (\d+)", note):
+            yield f"{match[1]}({match[2]})"
+
+
+def is_cut(expected, came):
+    """Whether these notes are the first of the expected ones, and then drops of what they made."""
+    expected, came = list(notes_of(expected)), list(notes_of(came))
+    same = next((at for at, (one, other) in enumerate(zip(expected, came)) if one != other), min(len(expected), len(came)))
+    left = collections.Counter(drops(came[same:]))
+    return len(drops(came[same:])) == len(came) - same and not left - collections.Counter(made_by(came[:same]))
+
+
+def made_later(first):
+    """What a program makes only once the first parts are there: a second service, and the service of a policy with a budget."""
+    words = first.split(";")[0].split()
+    return collections.Counter("t" * bool({"two", "get_mut"} & set(words)) + "s" * (words[0] == "retry_budget"))
+
+
+def is_over(base, came):
+    """Whether the first line made nothing: if anything was made by then, it was dropped, and so was all that was given; and the script is over."""
+    notes = list(notes_of(came[0].notes))
+    whole = [note for line in base for note in notes_of(line.notes)]
+    later = made_later(base[0].asked)
+    given = collections.Counter(drops(whole)) - collections.Counter(made_by(whole)) - later
+    is_dropped = collections.Counter(drops(notes)) - later == collections.Counter(made_by(notes)) + given
+    rest = [line.asked for line in came[1:]]
+    return (is_dropped or not notes) and rest[-1] == "end" and all("the script is over" in it for it in rest[:-1])
+
+
+def ordered(before, lines):
+    """The lines, with each copy that isn't named before as the first of its letter, the second, and so on."""
+    known, names, counts = set(), {}, collections.Counter()
+    copy = re.compile(r"\b([a-z])(\d+)\b")
+    for line in before:
+        known.update(match[0] for match in copy.finditer(line.notes))
+
+    def name(match):
+        if match[0] in known:
+            return match[0]
+        if match[0] not in names:
+            counts[match[1]] += 1
+            names[match[0]] = f"{match[1]}#{counts[match[1]]}"
+        return names[match[0]]
+
+    return [line._replace(notes=copy.sub(name, line.notes)) for line in lines]
+
+
+def alike(script, place):
+    """Scripts that lead to the state that the refusal left: the name of each, its lines before that one, those in place of it, and whether the last of
+    these is compared too."""
+    yield "as if it hadn't been asked", script[:place], [], False
+    if script[0].asked.startswith("semaphore") and script[place].asked.startswith("poll "):
+        yield "as if a share alone had been asked for", script[:place], [script[place]._replace(asked=script[place].asked.replace("poll", "share"))], False
+    if script[0].asked.startswith("spawn_ready"):
+        yield "an executor without room", [*script[:place], Line("room 0", "", "")], [script[place], Line("room 255", "", "")], True
+
+
+def by_program(program, base, came, place):
+    """The name of a script without a refusal that goes on in the same way."""
+    if place == 0:
+        return "the first line makes nothing" if is_over(base, came) else None
+    plays = list(alike(base, place))
+    played = program.play([[*before, *instead, *base[place + 1 :]] for _, before, instead, _ in plays])
+    for (name, before, instead, is_compared), play in zip(plays, played):
+        start = len(before)
+        here = play[start] == came[place] if is_compared else REFUSED in came[place].answer and is_cut(base[place].notes, came[place].notes)
+        rest = play[start + len(instead) :]
+        if here and ordered(play[:start], rest) == ordered(came[: place + 1], came[place + 1 :]):
+            return name
+    return None
+
+
+WOKEN = re.compile("(; )?woken$")
+
+
+def by_machine(machine, base, came, place):
+    """The name of the room that the machine was refused where it goes on in the same way. With ample memory it goes as the program does."""
+    asked = [line.asked for line in base]
+    settled = lambda lines: [line._replace(notes=machine.settled(line.asked, WOKEN.sub("", line.notes))) for line in lines]
+    if [Line(*it) for it in machine(asked).lines] != settled(base):
+        return None
+    notes = list(notes_of(came[place].notes))
+    may_follow = lambda count: all(note.endswith(" dropped") for note in notes[count:])
+    for name, lines in machine.refused(asked, place, may_follow):
+        if [Line(*it) for it in lines] == settled(came):
+            return name
+    return None
+
+
+def is_woken(base, came, place):
+    """Whether a poll that was pending has woken its task, and all else is as with ample memory. Who wasn't kept may not be woken later."""
+    bare = lambda lines: [line._replace(notes=WOKEN.sub("", line.notes)) for line in lines]
+    more = [at for at, (line, other) in enumerate(zip(base, came)) if WOKEN.search(other.notes) and not WOKEN.search(line.notes)]
+    return more == [place] and bare(base) == bare(came)
+
+
+def known_by(program, base, came, place):
+    if is_woken(base, came, place):
+        return "a waker that found no room: its task is woken"
+    machine = replay.machine_of(base[0].asked)
+    if machine and not base[0].answer and (name := by_machine(machine, base, came, place)):
+        return name
+    return by_program(program, base, came, place) if place == 0 or not machine else None
+
+
+class Refusals:
+    """What came of one file."""
+
+    def __init__(self):
+        self.own, self.met, self.whole = 0, collections.Counter(), 0
+
+
+def refuse_each(path, file, library):
+    """Plays the file once for each allocation."""
+    found, name = Refusals(), os.path.basename(file)
+    with tempfile.TemporaryDirectory() as room, open(file, encoding="utf-8") as text:
+        program = Program(path, room)
+        scripts = [[script[0]._replace(asked=f"{script[0].asked}; quiet"), *script[1:]] for script in scripts_of(text.read())]
+        asks = program.write("asked.script", scripts)
+        ample = program.run(asks).stdout
+        base = scripts_of(ample)
+        number = quiet = 0
+        while quiet < QUIET:
+            number += 1
+            ran = program.run(asks, LD_PRELOAD=library, FAIL_ALLOC=str(number))
+            quiet = quiet + 1 if (ran.returncode, ran.stdout) == (0, ample) else 0
+            if ran.returncode == 1 and "OutOfMemory" in ran.stderr:
+                found.own += 1
+            elif not quiet:
+                told(program, base, ran, found, f"{name}, allocation {number}")
+    return number - QUIET, found
+
+
+def told(program, base, ran, found, where):
+    """Counts what came of a refusal of the library's. Status 1 if it isn't known."""
+    plays = scripts_of(ran.stdout)
+    differ = [at for at, (one, other) in enumerate(zip(base, plays)) if one != other]
+    if ran.returncode or len(plays) != len(base) or len(differ) != 1:
+        sys.exit(f"refused_scripts: {where}: status {ran.returncode}, {len(differ)} scripts differ\n{ran.stderr}")
+    one, came = base[differ[0]], plays[differ[0]]
+    place = next(at for at, (line, other) in enumerate(zip(one, came)) if line != other)
+    if not (name := known_by(program, one, came, place)):
+        lines = [f"    {it.asked:14} => {it.answer:12} | {it.notes}" for it in came]
+        sys.exit("\n".join([f"refused_scripts: {where}, line {place + 1} of this script: not as any machine says", *lines]))
+    found.met[name] += 1
+    found.whole += len(came) == len(one) and came[-1].asked == "end" and "the script is over" not in "".join(it.asked for it in came)
+
+
+def files_of(name, crates):
+    """Of each file of scripts of these crates the program and the path."""
+    if not crates:
+        sys.exit(f"usage: scripts/{name}.py CRATE..")
+    for crate in crates:
+        path = f"{os.environ.get('PROGRAMS') or f'{HERE}/../crates/{crate}/out'}/{crate}"
+        if not os.access(path, os.X_OK):
+            sys.exit(f"{name}: {path} isn't there: rt run makes it")
+        data = f"{HERE}/../crates/{crate}/data"
+        yield from ((path, f"{data}/{file}") for file in sorted(os.listdir(data)) if file.endswith(".script"))
+
+
+def main():
+    kit = f"{os.path.dirname(os.path.dirname(os.path.realpath(subprocess.check_output(['which', 'rt'], text=True).strip())))}/toolchain/bin"
+    whole = Refusals()
+    with tempfile.TemporaryDirectory() as room, concurrent.futures.ThreadPoolExecutor(os.cpu_count()) as pool:
+        library = f"{room}/fail_alloc.so"
+        linked = ["-O1", "-shared", "-fPIC", "-nostdlib", f"-fuse-ld={kit}/ld.lld"]
+        subprocess.run([f"{kit}/clang", *linked, "-o", library, f"{HERE}/fail_alloc.c"], check=True)
+        files = [it for it in files_of("refused_scripts", sys.argv[1:]) if os.path.basename(it[1]) != LARGE]
+        plays = [(file, pool.submit(refuse_each, path, file, library)) for path, file in files]
+        for file, play in plays:
+            count, found = play.result()
+            met = "".join(f"; {number} {name}" for name, number in sorted(found.met.items()))
+            print(f"refused_scripts: {os.path.basename(file)}: {count} allocations, {found.own} the program's own{met}")
+            whole.own, whole.met, whole.whole = whole.own + found.own, whole.met + found.met, whole.whole + found.whole
+    print(f"refused_scripts: {whole.met.total()} refusals of the library, of which {whole.whole} were played to the last line")
+
+
+if __name__ == "__main__":
+    main()
