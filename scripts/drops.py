@@ -19,6 +19,9 @@ import subprocess
 import sys
 import tempfile
 
+sys.dont_write_bytecode = True
+from refused_scripts import notes_of  # noqa: E402
+
 TOP = os.path.dirname(os.path.dirname(os.path.abspath(__file__)))
 # Of each kind of run the program, its files, and which of their scripts are played, by the first word.
 PLAYED = {
@@ -48,15 +51,6 @@ def line_of(line):
     rest, _, notes = (line + " ").partition(" | ")
     asked, _, answer = rest.partition(" => ")
     return Line(asked.strip(), answer.strip(), tuple(notes_of(notes)))
-
-
-def notes_of(text):
-    """The notes one by one: `a, b x2 dropped` is three drops, and `c ready x63` one note 63 times."""
-    for note in filter(None, (it.strip() for it in text.split(";"))):
-        names, is_drop, _ = note.partition(" dropped")
-        for name in names.split(", ") if is_drop else [note]:
-            name, _, count = name.partition(" x") if re.search(r" x\d+$", name) else (name, "", "1")
-            yield from [name + " dropped" * bool(is_drop)] * int(count)
 
 
 def names(script, place):

@@ -37,7 +37,7 @@ def scripts_of(text):
 
 
 def notes_of(text):
-    """The notes one by one."""
+    """The notes one by one: `a, b x2 dropped` is three drops, and `c ready x63` one note 63 times."""
     for note in filter(None, (it.strip() for it in text.split(";"))):
         names, is_drop, _ = note.partition(" dropped")
         for name in names.split(", ") if is_drop else [note]:

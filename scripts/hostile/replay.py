@@ -5,6 +5,7 @@ import re
 from balance import Balance, Cache, Discovery, Weighed
 from call_all import Calls, Ordered, Unordered
 from hedge import MILLISECOND, Hedge, Histogram, Periods
+from retry import Refused
 from stage import HANDLES, Inner, Part, Plan, Play, Stage, within
 
 
@@ -274,16 +275,6 @@ class MakeBalance:
 
     def drop(self):
         self.inner.drop()
-
-
-class Refused:
-    """There is no maker's call if the words have no clone."""
-
-    def poll(self):
-        return "error out of memory"
-
-    def drop(self):
-        pass
 
 
 class Making:
