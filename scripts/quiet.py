@@ -1,5 +1,5 @@
 #!/usr/bin/env python3
-"""scripts/quiet.py CRATE..: plays each script of the crates' data/, but for the large files, once more with parts that wake nobody, as `quiet` on its first line says, with the proved
+"""scripts/quiet.py CRATE..: plays each script of the crates' data/ once more with parts that wake nobody, as `quiet` on its first line says, with the proved
 program that `rt ci` or `rt run` left in out/, or with those in the folder PROGRAMS.
 
 Each line is as without it. If a poll was pending, its task is woken (the note `woken`) exactly if `wakes` says why: a task that is woken for no reason is
@@ -14,7 +14,7 @@ import tempfile
 HERE = os.path.dirname(os.path.realpath(__file__))
 sys.path.insert(0, HERE)
 sys.dont_write_bytecode = True
-from refused_scripts import LARGE, Program, files_of, notes_of, scripts_of  # noqa: E402
+from refused_scripts import Program, files_of, notes_of, scripts_of  # noqa: E402
 
 PASSES = 64
 # What one pass of a bounded loop notes, by the row.
@@ -78,8 +78,6 @@ def main():
     told, wrong = collections.Counter(), 0
     with tempfile.TemporaryDirectory() as room:
         for path, file in files_of("quiet", sys.argv[1:]):
-            if os.path.basename(file) == LARGE:
-                continue
             program = Program(path, room)
             with open(file, encoding="utf-8") as it:
                 scripts = scripts_of(it.read())

@@ -1,12 +1,11 @@
 #!/usr/bin/env python3
-"""scripts/refused_scripts.py CRATE..: plays each file of scripts of the crates' data/ but the large ones once for each allocation, which is refused (fail_alloc.c),
-with the proved program that `rt ci` or `rt run` left in out/, or with those in the folder PROGRAMS.
+"""scripts/refused_scripts.py CRATE..: plays each file of scripts of the crates' data/ once for each allocation, which is refused, with the proved program that
+`rt ci` or `rt run` left in out/, or with those in the folder PROGRAMS. One run does it: it is forked at each allocation (fork_alloc.c).
 
-Each time the program ends for want of its own memory, or one line of one script meets the refusal. (The parts are `quiet`, so a wake of the task's own
+Each time the program ends for want of its own memory, or one line of one script meets the refusal, or nothing changes. (The parts are `quiet`, so a wake of the task's own
 shows.) The lines before it are as in a play with ample memory, and from there on each answer, note and drop is the one of a play that is known: of the plain machine in Python that the row has in
 `hostile/`, which is refused room at a place that it names (`MACHINES`), or of the same program on a script that leads to the same state without a
-refusal (`alike`). New copies are compared by their order, since what the refusal made and dropped counts too. It stops after 40 allocations in
-a row that change nothing: the last were past the end. It prints how often each was met, and how many refused plays went on to their last line."""
+refusal (`alike`). New copies are compared by their order, since what the refusal made and dropped counts too. It prints how often each was met, and how many refused plays went on to their last line."""
 import collections
 import concurrent.futures
 import os
@@ -20,12 +19,9 @@ sys.path.insert(0, f"{HERE}/hostile")
 sys.dont_write_bytecode = True
 import replay  # noqa: E402
 
-# So many allocations in a row that change nothing are past the end.
-QUIET = 40
-# Scripts of many thousand allocations, which aren't played so often.
-LARGE = "many.script"
 REFUSED = "out of memory"
 Line = collections.namedtuple("Line", "asked answer notes")
+Ran = collections.namedtuple("Ran", "returncode stdout stderr")
 
 
 def line_of(text):
@@ -62,14 +58,30 @@ class Program:
             out.write("\n\n".join("\n".join(it.asked for it in script) for script in scripts) + "\n")
         return path
 
-    def run(self, path, **fails):
-        return subprocess.run([self.path, "--write", path], env={**os.environ, **fails}, capture_output=True, text=True, timeout=60)
+    def run(self, path, **more):
+        """What comes of a run whose streams are files of the room."""
+        with open(f"{self.room}/all.out", "w+", encoding="utf-8") as out, open(f"{self.room}/all.err", "w+", encoding="utf-8") as err:
+            ran = subprocess.run([self.path, "--write", path], env={**os.environ, **more}, stdout=out, stderr=err, timeout=600)
+            return Ran(ran.returncode, *(it.seek(0) or it.read() for it in (out, err)))
 
     def play(self, scripts):
         """What comes with ample memory."""
         ran = self.run(self.write("alike.script", scripts))
         assert ran.returncode == 0, ran.stderr
         return scripts_of(ran.stdout)
+
+    def refused(self, path, library):
+        """What comes of a refusal of each allocation, with its number."""
+        ran = self.run(path, LD_PRELOAD=library, FORK_ALLOC=self.room)
+        assert ran.returncode == 0, ran.stderr
+        with open(f"{self.room}/statuses", encoding="utf-8") as statuses:
+            for number, status in (map(int, it.split()) for it in statuses):
+                wrote = []
+                for name in (f"{self.room}/{number}.{it}" for it in ("out", "err")):
+                    with open(name, encoding="utf-8") as file:
+                        wrote.append(file.read())
+                    os.remove(name)
+                yield number, Ran(os.waitstatus_to_exitcode(status), *wrote)
 
 
 def drops(notes):
@@ -192,7 +204,7 @@ class Refusals:
     """What came of one file."""
 
     def __init__(self):
-        self.own, self.met, self.whole = 0, collections.Counter(), 0
+        self.tried, self.own, self.met, self.whole = 0, 0, collections.Counter(), 0
 
 
 def refuse_each(path, file, library):
@@ -204,16 +216,13 @@ def refuse_each(path, file, library):
         asks = program.write("asked.script", scripts)
         ample = program.run(asks).stdout
         base = scripts_of(ample)
-        number = quiet = 0
-        while quiet < QUIET:
-            number += 1
-            ran = program.run(asks, LD_PRELOAD=library, FAIL_ALLOC=str(number))
-            quiet = quiet + 1 if (ran.returncode, ran.stdout) == (0, ample) else 0
+        for number, ran in program.refused(asks, library):
+            found.tried += 1
             if ran.returncode == 1 and "OutOfMemory" in ran.stderr:
                 found.own += 1
-            elif not quiet:
+            elif (ran.returncode, ran.stdout) != (0, ample):
                 told(program, base, ran, found, f"{name}, allocation {number}")
-    return number - QUIET, found
+    return found
 
 
 def told(program, base, ran, found, where):
@@ -247,15 +256,14 @@ def main():
     kit = f"{os.path.dirname(os.path.dirname(os.path.realpath(subprocess.check_output(['which', 'rt'], text=True).strip())))}/toolchain/bin"
     whole = Refusals()
     with tempfile.TemporaryDirectory() as room, concurrent.futures.ThreadPoolExecutor(os.cpu_count()) as pool:
-        library = f"{room}/fail_alloc.so"
+        library = f"{room}/fork_alloc.so"
         linked = ["-O1", "-shared", "-fPIC", "-nostdlib", f"-fuse-ld={kit}/ld.lld"]
-        subprocess.run([f"{kit}/clang", *linked, "-o", library, f"{HERE}/fail_alloc.c"], check=True)
-        files = [it for it in files_of("refused_scripts", sys.argv[1:]) if os.path.basename(it[1]) != LARGE]
-        plays = [(file, pool.submit(refuse_each, path, file, library)) for path, file in files]
+        subprocess.run([f"{kit}/clang", *linked, "-o", library, f"{HERE}/fork_alloc.c"], check=True)
+        plays = [(file, pool.submit(refuse_each, path, file, library)) for path, file in files_of("refused_scripts", sys.argv[1:])]
         for file, play in plays:
-            count, found = play.result()
+            found = play.result()
             met = "".join(f"; {number} {name}" for name, number in sorted(found.met.items()))
-            print(f"refused_scripts: {os.path.basename(file)}: {count} allocations, {found.own} the program's own{met}")
+            print(f"refused_scripts: {os.path.basename(file)}: {found.tried} allocations, {found.own} the program's own{met}")
             whole.own, whole.met, whole.whole = whole.own + found.own, whole.met + found.met, whole.whole + found.whole
     print(f"refused_scripts: {whole.met.total()} refusals of the library, of which {whole.whole} were played to the last line")
 

@@ -21,9 +21,18 @@ use tower_time::ClockLoop;
 /// The future that serves a connection.
 pub type Served<I, S> = http1::Connection<I, TowerToHyperService<S>, Page>;
 
-/// Serves one connection until the client is done. The contract doesn't repeat what `hyper` says at the end
-/// of a connection that was new (`Closes`), which holds of the future that `served` returns.
-pub fn serve<R, Q, I, S>(rt: &R, tasks: &mut ClockLoop<Q>, io: I, stack: S) -> anyhow::Result<()>
+/// Serves one connection until the client is done, and returns what `hyper` returns. The contract is `hyper`'s
+/// own (`Closes`) of a connection that was new over this IO and this stack: what was written are the responses
+/// to the requests that were read, in their order, each of them given by a call of the service with the
+/// request at its place. After `Ok` the IO was shut down.
+///
+/// Returns an error if there is no memory or no randomness.
+pub fn serve<R, Q, I, S>(
+    rt: &R,
+    tasks: &mut ClockLoop<Q>,
+    io: I,
+    stack: S,
+) -> io::Result<hyper::Result<()>>
 where
     R: Wait + RandomSource + AllocGlobal,
     Q: rt::Clock + Copy,
@@ -31,16 +40,15 @@ where
     S: Service<Request<Incoming<I>>, Response = Response<Page>, Error = Failure> + Clone,
     requires sound { S.sound stack }
     requires clones { (old new : S) → S.is_clone old new → S.sound old → S.sound new }
+    ensures closes { IfOk result (λ ended. (served : _) × IsNewFor served.conn io stack
+        × ⟦<http1::Connection<I, TowerToHyperService<S>, Page> as Future>⟧.gives served ended) }
 {
     let served = served(rt, io, stack)?;
-    tasks.block_on(rt, served)??;
-    Ok(())
+    tasks.block_on(rt, served)
 }
 
-/// Returns a future that serves the connection until it is closed. The connection is new: so `hyper`'s clause
-/// says that what is written are the responses to the requests that were read, in their order, each of them
-/// given by a call of the service with the request at its place. A call of the service is one call of a
-/// clone of the stack, once that is ready.
+/// Returns a future that serves the connection until it is closed. The connection is new. A call of its
+/// service is one call of a clone of the stack, once that is ready.
 pub fn served<R, I, S>(rt: &R, io: I, stack: S) -> io::Result<Served<I, S>>
 where
     R: RandomSource + AllocGlobal,

@@ -75,7 +75,10 @@ where
     requires clones { (old new : S) → S.is_clone old new → S.sound old → S.sound new }
 {
     match mode {
-        Mode::Standard => serve(rt, tasks, Stream::Standard(stdio), stack),
+        Mode::Standard => {
+            serve(rt, tasks, Stream::Standard(stdio), stack)??;
+            Ok(())
+        }
         Mode::Crowd { connections, fault } => {
             let fault = Rc::new(rt.alloc(), Cell::new(fault))?;
             let stack = OneStack::new(stack);
