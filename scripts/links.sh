@@ -1,5 +1,5 @@
 #!/usr/bin/env bash
-# Each link of a document names a file or folder that is there. It prints those that don't.
+# Each link of a document, inline or by reference, names a file or folder that is there. It prints those that don't.
 set -u
 cd "$(dirname "${BASH_SOURCE[0]}")/.." || exit 1
 broken=0
@@ -9,6 +9,6 @@ for page in *.md docs/*.md crates/*/README.md; do
             echo "$page: $link"
             broken=1
         fi
-    done < <(grep -oE '\]\([^)#: ]+' "$page" | sed 's/^](//')
+    done < <(grep -oE '(\]\(|^\[[^]]+\]: )[^)#: ]+' "$page" | sed -E 's/^(\]\(|\[[^]]+\]: )//')
 done
 exit "$broken"
