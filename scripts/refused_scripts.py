@@ -142,6 +142,15 @@ def ordered(before, lines):
     return [line._replace(notes=copy.sub(name, line.notes)) for line in lines]
 
 
+def recounted(lines):
+    """The lines, with `right` as the answer of each `count` that tells what is in the notes of the last line that had some."""
+    last = []
+    for line in lines:
+        last = list(notes_of(line.notes)) or last
+        is_right = line.asked.startswith("count ") and line.answer == str(sum(note.count(line.asked[len("count "):]) for note in last))
+        yield line._replace(answer="right") if is_right else line
+
+
 def alike(script, place):
     """Scripts that lead to the state that the refusal left: the name of each, its lines before that one, those in place of it, and whether the last of
     these is compared too."""
@@ -158,11 +167,11 @@ def by_program(program, base, came, place):
         return "the first line makes nothing" if is_over(base, came) else None
     plays = list(alike(base, place))
     played = program.play([[*before, *instead, *base[place + 1 :]] for _, before, instead, _ in plays])
-    for (name, before, instead, is_compared), play in zip(plays, played):
-        start = len(before)
+    for (name, led, instead, is_compared), play in zip(plays, played):
+        start = len(led)
         here = play[start] == came[place] if is_compared else REFUSED in came[place].answer and is_cut(base[place].notes, came[place].notes)
-        rest = play[start + len(instead) :]
-        if here and ordered(play[:start], rest) == ordered(came[: place + 1], came[place + 1 :]):
+        before, rest = play[:start], list(recounted(play))[start + len(instead) :]
+        if here and ordered(before, rest) == ordered(came[: place + 1], list(recounted(came))[place + 1 :]):
             return name
     return None
 
