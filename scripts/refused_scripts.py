@@ -181,14 +181,15 @@ WOKEN = re.compile("(; )?woken$")
 
 def by_machine(machine, base, came, place):
     """The name of the room that the machine was refused where it goes on in the same way. With ample memory it goes as the program does."""
-    asked = [line.asked for line in base]
+    asked = tuple(line.asked for line in base)
     settled = lambda lines: [line._replace(notes=machine.settled(line.asked, WOKEN.sub("", line.notes))) for line in lines]
-    if [Line(*it) for it in machine(asked).lines] != settled(base):
+    if [Line(*it) for it in machine.whole(asked).lines] != settled(base):
         return None
-    notes = list(notes_of(came[place].notes))
+    wanted, notes = settled(came), list(notes_of(came[place].notes))
     may_follow = lambda count: all(note.endswith(" dropped") for note in notes[count:])
-    for name, lines in machine.refused(asked, place, may_follow):
-        if [Line(*it) for it in lines] == settled(came):
+    may_begin = lambda lines: [Line(*it) for it in lines] == wanted[: place + 1]
+    for name, lines in machine.refused(asked, place, may_follow, may_begin):
+        if [Line(*it) for it in lines] == wanted:
             return name
     return None
 

@@ -1,5 +1,6 @@
 """Scripts that were written by hand, played by the plain machines, which may be refused room for once."""
 
+import functools
 import re
 
 from balance import Balance, Cache, Discovery, Weighed
@@ -24,13 +25,20 @@ class Row:
             self.told(line, self.answer(line))
 
     @classmethod
-    def refused(cls, asked, place, may_follow):
+    @functools.lru_cache(4)
+    def whole(cls, asked):
+        """The play with ample memory."""
+        return cls(asked)
+
+    @classmethod
+    def refused(cls, asked, place, may_follow, may_begin):
         """What comes of a script that is refused room once, where this line is the first that shows it: the room's name and the lines. After a refusal in
-        this line itself only such notes come as may follow so many others."""
-        whole = cls(asked)
+        this line itself only such notes come as may follow so many others, and the lines up to this one are such as may begin the play."""
+        whole = cls.whole(asked)
         before, here = ([0] + whole.ends)[place], whole.ends[place]
         for number in [*(it for it in range(before, here) if may_follow(whole.stage.rooms[it][1])), *range(before)]:
-            yield whole.stage.rooms[number][0], cls(asked, number).lines
+            if may_begin(cls(asked[: place + 1], number).lines):
+                yield whole.stage.rooms[number][0], cls(asked, number).lines
 
     def told(self, line, answer):
         if self.stage.notes:
