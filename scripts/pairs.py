@@ -15,6 +15,7 @@ import argparse
 import json
 import os
 import re
+import resource
 import shlex
 import subprocess
 import sys
@@ -22,6 +23,8 @@ import time
 
 ROOT = os.path.dirname(os.path.dirname(os.path.realpath(__file__)))
 CRATE = "pairs"
+# the processor seconds of a check, after which it is cut off
+SECONDS = 1200
 
 
 class Ware:
@@ -58,17 +61,12 @@ WARES = {
     "map_response": Ware("MapResponse::new({}, |answer: u32| answer / 2)", is_clone=True),
 }
 
-PATHS = """futures::executor::LocalPool futures::future::Future futures::task::Doorbell std::alloc::AllocError std::alloc::AllocGlobal std::convert::Infallible
-std::io std::random::RandomSource std::sync::Wait tower::BlockOnExt tower::Service tower::ServiceBuilder tower::ServiceExt tower::balance::p2c::Balance
-tower::buffer::Buffer tower::discover::ServiceList tower::filter tower::filter::AsyncFilter tower::filter::Filter tower::hedge::Flat tower::hedge::Hedge
-tower::hedge::delay tower::hedge::delay::Delay tower::hedge::latency::Latency tower::hedge::rotating_histogram::HistoCore tower::hedge::select
-tower::hedge::select::Select tower::latch::Latch tower::limit::ConcurrencyLimit tower::limit::rate::Rate tower::limit::rate::RateLimit
-tower::load::CompleteOnResponse tower::load::Constant tower::load::PendingRequests tower::load_shed::LoadShed tower::reconnect::Reconnect tower::retry::Retry
-tower::service::Clock tower::service::Fraction tower::service::SystemClock tower::spawn_ready::SpawnReady tower::steer::Steer tower::timeout::Timeout
-tower::util::MapResponse tower::util::Sealed crate::parts::First crate::parts::HOUR crate::parts::Last crate::parts::Lender crate::parts::Lost
-crate::parts::Positive crate::parts::Server crate::parts::Times""".split()
-
 CLONES = "requires clones {{ (x y : {0}) → {0}.is_clone x y → {0}.sound x → {0}.sound y }}"
+
+
+def read(file):
+    with open(f"{ROOT}/scripts/pairs/{file}", encoding="utf-8") as it:
+        return it.read()
 
 
 def function(name, lines, takes="", types="", where=(), public=False):
@@ -167,12 +165,10 @@ def crate_of(folder, pairs):
     texts = {it: written(*it) for it in pairs}
     text = "\n".join({part: None for parts in texts.values() for part in parts})
     used = text.replace(".block_on_call", " BlockOnExt").replace(".oneshot", " ServiceExt").replace("filter::", " filter ")
-    uses = "".join(f"use {it};\n" for it in PATHS if re.search(rf"\b{it.split('::')[-1]}\b", used))
+    uses = "".join(it for it in read("uses.txt").splitlines(True) if re.search(rf"\b{it.strip().rpartition('::')[2]}".replace(";", r"\b"), used))
     ghost = "ghost use Rattle.std.specs.Prelude.{◌≡◌};\n\n" * ("≡" in text)
-    with open(f"{ROOT}/scripts/pairs/parts.txt", encoding="utf-8") as it:
-        files = {"specs/Lib.antt": "", "src/parts.rt": it.read()}
-    files["src/lib.rt"] = f"//! Pairs of middleware.\n#![tactic(auto)]\n\n{ghost}mod parts;\n\n{uses}\n{text}"
-    for file, text in files.items():
+    whole = f"//! Pairs of middleware.\n#![tactic(auto)]\n\n{ghost}mod parts;\n\n{uses}\n{text}"
+    for file, text in {"specs/Lib.antt": "", "src/parts.rt": read("parts.txt"), "src/lib.rt": whole}.items():
         os.makedirs(os.path.dirname(f"{folder}/crates/{CRATE}/{file}"), exist_ok=True)
         with open(f"{folder}/crates/{CRATE}/{file}", "w", encoding="utf-8") as it:
             it.write(text)
@@ -183,7 +179,8 @@ def check(folder, pairs):
     """Checks the pairs in one crate. Returns what it said of each that it decided: nothing if it is proved, or else the message."""
     names = crate_of(folder, pairs)
     command = [shlex.split(os.environ["PAIRS_CHECK"]), folder] if "PAIRS_CHECK" in os.environ else [["rt", "check"], f"{folder}/crates/{CRATE}"]
-    ran = subprocess.run(command[0], cwd=command[1], stdin=subprocess.DEVNULL, stdout=subprocess.PIPE, stderr=subprocess.STDOUT, text=True, errors="replace")
+    how = {"stdin": subprocess.DEVNULL, "stdout": subprocess.PIPE, "stderr": subprocess.STDOUT, "text": True, "errors": "replace"}
+    ran = subprocess.run(command[0], cwd=command[1], preexec_fn=lambda: resource.setrlimit(resource.RLIMIT_CPU, (SECONDS, SECONDS)), **how)
     with open(f"{folder}/{CRATE}.log", "w", encoding="utf-8") as it:
         it.write(ran.stdout)
     if not re.search(r"^logic=(not-)?proved", ran.stdout, re.M):
