@@ -1,9 +1,9 @@
 #!/usr/bin/env python3
-"""scripts/pairs.py FOLDER [--only WORD ..] [--max N] [--batch N] [--anew]: tries which middleware of `tower` are proved around which.
+"""scripts/pairs.py FOLDER [--only WORD ..] [--max N] [--batch N]: tries which middleware of `tower` are proved around which.
 
 For each pair of the list below it writes a function over any runtime `R`, which makes the outer middleware around the inner one around a service, and
 calls it once. FOLDER becomes a repository with the library (by scripts/vendor) and a crate of such functions, a batch at a time, which `rt check` proves
-there. What each check said is kept in FOLDER/pairs.json, so that a later run tries only what is left (--anew: all). --only takes the functions whose
+there. What each check said is kept in FOLDER/pairs.json, so that a later run tries only what is left. --only takes the functions whose
 names have one of the words (`timeout_over_`, say), --max stops after so many batches, and --batch is their size. In the end the table of all that is
 known so far is printed, in Markdown.
 
@@ -160,6 +160,10 @@ def written(outer, inner, form):
     return [function(name, [*map(pool, pools), *lines], public=True), *more]
 
 
+def excluded(outer, inner):
+    return WARES[outer].clones and not WARES[inner].is_clone
+
+
 def crate_of(folder, pairs):
     """Writes the crate of these pairs, each with its form. Returns for each the names of the functions that it needs."""
     texts = {it: written(*it) for it in pairs}
@@ -191,75 +195,63 @@ def check(folder, pairs):
         for line, said in re.findall(r"^src/lib\.rt:(\d+):\d+: (error.*)", ran.stdout, re.M):
             at = next(it[1] for it in reversed(heads[:int(line)]) if it)
             found |= {pair: said for pair in pairs if at in names[pair] and pair not in found}
-        return found if found or len(pairs) > 1 else {pairs[0]: (ran.stdout.strip().splitlines() or ["no output"])[-1]}
+        errors = re.findall(r"^.*error.*", ran.stdout, re.M) or [f"the check doesn't end in {SECONDS} processor seconds"]
+        return found if found or len(pairs) > 1 else {pairs[0]: errors[0]}
     told = {it: re.sub(r"^proved(, may wait)?$", "", said) for it, said in re.findall(rf"^\w+ {CRATE}::(\S+): (.*)", ran.stdout, re.M)}
     if any(said for it, said in told.items() if it.startswith("parts::")):
         sys.exit(f"pairs: scripts/pairs/parts.txt isn't proved: see {folder}/{CRATE}.log")
     return {pair: next(filter(None, (told.get(it, "no verdict") for it in names[pair])), "") for pair in pairs}
 
 
-def short(said):
-    """A message without what differs from pair to pair."""
-    said = re.sub(r"no proof: (expected answers in \S+; )?", "", said)
-    return re.sub(r"\b\w+_(over_\w+|around|beside|made|whole|parts)\b", "..", said)
-
-
 def table(state):
-    """The table, and under it the messages of what isn't proved in one function."""
+    """The table, and under it the counts and the messages of what isn't proved in one function."""
     lines = ["| over | " + " | ".join(f"`{it}`" for it in WARES) + " |", "|---" * (len(WARES) + 1) + "|"]
-    messages, counts = {}, {}
+    messages, counts = [], {}
     for outer in WARES:
         cells = []
         for inner in WARES:
             done = state.get(f"{outer}_over_{inner}", {})
-            cell = "yes" if done.get("one") == "" else "any" if done.get("more") == "" else "no" if done else "not run"
-            if WARES[outer].clones and not WARES[inner].is_clone:
-                cell = "-"
-            elif cell == "yes" and "hedge" in (outer, inner):
-                cell = "any"
+            is_any = "hedge" in (outer, inner) or done.get("one")
+            cell = "-" if excluded(outer, inner) else "not run" if not done else "no" if all(done.values()) else "any" if is_any else "yes"
             counts[cell] = counts.get(cell, 0) + 1
             for said in filter(None, done.values()):
-                letter = chr(ord("a") + list(messages.setdefault(short(said), [len(messages)]))[0])
-                cell += f" {letter}"
+                said = re.sub(r"\b\w+_(over_\w+|around|beside|made|whole|parts)\b", "..", re.sub(r"no proof: (expected answers in \S+; )?", "", said))
+                messages += [said] * (said not in messages)
+                cell += f" {messages.index(said) + 1}"
             cells.append(cell)
         lines.append(f"| `{outer}` | " + " | ".join(cells) + " |")
     lines += ["", ", ".join(f"{cell}: {number}" for cell, number in sorted(counts.items())), ""]
-    return "\n".join([*lines, *(f"- {chr(ord('a') + at)}: {said}" for said, (at,) in messages.items())])
+    return "\n".join([*lines, *(f"{at}. {said}" for at, said in enumerate(messages, 1))])
 
 
 def main():
     words = argparse.ArgumentParser(description=__doc__, formatter_class=argparse.RawDescriptionHelpFormatter)
-    words.add_argument("folder")
+    words.add_argument("folder", type=os.path.abspath)
     words.add_argument("--only", nargs="*", default=[""])
     words.add_argument("--max", type=int, default=1000)
     words.add_argument("--batch", type=int, default=9)
-    words.add_argument("--anew", action="store_true")
     args = words.parse_args()
-    folder, kept = os.path.abspath(args.folder), os.path.abspath(f"{args.folder}/pairs.json")
+    folder, kept, state = args.folder, f"{args.folder}/pairs.json", {}
     if not os.path.exists(f"{folder}/crates.txt"):
         subprocess.run([f"{ROOT}/scripts/vendor", folder], check=True)
     with open(f"{folder}/crates.txt", "r+", encoding="utf-8") as it:
         if not re.search(rf"^{CRATE}:", it.read(), re.M):
             it.write(f"{CRATE}: tower futures thiserror\n")
-    state = {}
-    if os.path.exists(kept) and not args.anew:
+    if os.path.exists(kept):
         with open(kept, encoding="utf-8") as it:
             state = json.load(it)
-    names = [(outer, inner) for outer in WARES for inner in WARES if not WARES[outer].clones or WARES[inner].is_clone]
-    names = [it for it in names if any(word in "_over_".join(it) for word in args.only)]
+    wanted = [(outer, inner) for outer in WARES for inner in WARES if not excluded(outer, inner) and any(it in f"{outer}_over_{inner}" for it in args.only)]
     for form in ("one", "more"):
-        # In more functions is tried what isn't proved in one; a hedge always takes more.
-        left = [(*it, form) for it in names if form not in (done := state.get("_over_".join(it), {})) and (form == "one" or done.get("one") and "hedge" not in it)]
+        left = [(*it, form) for it in wanted if form not in (done := state.get("_over_".join(it), {})) and (form == "one" or done.get("one") and "hedge" not in it)]
         batches = [left[at:at + args.batch] for at in range(0, len(left), args.batch)]
         while batches and args.max > 0:
-            batch = batches.pop(0)
-            args.max -= 1
-            began, found = time.time(), check(folder, batch)
+            batch, args.max, began = batches.pop(0), args.max - 1, time.time()
+            found = check(folder, batch)
             for (outer, inner, _), said in found.items():
                 state.setdefault(f"{outer}_over_{inner}", {})[form] = said
             with open(kept, "w", encoding="utf-8") as it:
                 json.dump(state, it, indent=1)
-            print(f"{len(batch)} pairs from {'_over_'.join(batch[0][:2])}: {sum(not it for it in found.values())} proved, {time.time() - began:.0f} s", file=sys.stderr, flush=True)
+            print(f"{len(batch)} pairs from {'_over_'.join(batch[0][:2])} on, {time.time() - began:.0f} s: {list(found.values()).count('')} proved", file=sys.stderr, flush=True)
             # What wasn't decided is checked without what was, or in halves.
             rest = [it for it in batch if it not in found]
             half = len(rest) if found else len(rest) // 2
