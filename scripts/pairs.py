@@ -1,20 +1,21 @@
 #!/usr/bin/env python3
-"""scripts/pairs.py FOLDER [--only WORD ..] [--max N] [--batch N] [--anew]: tries which middleware of `tower` are proved around which.
+"""scripts/pairs.py FOLDER [--only WORD ..] [--max N] [--batch N]: tries which middleware of `tower` are proved around which.
 
 For each pair of the list below it writes a function over any runtime `R`, which makes the outer middleware around the inner one around a service, and
 calls it once. FOLDER becomes a repository with the library (by scripts/vendor) and a crate of such functions, a batch at a time, which `rt check` proves
-there. What each check said is kept in FOLDER/pairs.json, so that a later run tries only what is left (--anew: all). --only takes the functions whose
+there. What each check said is kept in FOLDER/pairs.json, so that a later run tries only what is left. --only takes the functions whose
 names have one of the words (`timeout_over_`, say), --max stops after so many batches, and --batch is their size. In the end the table of all that is
 known so far is printed, in Markdown.
 
 A pair that isn't proved in one function is tried in more: one that makes the inner middleware, and one, over any `S: Service`, for the outer one and the
-call. No pair is tried that the types exclude: `Retry`, `Delay`, `AsyncFilter` and `Hedge` clone what is inside. The gate doesn't run this: it takes one
-to two processor hours, and before that the library's own, if it isn't proved here. PAIRS_CHECK names a command to be run in FOLDER in place of `rt check`.
+call. No pair is tried that the types exclude: `Retry`, `Delay`, `AsyncFilter` and `Hedge` clone what is inside. The gate doesn't run this, which takes hours:
+four pairs took 75 processor seconds, and nine with hedges more than 440; the library is proved before, if it isn't yet. PAIRS_CHECK names a command to be run in FOLDER in place of `rt check`.
 """
 import argparse
 import json
 import os
 import re
+import resource
 import shlex
 import subprocess
 import sys
@@ -22,6 +23,8 @@ import time
 
 ROOT = os.path.dirname(os.path.dirname(os.path.realpath(__file__)))
 CRATE = "pairs"
+# the processor seconds of a check, after which it is cut off
+SECONDS = 1200
 
 
 class Ware:
@@ -58,17 +61,12 @@ WARES = {
     "map_response": Ware("MapResponse::new({}, |answer: u32| answer / 2)", is_clone=True),
 }
 
-PATHS = """futures::executor::LocalPool futures::future::Future futures::task::Doorbell std::alloc::AllocError std::alloc::AllocGlobal std::convert::Infallible
-std::io std::random::RandomSource std::sync::Wait tower::BlockOnExt tower::Service tower::ServiceBuilder tower::ServiceExt tower::balance::p2c::Balance
-tower::buffer::Buffer tower::discover::ServiceList tower::filter tower::filter::AsyncFilter tower::filter::Filter tower::hedge::Flat tower::hedge::Hedge
-tower::hedge::delay tower::hedge::delay::Delay tower::hedge::latency::Latency tower::hedge::rotating_histogram::HistoCore tower::hedge::select
-tower::hedge::select::Select tower::latch::Latch tower::limit::ConcurrencyLimit tower::limit::rate::Rate tower::limit::rate::RateLimit
-tower::load::CompleteOnResponse tower::load::Constant tower::load::PendingRequests tower::load_shed::LoadShed tower::reconnect::Reconnect tower::retry::Retry
-tower::service::Clock tower::service::Fraction tower::service::SystemClock tower::spawn_ready::SpawnReady tower::steer::Steer tower::timeout::Timeout
-tower::util::MapResponse tower::util::Sealed crate::parts::First crate::parts::HOUR crate::parts::Last crate::parts::Lender crate::parts::Lost
-crate::parts::Positive crate::parts::Server crate::parts::Times""".split()
-
 CLONES = "requires clones {{ (x y : {0}) → {0}.is_clone x y → {0}.sound x → {0}.sound y }}"
+
+
+def read(file):
+    with open(f"{ROOT}/scripts/pairs/{file}", encoding="utf-8") as it:
+        return it.read()
 
 
 def function(name, lines, takes="", types="", where=(), public=False):
@@ -162,17 +160,19 @@ def written(outer, inner, form):
     return [function(name, [*map(pool, pools), *lines], public=True), *more]
 
 
+def excluded(outer, inner):
+    return WARES[outer].clones and not WARES[inner].is_clone
+
+
 def crate_of(folder, pairs):
     """Writes the crate of these pairs, each with its form. Returns for each the names of the functions that it needs."""
     texts = {it: written(*it) for it in pairs}
     text = "\n".join({part: None for parts in texts.values() for part in parts})
     used = text.replace(".block_on_call", " BlockOnExt").replace(".oneshot", " ServiceExt").replace("filter::", " filter ")
-    uses = "".join(f"use {it};\n" for it in PATHS if re.search(rf"\b{it.split('::')[-1]}\b", used))
+    uses = "".join(it for it in read("uses.txt").splitlines(True) if re.search(rf"\b{it.strip().rpartition('::')[2]}".replace(";", r"\b"), used))
     ghost = "ghost use Rattle.std.specs.Prelude.{◌≡◌};\n\n" * ("≡" in text)
-    with open(f"{ROOT}/scripts/pairs/parts.txt", encoding="utf-8") as it:
-        files = {"specs/Lib.antt": "", "src/parts.rt": it.read()}
-    files["src/lib.rt"] = f"//! Pairs of middleware.\n#![tactic(auto)]\n\n{ghost}mod parts;\n\n{uses}\n{text}"
-    for file, text in files.items():
+    whole = f"//! Pairs of middleware.\n#![tactic(auto)]\n\n{ghost}mod parts;\n\n{uses}\n{text}"
+    for file, text in {"specs/Lib.antt": "", "src/parts.rt": read("parts.txt"), "src/lib.rt": whole}.items():
         os.makedirs(os.path.dirname(f"{folder}/crates/{CRATE}/{file}"), exist_ok=True)
         with open(f"{folder}/crates/{CRATE}/{file}", "w", encoding="utf-8") as it:
             it.write(text)
@@ -183,7 +183,8 @@ def check(folder, pairs):
     """Checks the pairs in one crate. Returns what it said of each that it decided: nothing if it is proved, or else the message."""
     names = crate_of(folder, pairs)
     command = [shlex.split(os.environ["PAIRS_CHECK"]), folder] if "PAIRS_CHECK" in os.environ else [["rt", "check"], f"{folder}/crates/{CRATE}"]
-    ran = subprocess.run(command[0], cwd=command[1], stdin=subprocess.DEVNULL, stdout=subprocess.PIPE, stderr=subprocess.STDOUT, text=True, errors="replace")
+    how = {"stdin": subprocess.DEVNULL, "stdout": subprocess.PIPE, "stderr": subprocess.STDOUT, "text": True, "errors": "replace"}
+    ran = subprocess.run(command[0], cwd=command[1], preexec_fn=lambda: resource.setrlimit(resource.RLIMIT_CPU, (SECONDS, SECONDS)), **how)
     with open(f"{folder}/{CRATE}.log", "w", encoding="utf-8") as it:
         it.write(ran.stdout)
     if not re.search(r"^logic=(not-)?proved", ran.stdout, re.M):
@@ -194,75 +195,63 @@ def check(folder, pairs):
         for line, said in re.findall(r"^src/lib\.rt:(\d+):\d+: (error.*)", ran.stdout, re.M):
             at = next(it[1] for it in reversed(heads[:int(line)]) if it)
             found |= {pair: said for pair in pairs if at in names[pair] and pair not in found}
-        return found if found or len(pairs) > 1 else {pairs[0]: (ran.stdout.strip().splitlines() or ["no output"])[-1]}
+        errors = re.findall(r"^.*error.*", ran.stdout, re.M) or [f"the check doesn't end in {SECONDS} processor seconds"]
+        return found if found or len(pairs) > 1 else {pairs[0]: errors[0]}
     told = {it: re.sub(r"^proved(, may wait)?$", "", said) for it, said in re.findall(rf"^\w+ {CRATE}::(\S+): (.*)", ran.stdout, re.M)}
     if any(said for it, said in told.items() if it.startswith("parts::")):
         sys.exit(f"pairs: scripts/pairs/parts.txt isn't proved: see {folder}/{CRATE}.log")
     return {pair: next(filter(None, (told.get(it, "no verdict") for it in names[pair])), "") for pair in pairs}
 
 
-def short(said):
-    """A message without what differs from pair to pair."""
-    said = re.sub(r"no proof: (expected answers in \S+; )?", "", said)
-    return re.sub(r"\b\w+_(over_\w+|around|beside|made|whole|parts)\b", "..", said)
-
-
 def table(state):
-    """The table, and under it the messages of what isn't proved in one function."""
+    """The table, and under it the counts and the messages of what isn't proved in one function."""
     lines = ["| over | " + " | ".join(f"`{it}`" for it in WARES) + " |", "|---" * (len(WARES) + 1) + "|"]
-    messages, counts = {}, {}
+    messages, counts = [], {}
     for outer in WARES:
         cells = []
         for inner in WARES:
             done = state.get(f"{outer}_over_{inner}", {})
-            cell = "yes" if done.get("one") == "" else "any" if done.get("more") == "" else "no" if done else "not run"
-            if WARES[outer].clones and not WARES[inner].is_clone:
-                cell = "-"
-            elif cell == "yes" and "hedge" in (outer, inner):
-                cell = "any"
+            is_any = "hedge" in (outer, inner) or done.get("one")
+            cell = "-" if excluded(outer, inner) else "not run" if not done else "no" if all(done.values()) else "any" if is_any else "yes"
             counts[cell] = counts.get(cell, 0) + 1
             for said in filter(None, done.values()):
-                letter = chr(ord("a") + list(messages.setdefault(short(said), [len(messages)]))[0])
-                cell += f" {letter}"
+                said = re.sub(r"\b\w+_(over_\w+|around|beside|made|whole|parts)\b", "..", re.sub(r"no proof: (expected answers in \S+; )?", "", said))
+                messages += [said] * (said not in messages)
+                cell += f" {messages.index(said) + 1}"
             cells.append(cell)
         lines.append(f"| `{outer}` | " + " | ".join(cells) + " |")
     lines += ["", ", ".join(f"{cell}: {number}" for cell, number in sorted(counts.items())), ""]
-    return "\n".join([*lines, *(f"- {chr(ord('a') + at)}: {said}" for said, (at,) in messages.items())])
+    return "\n".join([*lines, *(f"{at}. {said}" for at, said in enumerate(messages, 1))])
 
 
 def main():
     words = argparse.ArgumentParser(description=__doc__, formatter_class=argparse.RawDescriptionHelpFormatter)
-    words.add_argument("folder")
+    words.add_argument("folder", type=os.path.abspath)
     words.add_argument("--only", nargs="*", default=[""])
     words.add_argument("--max", type=int, default=1000)
     words.add_argument("--batch", type=int, default=9)
-    words.add_argument("--anew", action="store_true")
     args = words.parse_args()
-    folder, kept = os.path.abspath(args.folder), os.path.abspath(f"{args.folder}/pairs.json")
+    folder, kept, state = args.folder, f"{args.folder}/pairs.json", {}
     if not os.path.exists(f"{folder}/crates.txt"):
         subprocess.run([f"{ROOT}/scripts/vendor", folder], check=True)
     with open(f"{folder}/crates.txt", "r+", encoding="utf-8") as it:
         if not re.search(rf"^{CRATE}:", it.read(), re.M):
             it.write(f"{CRATE}: tower futures thiserror\n")
-    state = {}
-    if os.path.exists(kept) and not args.anew:
+    if os.path.exists(kept):
         with open(kept, encoding="utf-8") as it:
             state = json.load(it)
-    names = [(outer, inner) for outer in WARES for inner in WARES if not WARES[outer].clones or WARES[inner].is_clone]
-    names = [it for it in names if any(word in "_over_".join(it) for word in args.only)]
+    wanted = [(outer, inner) for outer in WARES for inner in WARES if not excluded(outer, inner) and any(it in f"{outer}_over_{inner}" for it in args.only)]
     for form in ("one", "more"):
-        # In more functions is tried what isn't proved in one; a hedge always takes more.
-        left = [(*it, form) for it in names if form not in (done := state.get("_over_".join(it), {})) and (form == "one" or done.get("one") and "hedge" not in it)]
+        left = [(*it, form) for it in wanted if form not in (done := state.get("_over_".join(it), {})) and (form == "one" or done.get("one") and "hedge" not in it)]
         batches = [left[at:at + args.batch] for at in range(0, len(left), args.batch)]
         while batches and args.max > 0:
-            batch = batches.pop(0)
-            args.max -= 1
-            began, found = time.time(), check(folder, batch)
+            batch, args.max, began = batches.pop(0), args.max - 1, time.time()
+            found = check(folder, batch)
             for (outer, inner, _), said in found.items():
                 state.setdefault(f"{outer}_over_{inner}", {})[form] = said
             with open(kept, "w", encoding="utf-8") as it:
                 json.dump(state, it, indent=1)
-            print(f"{len(batch)} pairs from {'_over_'.join(batch[0][:2])}: {sum(not it for it in found.values())} proved, {time.time() - began:.0f} s", file=sys.stderr, flush=True)
+            print(f"{len(batch)} pairs from {'_over_'.join(batch[0][:2])} on, {time.time() - began:.0f} s: {list(found.values()).count('')} proved", file=sys.stderr, flush=True)
             # What wasn't decided is checked without what was, or in halves.
             rest = [it for it in batch if it not in found]
             half = len(rest) if found else len(rest) // 2
