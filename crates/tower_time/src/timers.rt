@@ -12,7 +12,7 @@ mod state;
 use crate::ticks::{LAST_TICK, nanos_until, tick_at, tick_from};
 use bell::Bell;
 use futures::spin::lock;
-use futures::task::{Context, Poll, Source};
+use futures::task::{Context, Poll, Source, Waker};
 use state::State;
 use std::alloc::Global;
 use std::marker::Model;
@@ -23,6 +23,12 @@ use tower_base::service::{Clock, Monotonic, SystemClock};
 
 /// The longest sleep of the thread, in nanoseconds: an hour.
 const LONGEST: u64 = 3_600_000_000_000;
+
+/// The shortest sleep of the thread, in nanoseconds: timers that are due within it fire in one turn.
+const SHORTEST: u64 = 500_000;
+
+/// How many timers fire while the lock is held.
+const AT_A_TIME: usize = 32;
 
 #[derive(Drop)]
 struct Shared {
@@ -37,7 +43,8 @@ struct Shared {
 /// of tokio's runtime, or of the crate `futures-timer`.
 ///
 /// They fire while a call of `beside` runs. Before it and after it, a task that waits for one of their
-/// clocks is polled again at once, as with a `SystemClock`.
+/// clocks is polled again at once, as with a `SystemClock`. The thread sleeps for 500 microseconds at
+/// least, unless a new timer is due before its next turn, so a timer may fire so much later.
 #[derive(Drop)]
 pub struct Timers<R> {
     clock: SystemClock<R>,
@@ -119,7 +126,7 @@ impl<R: rt::Clock + Copy> Timers<R> {
                 return;
             };
             let left = nanos_until(next, clock.now(), LONGEST);
-            self.shared.bell.sleep(rt, seen, left);
+            self.shared.bell.sleep(rt, seen, left.max(SHORTEST));
         }
     }
 }
@@ -141,16 +148,18 @@ impl Shared {
         let _ended = self.turn(LAST_TICK);
     }
 
-    // Fires each timer that is due at `now`, and wakes each task once the lock is free. Returns the tick of
-    // the next turn. `None` at the end.
+    // Fires each timer that is due at `now`, some at a time, and wakes their tasks once the lock is free.
+    // Returns the tick of the next turn. `None` at the end.
     fn turn(&self, now: u64) -> Option<u64> {
         for _ in 0..u64::MAX {
+            let mut wakers: [Option<Waker>; AT_A_TIME] = [const { None }; AT_A_TIME];
             let mut state = lock(&self.state)?;
-            let Some(waker) = state.fire(now) else {
-                return state.next_turn();
-            };
-            drop(state);
-            drop(waker);
+            for place in &mut wakers {
+                let Some(waker) = state.fire(now) else {
+                    return state.next_turn();
+                };
+                *place = waker;
+            }
         }
         None
     }

@@ -16,7 +16,6 @@ use tower_latch::Latch;
 
 /// The future of a response, which holds the permit of its call until it is dropped: the Rust's
 /// `tower::limit::concurrency::future::ResponseFuture`.
-#[derive(Drop)]
 pub struct ResponseFuture<F, L: Latch<LineCore>> {
     response: F,
     permit: Option<Permit<L>>,
@@ -26,6 +25,16 @@ impl<F, L: Latch<LineCore>> Model for ResponseFuture<F, L> {
     ghost Value = { ResponseFutureView F L };
 
     ghost view = { λ f. record { response = f.response; permit = f.permit } };
+}
+
+/// Dropping it drops the response and then gives the permit back.
+impl<F: Drop, L: Latch<LineCore>> Drop for ResponseFuture<F, L> {
+    #[inline(always)]
+    fn drop(self) {
+        let ResponseFuture { response, permit } = self;
+        drop(response);
+        drop(permit);
+    }
 }
 
 impl<F, L: Latch<LineCore>> ResponseFuture<F, L> {
