@@ -17,8 +17,8 @@ use std::random::RandomSource;
 use std::rt::Env;
 use std::sync::Wait;
 use std::{env, io};
-use tower::ServiceExt;
 use tower::limit::ConcurrencyLimit;
+use tower::{Service, ServiceExt};
 
 fn main(rt: HostRuntime) -> io::Result<()> {
     match tasks_of(&rt)? {
@@ -110,12 +110,23 @@ fn limited<R: Wait + RandomSource + AllocGlobal + Copy>(
     tasks: u64,
     leave: bool,
 ) -> io::Result<u64> {
-    let polls = Cell::new(0u64);
     let limit = ConcurrencyLimit::new(rt, rt.alloc(), Echo::late(), max)?;
+    each_calls(rt, limit, tasks, leave)
+}
+
+// Each task makes one call of a clone. Returns the number of polls.
+fn each_calls<R, S>(rt: R, service: S, tasks: u64, leave: bool) -> io::Result<u64>
+where
+    R: Wait + RandomSource + AllocGlobal + Copy,
+    S: Service<u64> + Clone + Drop,
+    requires sound { S.sound service }
+    requires clones { (x y : S) → S.is_clone x y → S.sound x → S.sound y }
+{
+    let polls = Cell::new(0u64);
     let mut pool = LocalPool::with_doorbell(&rt, Doorbell::parking())?;
     let spawner = pool.spawner()?;
     for number in 0..tasks {
-        let future = limit.clone()?.oneshot(number);
+        let future = service.clone()?.oneshot(number);
         let _refused = spawner.spawn(Counted::new(future, &polls, patience(leave, number)));
     }
     pool.run(&rt);

@@ -4,7 +4,6 @@
 pub mod checks;
 pub mod clock;
 pub mod future;
-pub mod handles;
 pub mod latch;
 pub mod log;
 pub mod plain;

@@ -13,15 +13,6 @@ pub enum Mood {
     Broken(u8),
 }
 
-/// The mood of these words: `willing`, `busy` or `broken 7`.
-pub fn mood_of(text: &str) -> Option<Mood> {
-    match text {
-        "willing" => Some(Mood::Willing),
-        "busy" => Some(Mood::Busy),
-        _ => Some(Mood::Broken(text.strip_prefix("broken ")?.parse().ok()?)),
-    }
-}
-
 /// What a call's future answers. While it is pending its task is woken, but by `Gated` and `Later`, and unless the log is quiet.
 #[derive(Clone, Copy, Debug, PartialEq, Eq)]
 pub enum Reply {

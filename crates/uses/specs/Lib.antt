@@ -1,1 +1,2 @@
+pub mod Permits
 pub mod Seats

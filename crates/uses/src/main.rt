@@ -65,6 +65,7 @@ fn main(rt: HostRuntime) -> io::Result<()> {
     hedge::ask_again(rt)?;
     latch::sell_two_seats(rt)?;
     permits::hold_three(rt)?;
+    permits::hold_one_each(rt)?;
     within_rate::hold_back(rt)?;
     within_rate::wait_for_each(rt)?;
     waits::within_rate(rt)?;

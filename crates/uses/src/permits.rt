@@ -1,15 +1,23 @@
-//! Permits of one semaphore, gathered from its shares: never more than it has.
-ghost use Rattle.std.specs.Prelude.{◌≤◌, IfOk};
+//! Permits of one semaphore, gathered from its shares: never more than it has; and those of the responses of
+//! a program that waits.
+ghost use Rattle.std.specs.Prelude.{◌≡◌, ◌≤◌, IfOk};
+ghost use Rattle.tower_limit.specs.Concurrency.{idle};
+ghost use Rattle.uses.specs.Permits.{RanWithPermits};
 
 use crate::server::Server;
 use futures::task::{Context, Doorbell, Poll, Solo};
 use std::alloc::{AllocError, AllocGlobal, Global};
+use std::cell::Cell;
 use std::io;
 use std::random::RandomSource;
 use std::sync::Wait;
-use tower::Service;
 use tower::latch::Latch;
-use tower::limit::concurrency::{ConcurrencyLimit, LineCore, Permit, PollSemaphore, Semaphore};
+use tower::limit::concurrency::{
+    ConcurrencyLimit, Error, LineCore, Permit, PollSemaphore, Semaphore,
+};
+use tower::util::runs;
+use tower::{BlockOnExt, Service};
+use tower_laws::concurrency_limit;
 
 // Requests a permit from each of `shares` shares. Returns how many were there at once.
 fn gathered<L: Latch<LineCore>>(
@@ -46,6 +54,29 @@ where
     }
 }
 
+// Calls a new limit with each request, and waits for each response, which holds a permit of its semaphore.
+fn ask_each<S, L, R, F>(
+    rt: &R,
+    limit: &mut ConcurrencyLimit<S, L>,
+    requests: Vec<u32>,
+    each: F,
+) -> io::Result<()>
+where
+    S: Service<u32>,
+    L: Latch<LineCore>,
+    R: Wait + RandomSource + AllocGlobal,
+    F: FnMut(Result<S::Response, Error<S::Error>>) + Drop,
+    requires new { limit.old ≡ idle limit.old.inner limit.old.asking.semaphore }
+    requires sound { S.sound limit.old.inner }
+    requires callable { F.IsAlwaysCallable each }
+    ensures { IfOk result (λ _. RanWithPermits L.Latch ⟦<ConcurrencyLimit<S, L> as Service<u32>>⟧ requests.items limit.old limit.new) }
+{
+    concurrency_limit::law::<u32, S, L>();
+    runs::loops::<u32, ConcurrencyLimit<S, L>, F>();
+    limit.block_on_each(rt, requests, each)?;
+    Ok(())
+}
+
 /// Requests the three permits of a semaphore from five shares, and then keeps the permit of a response.
 pub fn hold_three<R>(rt: R) -> io::Result<()>
 where
@@ -64,4 +95,17 @@ where
         "permits: {} of 3 at once, {free} free beside a response's",
         held?
     )
+}
+
+/// Calls a limit of two with three requests.
+pub fn hold_one_each<R>(rt: R) -> io::Result<()>
+where
+    R: Wait + RandomSource + AllocGlobal + Print + Copy,
+{
+    let (alloc, sum) = (rt.alloc(), Cell::new(0));
+    let mut limit = ConcurrencyLimit::new(rt, alloc, Server(7), 2)?;
+    ask_each(&rt, &mut limit, vec![in alloc; 1, 2, 3]?, |answer| {
+        sum.set(u32::saturating_add(sum.get(), answer.unwrap_or(0)));
+    })?;
+    println!(rt; "permits: {} in three calls", sum.get())
 }
