@@ -3,7 +3,8 @@
 
 A line is a row of a table with a column "Ours", whose first cell is a name of `tower-bench`. Its count is (that of 2N rounds less that of N) over N,
 with N 2000, by callgrind on crates/tower_bench/out/tower_bench as `rt run` builds it. Each is compared with the page: status 1 if one differs by
-more than 1. With --write the page gets what was counted; a figure above the Rust's first is bold.
+more than 1. With --write the page gets what was counted, and its picture, docs/speed.svg, is drawn anew from the page; a figure above the Rust's first
+is bold. The picture alone needs matplotlib (Debian's python3-matplotlib, for /usr/bin/python3).
 """
 import os
 import re
@@ -14,7 +15,10 @@ from concurrent.futures import ThreadPoolExecutor
 HERE = os.path.dirname(os.path.realpath(__file__))
 PROGRAM = f"{HERE}/../crates/tower_bench/out/tower_bench"
 PAGE = f"{HERE}/../docs/SPEED.md"
+PICTURE = f"{HERE}/../docs/speed.svg"
 ROUNDS = 2000
+# the ratio at which a bar of the picture is cut off
+LONGEST = 2.6
 
 
 def instructions(name, rounds):
@@ -40,6 +44,28 @@ def rows(lines):
             yield at, cells, ours
 
 
+def draw(lines):
+    """Draws a bar for each line of the page that has the Rust's figure with its optimiser free: ours over that."""
+    import matplotlib
+
+    matplotlib.use("svg")
+    matplotlib.rcParams.update({"svg.fonttype": "none", "svg.hashsalt": "speed", "font.family": "sans-serif", "font.size": 9})
+    from matplotlib import pyplot
+
+    figures = {cells[0].strip("`"): (int(cells[ours].strip("*")), cells[ours + 2]) for _, cells, ours in rows(lines) if len(cells) > ours + 2}
+    bars = [(name, ours, int(rust)) for name, (ours, rust) in figures.items() if rust.isdigit()]
+    figure, axes = pyplot.subplots(figsize=(8, 0.24 * len(bars) + 0.9), layout="constrained")
+    for at, (name, ours, rust) in enumerate(bars):
+        length = min(ours / rust, LONGEST)
+        axes.barh(at, length, color="#b5513a" if ours > rust else "#3a7a5c")
+        axes.text(max(length, 1) + 0.03, at, f"{ours} : {rust}", va="center")
+    axes.axvline(1, color="black", linewidth=0.8)
+    axes.set_yticks(range(len(bars)), [name for name, _, _ in bars])
+    axes.set(xlim=(0, LONGEST + 0.4), ylim=(len(bars) - 0.4, -0.6), xlabel="instructions a round: ours over those of the Rust's tower, its optimiser free")
+    axes.spines[["top", "right"]].set_visible(False)
+    figure.savefig(PICTURE, metadata={"Date": None})
+
+
 def main():
     words = [word for word in sys.argv[1:] if word != "--write"]
     with open(PAGE, encoding="utf-8") as page:
@@ -58,6 +84,7 @@ def main():
     if "--write" in sys.argv:
         with open(PAGE, "w", encoding="utf-8") as page:
             page.write("\n".join(lines))
+        draw(lines)
         return 0
     return 1 if differ else 0
 
