@@ -16,6 +16,7 @@ pub use tower_limit::{discover, limit, load};
 pub use tower_pool::{balance, ready_cache, spawn_ready};
 pub use tower_refusal::{Cause, Never, Own, Refusal, StackError};
 pub use tower_retry::{hedge, retry};
+pub use tower_time as time;
 pub use tower_util::make;
 pub use tower_util::make::MakeService;
 pub use tower_ware::{filter, load_shed, reconnect, steer, timeout};

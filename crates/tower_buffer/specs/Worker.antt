@@ -1,6 +1,6 @@
 -- The machine of a buffer's `Worker`. Its steps at the mail: `Take` takes the oldest message; `Live` reports whether somebody still waits for a
 -- message that was taken; and `Answer`, `Fail` and `FailStored` give a message its outcome. `gave latch
--- step reply` says that the mail returned this reply to this step.
+-- step reply` says that mail with the latch's bound had this reply to this step in some run.
 use Rattle.std.specs.Prelude.{◌≡◌, ℕ, Bool, true, false, Option, None, Some, Result, Ok, Err}
 use Rattle.futures.specs.declared.task.Poll.{Poll}
 use Rattle.futures.specs.declared.task.Poll.TheVariants.{Ready, Pending}

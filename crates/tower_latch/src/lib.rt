@@ -133,7 +133,7 @@ pub trait Core: Drop {
 
 /// A share of one core. Only a latch gives replies of the core.
 pub trait Latch<C: Core>: Sized + Drop {
-    // The step was made at this latch, and had this reply.
+    // In some run of a core with the latch's terms the step had this reply, maybe at another latch.
     ghost gave: { Self → C.Step → C.Reply → Type 0 };
 
     // It is the latch that was created with the core, not a share of another.

@@ -16,3 +16,4 @@ pub mod RetryCalls
 pub mod SelectLemmas
 pub mod SteerLemmas
 pub mod TimeoutLemmas
+pub mod WakesLemmas

@@ -17,3 +17,4 @@ pub mod Runs
 pub mod Select
 pub mod Steer
 pub mod Timeout
+pub mod Wakes

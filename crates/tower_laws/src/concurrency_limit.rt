@@ -2,6 +2,7 @@
 ghost use Rattle.std.specs.Prelude.{All, IfOk, ◌≡◌, ◌≤◌, vec_len};
 ghost use Rattle.tower_base.specs.ServiceRun.{relations};
 ghost use Rattle.tower_laws.specs.ConcurrencyLimit.{Holds, PollsKeep, ResponsesHold};
+ghost use Rattle.tower_laws.specs.Wakes.{TicketsAreNamed};
 
 use std::alloc::{AllocError, Global};
 use tower_base::service::Service;
@@ -14,6 +15,13 @@ use tower_limit::limit::concurrency::{ConcurrencyLimit, LineCore, Semaphore};
 pub fn law<Request, S: Service<Request>, L: Latch<LineCore>>()
     ensures runs { ResponsesHold L.Latch (relations ⟦<ConcurrencyLimit<S, L> as Service<Request>>⟧) }
     ensures polls { PollsKeep L.Latch S.Future.Steps.own }
+{}
+
+/// States whom a step of the line of permits wakes, if it names whoever no longer stalls, as each step of a
+/// `LineCore` does: a ticket that waits for a permit, if the step frees one for it, or ends its wait. The
+/// one that a `LineCore` names doesn't wait any more (clause `one` of its `step`).
+pub fn wakes()
+    ensures { TicketsAreNamed }
 {}
 
 /// Drops responses that hold permits of the semaphore, and gives the permits back. Returns how many

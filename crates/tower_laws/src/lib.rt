@@ -16,5 +16,6 @@ pub mod ready_cache;
 pub mod reconnect;
 pub mod retry;
 pub mod select;
+pub mod spawn_ready;
 pub mod steer;
 pub mod timeout;

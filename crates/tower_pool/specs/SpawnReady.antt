@@ -66,11 +66,11 @@ tells (Truth b) = b
 tells _ = false
 
 module _ {S E L : Type 0} (l : LatchOf L (Slot S E) (SlotStep S E) (SlotReply S E) (Unit {0})) where
-  -- This step is made at the latch.
+  -- The step had a reply, as the latch's `gave` says: in some run of a slot.
   abbrev pub StepMade : L → SlotStep S E → Type 0
   StepMade latch step = (reply : SlotReply S E) × l.gave latch step reply
 
-  -- A check for an abort was made at the latch, and found none.
+  -- A check for an abort found none, as the latch's `gave` says: in some run of a slot.
   abbrev pub IsWaitedFor : L → Type 0
   IsWaitedFor latch = (reply : SlotReply S E) × l.gave latch Aborted reply × (tells reply ≡ false)
 

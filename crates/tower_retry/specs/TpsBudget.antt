@@ -1,5 +1,5 @@
 -- The machine of a `TpsBudget`: its steps at its latch, which is a share of a core that makes the steps of Budget.antt. `gave latch step reply` says
--- that the latch returned this reply to this step, which it had in a run of such a core.
+-- that this step had this reply in some run of such a core with the latch's terms.
 use Rattle.std.specs.Prelude.{◌≡◌, Bool, Result, Ok}
 use Rattle.std.specs.declared.alloc.AllocError.{AllocError}
 use Rattle.tower_base.specs.declared.service.Clock.{Ghosts as ClockOf}

@@ -269,6 +269,7 @@ impl<K: Eq + Hash + Clone + Drop, S: Service<Req>, Req> ReadyCache<K, S, Req> {
         ensures checked { CheckedKey K.eq S.Service self.old.lists key.now result self.new.lists }
         ensures ready { IfOk result (λ is_ready. is_ready ≡ true → AtKey K.eq key.now self.new.lists.ready (λ index. At self.new.lists.ready index (λ e. S.ready e.1))) }
         ensures sound { Sound S.sound self.new.lists }
+        ensures heard { HeardFrom S.needs cx.old 0 self.old.lists.pending → HeardFrom S.needs cx.new 0 self.new.lists.pending }
         ensures kept { Keeps cx.old cx.new }
         ensures touches { self.new.touches ≤ self.old.touches + 2 }
     {
