@@ -1,16 +1,15 @@
 -- Whom a step wakes, of the line of permits and of a slot.
-use Rattle.std.proofs.Common.{◌≡◌, ◌≢◌, ◌⊎◌, inl, inr, ℕ, refl, sym, ap, ◌∙◌}
+use Rattle.std.proofs.Common.{◌≡◌, ◌⊎◌, inl, inr, ℕ, refl, ap, ◌∙◌}
 use Rattle.tower_latch.proofs.Settling.{spared_stalls}
 use Rattle.tower_latch.specs.Wakes.{IsWoken, NamesAll}
 use Rattle.tower_latch.specs.declared.Wakes.{Wakes}
 use Rattle.tower_laws.specs.Wakes.{TicketsAreNamed, OwnerIsNamed, TaskIsNamed, Waits}
-use Rattle.tower_pool.specs.Slot.{SlotSteps, Stalls, slot_step}
+use Rattle.tower_pool.specs.Slot.{Stalls, slot_step}
 use Rattle.tower_pool.specs.declared.spawn_ready.slot_core.Slot.{Slot}
 use Rattle.tower_pool.specs.declared.spawn_ready.slot_core.Slot.TheVariants.{Idle, Running, Holds, Failed, Ended, Aborted}
 use Rattle.tower_pool.specs.declared.spawn_ready.slot_core.SlotStep.{SlotStep}
 use Rattle.tower_pool.specs.declared.spawn_ready.slot_core.SlotStep.TheVariants.{Abort}
 use Rattle.tower_pool.specs.declared.spawn_ready.slot_core.SlotReply.{SlotReply}
-use Rattle.tower_pool.specs.declared.spawn_ready.slot_core.SlotReply.TheVariants.{Done}
 
 module _ {C : Type 0} (stalls : C → ℕ → Type 0) where
   -- whoever stalls no more is woken
