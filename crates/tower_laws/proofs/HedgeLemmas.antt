@@ -1,5 +1,6 @@
 -- A `Hedge` makes at most two calls.
-use Rattle.std.proofs.Common.{◌≡◌, ◌⊎◌, inl, inr, ⊎_elim, ℕ, zero, suc, ◌+◌, Bool, true, false, nat_lt, if◌then◌else◌, Option, Some, None, Result, Ok, Err, refl, ap, sym, ◌∙◌, subst, arith}
+use Rattle.std.proofs.Common.{◌≡◌, ◌⊎◌, ◌<◌, ◌≤◌, inl, inr, ⊎_elim, ℕ, zero, suc, ◌+◌, Bool, true, false, nat_lt, if◌then◌else◌, Option, Some, None, Result, Ok, Err, refl, ap, sym, ◌∙◌, subst, arith}
+use Rattle.std.proofs.lemmas.Bool.Decides.{leb_tells}
 use Rattle.std.specs.declared.clone.Clone.{Ghosts as CloneOf}
 use Rattle.std.specs.declared.convert.Infallible.{Infallible}
 use Rattle.futures.specs.declared.task.Poll.{Poll}
@@ -13,8 +14,8 @@ use Rattle.tower_laws.proofs.AsyncFilterLemmas.{checks_first}
 use Rattle.tower_laws.proofs.DelayLemmas.{calls_after_delay}
 use Rattle.tower_laws.proofs.Responses.{Forwards, answered_pending, carries}
 use Rattle.tower_laws.proofs.SelectLemmas.{first_else_second}
-use Rattle.tower_laws.specs.Delay.{CallOnceReady, PastAfter}
-use Rattle.tower_laws.specs.Hedge.{HedgesOnce, SecondSide}
+use Rattle.tower_laws.specs.Delay.{CallOnceReady}
+use Rattle.tower_laws.specs.Hedge.{CallIfAllowed, CallOnceReady as SecondOnceReady, Copies, CopiesNone, HedgesOnce, SecondSide}
 use Rattle.tower_laws.specs.Responses.{AtOnce, Call, Comes, ReadyAfter, wrapped}
 use Rattle.tower_laws.specs.Select.{SecondPends}
 use Rattle.tower_limit.specs.RotatingHistogram.{RotatingHistogramView}
@@ -33,7 +34,7 @@ use Rattle.tower_retry.specs.declared.hedge.delay.error.Error.TheVariants.{Inner
 use Rattle.tower_retry.specs.declared.hedge.delay.policy.Policy.{Ghosts as DelayPolicyOf}
 use Rattle.tower_retry.specs.declared.hedge.delay.state.State.{State as DelayState}
 use Rattle.tower_retry.specs.declared.hedge.error.Error.{Error}
-use Rattle.tower_retry.specs.declared.hedge.error.Error.TheVariants.{Inner}
+use Rattle.tower_retry.specs.declared.hedge.error.Error.TheVariants.{Inner, Memory}
 use Rattle.tower_retry.specs.declared.hedge.policy.Policy.{Ghosts as PolicyOf}
 use Rattle.tower_retry.specs.declared.hedge.select.error.Error.{Error as SelectError}
 use Rattle.tower_retry.specs.declared.hedge.select.error.Error.TheVariants.{First, Second}
@@ -41,12 +42,24 @@ use Rattle.tower_retry.specs.declared.hedge.select.policy.Policy.{Ghosts as Sele
 use Rattle.tower_util.specs.declared.util.oneshot.Oneshot.{Oneshot}
 use Rattle.tower_ware.specs.Filter.{FilterView, Polled as FilterPolled, AsyncFilterCalled, AsyncResponseFutureStepped}
 use Rattle.tower_ware.specs.declared.filter.error.Error.{Error as FilterError}
-use Rattle.tower_ware.specs.declared.filter.error.Error.TheVariants.{Inner as FilteredError}
+use Rattle.tower_ware.specs.declared.filter.error.Error.TheVariants.{Inner as FilteredError, Memory as NoFiltered}
 use Rattle.tower_ware.specs.declared.filter.predicate.AsyncPredicate.{Ghosts as AsyncPredicateOf}
 use Rattle.tower_ware.specs.declared.filter.state.AsyncState.{AsyncState}
 
 only_after : (polls before after : ℕ) → polls ≡ before + after → before ≡ 0 → polls ≡ after
 only_after polls before after sum none = omega arith
+
+few : (points least : ℕ) → suc points ≤ least → points < least
+few points least h = omega arith
+
+many : (points least : ℕ) → least < suc points → least ≤ points
+many points least h = omega arith
+
+-- whether there are enough latencies for the copy that was made
+enough : {Q : Type 0} (points least : ℕ) (made : Q) (answer : Option Q) → answer ≡ (if nat_lt points least then None else Some made)
+    → ((answer ≡ None) × (points < least)) ⊎ ((answer ≡ Some made) × (least ≤ points))
+enough points least made answer e = ⊎_elim (λ below. inl (e ∙ ap (λ (b : Bool). if b then None else Some made) below.0, few points least below.1))
+    (λ above. inr (e ∙ ap (λ (b : Bool). if b then None else Some made) above.0, many points least above.1)) (leb_tells (suc points) least)
 
 module _ {S P L C Q A E F : Type 0} (N : Type 0) (s : ServiceOf S Q A E F) (stepped : F → Poll (Result A E) → F → Type 0) (p : PolicyOf P Q)
     (policy_clone : P → P → Type 0) (service_clone : S → S → Type 0) (gave : L → HistoStep → HistoReply → Type 0) (c : ClockOf C) where
@@ -119,6 +132,12 @@ module _ {S P L C Q A E F : Type 0} (N : Type 0) (s : ServiceOf S Q A E F) (step
     readiness_inside (Ready (Err error)) answer e = inr (error, refl, cc (e))
     readiness_inside Pending answer e = absurd (cc (e))
 
+    pending_inside : (old new : Filtered) → fil.polled old Pending new → s.polled old.inner.service Pending new.inner.service
+    pending_inside old new polled =
+        let here = nest.fil_polled old Pending new polled in
+        let inside = answered_pending FilteredError here.inner here.answers in
+        nest.rec_polled old.inner Pending new.inner (subst (λ (a : Poll (Result (Unit {0}) E)). rec.polled old.inner a new.inner) inside here.polled)
+
     willing : (polls : ℕ) (old new : Filtered) → ReadyAfter fil polls old (Some (Ok tt)) new
         → ReadyAfter s polls old.inner.service (Some (Ok tt)) new.inner.service × (new.predicate ≡ old.predicate)
     willing zero old new polled =
@@ -127,24 +146,25 @@ module _ {S P L C Q A E F : Type 0} (N : Type 0) (s : ServiceOf S Q A E F) (step
         (nest.rec_polled old.inner (Ready (Ok tt)) new.inner (subst (λ (a : Poll (Result (Unit {0}) E)). rec.polled old.inner a new.inner) inside here.polled), here.same)
     willing (suc polls) old new (next, polled, rest) =
         let here = nest.fil_polled old Pending next polled in
-        let more = willing polls next new rest in
-        let inside = answered_pending FilteredError here.inner here.answers in
-        ((next.inner.service, nest.rec_polled old.inner Pending next.inner (subst (λ (a : Poll (Result (Unit {0}) E)). rec.polled old.inner a next.inner) inside here.polled), more.0), more.1 ∙ here.same)
+        let more = willing polls next new rest in ((next.inner.service, pending_inside old next polled, more.0), more.1 ∙ here.same)
+
+    unwilling : (polls : ℕ) (old new : Filtered) → ReadyAfter fil polls old None new → ReadyAfter s polls old.inner.service None new.inner.service
+    unwilling zero old new same = ap (λ (v : Filtered). v.inner.service) same
+    unwilling (suc polls) old new (next, polled, rest) = (next.inner.service, pending_inside old next polled, unwilling polls next new rest)
 
     failed : (polls : ℕ) (old new : Filtered) (error : Fails) → ReadyAfter fil polls old (Some (Err error)) new
-        → (inner : E) × (before after : S) × s.polled before (Ready (Err inner)) after × (error ≡ FilteredError inner)
+        → (inner : E) × ReadyAfter s polls old.inner.service (Some (Err inner)) new.inner.service × (error ≡ FilteredError inner)
     failed zero old new error polled =
         let here = nest.fil_polled old (Ready (Err error)) new polled in
         ⊎_elim (λ ok. absurd (let is = ok.1 in cc))
         (λ fails. let same : error ≡ FilteredError fails.0 = (let is = fails.2 in cc) in (
           fails.0,
-          old.inner.service,
-          new.inner.service,
           nest.rec_polled old.inner (Ready (Err fails.0)) new.inner (subst (λ (a : Poll (Result (Unit {0}) E)). rec.polled old.inner a new.inner) fails.1 here.polled),
           same,
         ))
         (readiness_inside here.inner (Err error) here.answers)
-    failed (suc polls) old new error (next, polled, rest) = failed polls next new error rest
+    failed (suc polls) old new error (next, polled, rest) =
+        let more = failed polls next new error rest in (more.0, (next.inner.service, pending_inside old next polled, more.1), more.2)
 
     -- the check of a policy that allows the request passes at once
     passes : (polls : ℕ) (policy : P) (request : Q) (state : CheckState Q N) (left : P) (given : Q) → PolicyChecked p policy request state left
@@ -168,6 +188,15 @@ module _ {S P L C Q A E F : Type 0} (N : Type 0) (s : ServiceOf S Q A E F) (step
         waits (suc polls) never (Given, step, rest) = nest.checked (Waiting never) Pending Given step
         waits (suc polls) never (Waiting left, step, rest) = waits polls left rest
 
+    -- A check that is pending after a poll is one of a policy that doesn't allow the request.
+    pending_check : (polls : ℕ) (policy : P) (request : Q) (state : CheckState Q N) (left : P) → PolicyChecked p policy request state left
+        → Comes check.stepped polls state None → (polls ≡ 0) ⊎ p.allowed policy request false
+    pending_check zero policy request state left asked comes = inl refl
+    pending_check (suc polls) policy request (Passed kept) left asked (next, step, rest) =
+        let here = nest.checked (Passed kept) Pending next step in absurd (let is = here.0 in cc)
+    pending_check (suc polls) policy request Given left asked comes = absurd asked.checks
+    pending_check (suc polls) policy request (Waiting never) left asked comes = inr (subst (λ (b : Bool). p.allowed policy request b) asked.checks asked.asked)
+
     -- what comes of the second side, in the errors of the delay
     abbrev Goes : HedgeView S P L C → HedgeView S P L C → Q → ℕ → Option (Result A (DelayError Fails)) → Type 0
     Goes old new request polls output = SecondSide s stepped p policy_clone service_clone gave c old new request polls (wrapped (λ e. flat (Second e)) output)
@@ -183,105 +212,144 @@ module _ {S P L C Q A E F : Type 0} (N : Type 0) (s : ServiceOf S Q A E F) (step
     nothing : {B D : Type 0} (outer : D → B) (output : Option (Result A D)) → output ≡ None → wrapped outer output ≡ None
     nothing outer output e = ap (λ (o : Option (Result A _)). wrapped outer o) e
 
-    module _ (old new : HedgeView S P L C) (request copy : Q) (copied : p.cloned old.policy.policy request (Some copy)) where
-      no_memory : (polls : ℕ) (output : Option (Result A (DelayError Fails))) → AtOnce (Err NoDelayed) polls output → Goes old new request polls output
-      no_memory polls output (at, inl none) = inr (inl (nothing (λ e. flat (Second e)) output none))
-      no_memory polls output (at, inr some) = inr (inr ((copy, copied), inl (ap (λ (o : Option (Result A (DelayError Fails))). wrapped (λ e. flat (Second e)) o) some)))
+    -- before an answer of readiness it had none
+    none_before : (polls : ℕ) (first : S) (answer : Result (Unit {0}) E) (last : S) → ReadyAfter s polls first (Some answer) last → (mid : S) × ReadyAfter s polls first None mid
+    none_before zero first answer last polled = (first, refl)
+    none_before (suc polls) first answer last (next, polled, rest) = let more = none_before polls next answer last rest in (more.0, (next, polled, more.1))
 
-      -- the answers of the filter, as those of the delay
-      abbrev Of : Option (Result A Fails) → Option (Result A (Error E))
-      Of answer = wrapped (λ e. flat (Second e)) (wrapped DelayedError answer)
+    -- In the polls before one that makes the service ready it isn't.
+    not_yet : (polls before rest : ℕ) (service willing : S) → polls ≡ before + rest → rest ≡ 0 → ReadyAfter s before service (Some (Ok tt)) willing
+        → (last : S) × ReadyAfter s polls service None last
+    not_yet polls before rest service willing sum none ready =
+        let same : before ≡ polls = omega arith in
+        let mid = none_before before service (Ok tt) willing ready in (mid.0, subst (λ (k : ℕ). ReadyAfter s k service None mid.0) same mid.1)
 
-      of_none : (answer : Option (Result A Fails)) → answer ≡ None → Of answer ≡ None
-      of_none answer e = ap Of e
+    -- the call of the filter, which passes the copy on in the poll of the check
+    with_copy : (polls rest : ℕ) (service : S) (given copy : Q) (answer : Option (Result A E)) → given ≡ copy → rest ≡ polls → Call s stepped service given polls answer
+        → Call s stepped service copy rest answer
+    with_copy polls rest service given copy answer is same call =
+        subst (λ (k : ℕ). Call s stepped service copy k answer) (sym same) (subst (λ (q : Q). Call s stepped service q polls answer) is call)
 
-      of_inner : (answer : Option (Result A E)) → Of (wrapped FilteredError answer) ≡ wrapped Inner answer
-      of_inner (Some (Ok x)) = refl
-      of_inner (Some (Err error)) = refl
-      of_inner None = refl
+    -- the answers of the filter, as those of the delay
+    abbrev Of : Option (Result A Fails) → Option (Result A (Error E))
+    Of answer = wrapped (λ e. flat (Second e)) (wrapped DelayedError answer)
 
-      as_inner : (answer : Option (Result A Fails)) (inner : Option (Result A E)) → answer ≡ wrapped FilteredError inner → Of answer ≡ wrapped Inner inner
-      as_inner answer inner is = ap Of is ∙ of_inner inner
+    of_none : (answer : Option (Result A Fails)) → answer ≡ None → Of answer ≡ None
+    of_none answer e = ap Of e
 
-      abbrev Side : ℕ → Option (Result A Fails) → Type 0
-      Side polls answer = SecondSide s stepped p policy_clone service_clone gave c old new request polls (Of answer)
+    of_inner : (answer : Option (Result A E)) → Of (wrapped FilteredError answer) ≡ wrapped Inner answer
+    of_inner (Some (Ok x)) = refl
+    of_inner (Some (Err error)) = refl
+    of_inner None = refl
 
-      filtered : (delay waited before rest polls : ℕ) (share clock : C) (clone ready : Filtered) (answer : Option (Result A Fails)) → Delayed gave c old.b.policy copy delay new.b.policy
-          → c.shared old.b.clock share → c.read share clock → PastAfter c waited clock (c.reading clock + delay) → fil_clone.is_clone old.b.service clone
-          → ReadyAfter fil before clone (Some (Ok tt)) ready → polls ≡ waited + (before + rest) → Call fil fil_stepped ready copy rest answer → Side polls answer
-      filtered delay waited before rest polls share clock clone ready answer named shared read past cloned polled sum call =
-          let law = checks_first rec rec_steps check rec_clone u ready call.left copy call.response rest answer
-          (nest.fil_called ready copy call.response call.left call.called) (steps_inside rest call.response answer call.comes) in
-          ⊎_elim (λ refused. ⊎_elim (λ none. inr (inl (of_none answer none))) (λ some. inr (inr ((copy, copied), inl (ap Of some)))) refused.2.1)
-          (λ goes. ⊎_elim (λ pends. inr (inl (of_none answer pends.1)))
-          (λ ends. ⊎_elim (λ rejected. absurd (elim rejected.0 [ ]))
-          (λ passed.
-          let at = passes passed.0 ready.predicate copy goes.0 call.left.predicate passed.3 (nest.asked ready.predicate copy goes.0 call.left.predicate goes.1) passed.4 in
-          let clones = nest.fil_cloned old.b.service clone cloned in
-          let found = willing before clone ready polled in
-          let inside = called_inside ready.inner passed.3 passed.6.response passed.6.left passed.1 passed.5 passed.6.called passed.6.comes in
-          let same : rest ≡ passed.1 = only_after rest passed.0 passed.1 passed.2 at.0 in
-          inl (
-            passed.5,
-            record {
-              copy = copy;
-              copied = copied;
-              allowed = (clone.predicate, clones.1, subst (λ (v : P). p.allowed v copy true) found.1 at.2);
-              delay = delay;
-              named = named;
-              waited = waited;
-              over = (share, clock, shared, read, past);
-              ready = (
-                clone.inner.service,
-                ready.inner.service,
-                before,
-                rest,
-                nest.rec_cloned old.b.service.inner clone.inner clones.0,
-                found.0,
-                sum,
-                subst (λ (k : ℕ). Call s stepped ready.inner.service copy k passed.5) (sym same)
-                    (subst (λ (q : Q). Call s stepped ready.inner.service q passed.1 passed.5) at.1 inside),
-              );
-            },
-            as_inner answer passed.5 passed.7,
-          ))
-          ends) goes.3)
-          law
+    as_inner : (answer : Option (Result A Fails)) (inner : Option (Result A E)) → answer ≡ wrapped FilteredError inner → Of answer ≡ wrapped Inner inner
+    as_inner answer inner is = ap Of is ∙ of_inner inner
 
-      readied : (delay waited after polls : ℕ) (share clock : C) (clone : Filtered) (answer : Option (Result A Fails)) → Delayed gave c old.b.policy copy delay new.b.policy
-          → c.shared old.b.clock share → c.read share clock → PastAfter c waited clock (c.reading clock + delay) → fil_clone.is_clone old.b.service clone
-          → polls ≡ waited + after → CallOnceReady fil fil_stepped clone copy after answer → Side polls answer
-      readied delay waited after polls share clock clone answer named shared read past cloned sum (inl ((last, ready), is)) = inr (inl (of_none answer is))
-      readied delay waited after polls share clock clone answer named shared read past cloned sum (inr (inl (error, last, ready, is))) =
-          let found = failed after clone last error ready in
-          inr (inr ((copy, copied), inr (found.0, found.1, found.2, found.3, ap Of (is ∙ ap (λ (e : Fails). Some (Err e)) found.4))))
-      readied delay waited after polls share clock clone answer named shared read past cloned sum (inr (inr (before, rest, parts, ready, polled, call))) =
-          filtered delay waited before rest polls share clock clone ready answer named shared read past cloned polled (sum ∙ ap (λ (k : ℕ). waited + k) parts) call
+    at_once_of : (polls : ℕ) (answer : Option (Result A Fails)) → AtOnce (Err NoFiltered) polls answer → AtOnce (Err Memory) polls (Of answer)
+    at_once_of polls answer (at, inl none) = (at, inl (of_none answer none))
+    at_once_of polls answer (at, inr some) = (at, inr (ap Of some))
 
-      second : (future : DelayedFuture) (polls : ℕ) (output : Option (Result A (DelayError Fails))) → DelayCalled named fil_clone c old.b copy future new.b
-          → Comes (DelayStepped fil fil_stepped c) polls future output → Goes old new request polls output
-      second future polls output called comes =
-          ⊎_elim (λ refused. no_memory polls output refused.1)
-          (λ goes.
-          ⊎_elim (λ waits. inr (inl (nothing (λ e. flat (Second e)) output waits.1)))
-          (λ over. subst (λ (o : Option (Result A (DelayError Fails))). Goes old new request polls o) (sym over.6)
-          (readied goes.0 over.0 over.1 polls goes.4 goes.5 goes.2 over.4 (nest.delayed old.b.policy copy goes.0 new.b.policy goes.1) goes.6 goes.7 over.3 goes.3 over.2 over.5))
-          goes.8)
-          (calls_after_delay fil fil_stepped c named fil_clone old.b new.b copy future polls output called comes)
+    no_memory : (polls : ℕ) (output : Option (Result A (DelayError Fails))) → AtOnce (Err NoDelayed) polls output → AtOnce (Err Memory) polls (wrapped (λ e. flat (Second e)) output)
+    no_memory polls output (at, inl none) = (at, inl (nothing (λ e. flat (Second e)) output none))
+    no_memory polls output (at, inr some) = (at, inr (ap (λ (o : Option (Result A (DelayError Fails))). wrapped (λ e. flat (Second e)) o) some))
 
-    copy_is : (points least : ℕ) (made copy : Q) → Some copy ≡ (if nat_lt points least then None else Some made) → made ≡ copy
-    copy_is points least made copy e = by (nat_lt points least) e
+    abbrev OnceReady : P → S → Q → ℕ → Option (Result A (Error E)) → Type 0
+    OnceReady = SecondOnceReady s stepped p policy_clone service_clone gave c
+
+    filtered : (before rest polls : ℕ) (clone ready : Filtered) (copy : Q) (answer : Option (Result A Fails)) → ReadyAfter fil before clone (Some (Ok tt)) ready
+        → polls ≡ before + rest → Call fil fil_stepped ready copy rest answer → OnceReady clone.predicate clone.inner.service copy polls (Of answer)
+    filtered before rest polls clone ready copy answer polled sum call =
+        let law = checks_first rec rec_steps check rec_clone u ready call.left copy call.response rest answer
+        (nest.fil_called ready copy call.response call.left call.called) (steps_inside rest call.response answer call.comes) in
+        let found = willing before clone ready polled in
+        let goes : CallIfAllowed s stepped p policy_clone service_clone gave c clone.predicate ready.inner.service copy rest (Of answer)
+        → OnceReady clone.predicate clone.inner.service copy polls (Of answer) = λ after. inr (inr (before, rest, sum, ready.inner.service, found.0, after)) in
+        ⊎_elim (λ refused. goes (inl (at_once_of rest answer refused.2)))
+        (λ asks. ⊎_elim
+        (λ pends. ⊎_elim
+        (λ none. inl (not_yet polls before rest clone.inner.service ready.inner.service sum none found.0, of_none answer pends.1))
+        (λ not. goes (inr (inl (subst (λ (v : P). p.allowed v copy false) found.1 not, of_none answer pends.1))))
+        (pending_check rest ready.predicate copy asks.0 call.left.predicate (nest.asked ready.predicate copy asks.0 call.left.predicate asks.1) pends.0))
+        (λ ends. ⊎_elim (λ rejected. absurd (elim rejected.0 [ ]))
+        (λ passed.
+        let at = passes passed.0 ready.predicate copy asks.0 call.left.predicate passed.3 (nest.asked ready.predicate copy asks.0 call.left.predicate asks.1) passed.4 in
+        let inside = called_inside ready.inner passed.3 passed.6.response passed.6.left passed.1 passed.5 passed.6.called passed.6.comes in
+        let same : rest ≡ passed.1 = only_after rest passed.0 passed.1 passed.2 at.0 in
+        goes (inr (inr (
+          subst (λ (v : P). p.allowed v copy true) found.1 at.2,
+          passed.5,
+          with_copy passed.1 rest ready.inner.service passed.3 copy passed.5 at.1 same inside,
+          as_inner answer passed.5 passed.7,
+        ))))
+        ends) asks.3)
+        law
+
+    readied : (polls : ℕ) (clone : Filtered) (copy : Q) (answer : Option (Result A Fails)) → CallOnceReady fil fil_stepped clone copy polls answer
+        → OnceReady clone.predicate clone.inner.service copy polls (Of answer)
+    readied polls clone copy answer (inl ((last, ready), is)) = inl ((last.inner.service, unwilling polls clone last ready), of_none answer is)
+    readied polls clone copy answer (inr (inl (error, last, ready, is))) =
+        let found = failed polls clone last error ready in
+        inr (inl (found.0, last.inner.service, found.1, ap Of (is ∙ ap (λ (e : Fails). Some (Err e)) found.2)))
+    readied polls clone copy answer (inr (inr (before, rest, sum, ready, polled, call))) = filtered before rest polls clone ready copy answer polled sum call
+
+    second : (old new : HedgeView S P L C) (request copy : Q) → Copies s stepped p policy_clone service_clone gave c old new request copy → (future : DelayedFuture) (polls : ℕ)
+        (output : Option (Result A (DelayError Fails))) → DelayCalled named fil_clone c old.b copy future new.b → Comes (DelayStepped fil fil_stepped c) polls future output
+        → Goes old new request polls output
+    second old new request copy copies future polls output called comes = ⊎_elim
+        (λ refused. inr (copy, copies, called.delay, nest.delayed old.b.policy copy called.delay new.b.policy called.delayed, inl (no_memory polls output refused.1)))
+        (λ goes. inr (
+          copy,
+          copies,
+          goes.0,
+          nest.delayed old.b.policy copy goes.0 new.b.policy goes.1,
+          inr (
+            goes.4,
+            goes.5,
+            goes.6,
+            goes.7,
+            ⊎_elim
+                (λ waits. inl (waits.0, nothing (λ e. flat (Second e)) output waits.1))
+                (λ over.
+                let clones = nest.fil_cloned old.b.service goes.2 goes.3 in
+                let is : wrapped (λ e. flat (Second e)) output ≡ Of over.4 = ap (λ (o : Option (Result A (DelayError Fails))). wrapped (λ e. flat (Second e)) o) over.6 in
+                inr (
+                  over.0,
+                  over.1,
+                  over.2,
+                  over.3,
+                  goes.2.predicate,
+                  clones.1,
+                  goes.2.inner.service,
+                  nest.rec_cloned old.b.service.inner goes.2.inner clones.0,
+                  subst (λ (o : Option (Result A (Error E))). OnceReady goes.2.predicate goes.2.inner.service copy over.1 o) (sym is) (readied over.1 goes.2 copy over.4 over.5),
+                ))
+                goes.8,
+          ),
+        ))
+        (calls_after_delay fil fil_stepped c named fil_clone old.b new.b copy future polls output called comes)
+
+    copied_some : (old new : HedgeView S P L C) (request copy : Q) → Copied p gave c old.policy request (Some copy) new.policy
+        → Copies s stepped p policy_clone service_clone gave c old new request copy
+    copied_some old new request copy made = by made.copy made.cloned made.kept
       where
-        by : (b : Bool) → Some copy ≡ (if b then None else Some made) → made ≡ copy
-        by true e = absurd (cc e)
-        by false e = cc (e)
-
-    copied_by : (old : SelectPolicyView P L C) (request copy : Q) (new : SelectPolicyView P L C) → Copied p gave c old request (Some copy) new → p.cloned old.policy request (Some copy)
-    copied_by old request copy new made = by made.copy made.cloned made.kept
-      where
-        by : (given : Option Q) → p.cloned old.policy request given → AfterCopy p gave c given old.min_data_points old.histogram (Some copy) new.histogram → p.cloned old.policy request (Some copy)
-        by (Some given) cloned (points, counted, is) = subst (λ (q : Q). p.cloned old.policy request (Some q)) (copy_is points old.min_data_points given copy is) cloned
+        by : (given : Option Q) → p.cloned old.policy.policy request given
+            → AfterCopy p gave c given old.policy.min_data_points old.policy.histogram (Some copy) new.policy.histogram
+            → Copies s stepped p policy_clone service_clone gave c old new request copy
+        by (Some given) cloned (points, counted, is) = ⊎_elim (λ below. absurd (let no = below.0 in cc))
+            (λ above. let same : given ≡ copy = (let e = above.0 in cc) in (subst (λ (q : Q). p.cloned old.policy.policy request (Some q)) same cloned, points, counted, above.1))
+            (enough points old.policy.min_data_points given (Some copy) is)
         by None cloned (is, same) = absurd (cc (is))
+
+    copied_none : (old new : HedgeView S P L C) (request : Q) → Copied p gave c old.policy request None new.policy
+        → CopiesNone s stepped p policy_clone service_clone gave c old new request
+    copied_none old new request made = by made.copy made.cloned made.kept
+      where
+        by : (given : Option Q) → p.cloned old.policy.policy request given
+            → AfterCopy p gave c given old.policy.min_data_points old.policy.histogram None new.policy.histogram
+            → CopiesNone s stepped p policy_clone service_clone gave c old new request
+        by (Some given) cloned (points, counted, is) = ⊎_elim (λ below. inr (given, cloned, points, counted, below.1)) (λ above. absurd (let no = above.0 in cc))
+            (enough points old.policy.min_data_points given None is)
+        by None cloned (is, same) = inl cloned
 
     module _ (delayed : ServiceOf DelayedService Q A (DelayError Fails) DelayedFuture) (del_steps : StepsOf DelayedFuture (Result A (DelayError Fails)))
         (del_called : (old : DelayedService) (request : Q) (future : DelayedFuture) (new : DelayedService) → delayed.called old request future new
@@ -302,14 +370,15 @@ module _ {S P L C Q A E F : Type 0} (N : Type 0) (s : ServiceOf S Q A E F) (step
           → Copied p gave c old.policy request copy new.policy → SecondCalled copies rec delayed old.b copy (Some future) new.b → Comes del_steps.stepped polls future output
           → Goes old new request polls output
       side old new request (Some copy) future polls output made called comes =
-          second old new request copy (copied_by old.policy request copy new.policy made) future polls output (del_called old.b copy future new.b called.1) (del_inside polls future output comes)
+          second old new request copy (copied_some old new request copy made) future polls output (del_called old.b copy future new.b called.1) (del_inside polls future output comes)
       side old new request None future polls output made none comes = absurd none
 
       pends : (old new : HedgeView S P L C) (request : Q) (copy : Option Q) (future : Option DelayedFuture) (polls : ℕ) → Copied p gave c old.policy request copy new.policy
           → SecondCalled copies rec delayed old.b copy future new.b → SecondPends rec_steps del_steps polls future
           → SecondSide s stepped p policy_clone service_clone gave c old new request polls None
       pends old new request copy (Some future) polls made called comes = side old new request copy future polls None made called comes
-      pends old new request copy None polls made called comes = inr (inl refl)
+      pends old new request None None polls made same comes = inl (copied_none old new request made, same, refl)
+      pends old new request (Some copy) None polls made none comes = absurd none
 
       abbrev Outside : HedgeFuture → Poll (Result A (SelectError E (DelayError Fails))) → HedgeFuture → Type 0
       Outside = SelectStepped rec_steps del_steps

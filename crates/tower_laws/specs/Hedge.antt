@@ -1,11 +1,11 @@
 -- What a `Hedge` keeps to, over one response.
-use Rattle.std.specs.Prelude.{◌≡◌, ◌⊎◌, ℕ, suc, ◌+◌, true, Option, Some, None, Result, Ok, Err}
+use Rattle.std.specs.Prelude.{◌≡◌, ◌⊎◌, ◌<◌, ◌≤◌, ℕ, suc, ◌+◌, true, false, Option, Some, None, Result, Ok, Err}
 use Rattle.futures.specs.declared.task.Poll.{Poll}
-use Rattle.futures.specs.declared.task.Poll.TheVariants.{Ready}
 use Rattle.tower_base.specs.declared.service.Clock.{Ghosts as ClockOf}
 use Rattle.tower_base.specs.declared.service.Service.{Ghosts as ServiceOf}
-use Rattle.tower_laws.specs.Delay.{PastAfter}
-use Rattle.tower_laws.specs.Responses.{Call, Comes, ReadyAfter, wrapped}
+use Rattle.tower_laws.specs.Delay.{BeforeFor, PastAfter}
+use Rattle.tower_laws.specs.Responses.{AtOnce, Call, Comes, ReadyAfter, wrapped}
+use Rattle.tower_limit.specs.RotatingHistogram.{Counted}
 use Rattle.tower_limit.specs.declared.hedge.rotating_histogram.steps.HistoStep.{HistoStep}
 use Rattle.tower_limit.specs.declared.hedge.rotating_histogram.steps.HistoReply.{HistoReply}
 use Rattle.tower_retry.specs.Hedge.{HedgeView}
@@ -16,25 +16,45 @@ use Rattle.tower_retry.specs.declared.hedge.policy.Policy.{Ghosts as PolicyOf}
 
 module _ {S P L C Q A E F : Type 0} (s : ServiceOf S Q A E F) (stepped : F → Poll (Result A E) → F → Type 0) (p : PolicyOf P Q)
     (policy_clone : P → P → Type 0) (service_clone : S → S → Type 0) (gave : L → HistoStep → HistoReply → Type 0) (c : ClockOf C) where
-  -- The second call: of a copy that the policy made and, as a clone of it said, may be tried; after the delay that the histogram named, from a
-  -- reading at the call on; of a clone of the service, once that is ready.
-  pub record SecondCall (old new : HedgeView S P L C) (request : Q) (polls : ℕ) (answer : Option (Result A E)) : Type 0 where
-    pub copy : Q
-    pub copied : p.cloned old.policy.policy request (Some copy)
-    pub allowed : (policy : P) × policy_clone old.b.service.predicate policy × p.allowed policy copy true
-    pub delay : ℕ
-    pub named : Delayed gave c old.b.policy copy delay new.b.policy
-    pub waited : ℕ
-    pub over : (share clock : C) × c.shared old.b.clock share × c.read share clock × PastAfter c waited clock (c.reading clock + delay)
-    pub ready : (clone willing : S) × (before after : ℕ) × service_clone old.b.service.inner.service clone × ReadyAfter s before clone (Some (Ok tt)) willing
-        × (polls ≡ waited + (before + after)) × Call s stepped willing copy after answer
+  -- The policy made a copy, and there are enough latencies.
+  abbrev pub Copies : HedgeView S P L C → HedgeView S P L C → Q → Q → Type 0
+  Copies old new request copy = p.cloned old.policy.policy request (Some copy)
+      × (points : ℕ) × Counted gave c old.policy.histogram points new.policy.histogram × (old.policy.min_data_points ≤ points)
 
-  -- What comes of the second side. Without a call it is nothing, or it is the error of a clone's readiness, or `Memory`.
+  -- The policy made no copy, or there are too few latencies.
+  abbrev pub CopiesNone : HedgeView S P L C → HedgeView S P L C → Q → Type 0
+  CopiesNone old new request = p.cloned old.policy.policy request None ⊎ ((copy : Q) × p.cloned old.policy.policy request (Some copy)
+      × (points : ℕ) × Counted gave c old.policy.histogram points new.policy.histogram × (points < old.policy.min_data_points))
+
+  -- The service is ready. It isn't called if the clone that its call needs was refused, which is `Memory`, or if the policy doesn't allow the copy: then
+  -- nothing comes, ever. Otherwise it is called with the copy in that same poll, once.
+  abbrev pub CallIfAllowed : P → S → Q → ℕ → Option (Result A (Error E)) → Type 0
+  CallIfAllowed policy service copy polls output = AtOnce (Err Memory) polls output
+      ⊎ ((p.allowed policy copy false × (output ≡ None))
+      ⊎ (p.allowed policy copy true × (answer : Option (Result A E)) × Call s stepped service copy polls answer × (output ≡ wrapped Inner answer)))
+
+  -- The service isn't ready yet, or its readiness fails: then there is no call. Or it is ready.
+  abbrev pub CallOnceReady : P → S → Q → ℕ → Option (Result A (Error E)) → Type 0
+  CallOnceReady policy service copy polls output =
+      (((last : S) × ReadyAfter s polls service None last) × (output ≡ None))
+      ⊎ (((error : E) × (last : S) × ReadyAfter s polls service (Some (Err error)) last × (output ≡ Some (Err (Inner error))))
+      ⊎ ((before after : ℕ) × (polls ≡ before + after) × (willing : S) × ReadyAfter s before service (Some (Ok tt)) willing
+      × CallIfAllowed policy willing copy after output))
+
+  -- The delay, from a reading at the call on, isn't over. Or it is, and a clone of the service is polled, with the leave of a clone of the policy.
+  abbrev pub CallAfter : HedgeView S P L C → ℕ → Q → ℕ → Option (Result A (Error E)) → Type 0
+  CallAfter old delay copy polls output = (share clock : C) × c.shared old.b.clock share × c.read share clock
+      × ((((last : C) × BeforeFor c polls clock (c.reading clock + delay) last) × (output ≡ None))
+      ⊎ ((before after : ℕ) × (polls ≡ before + after) × PastAfter c before clock (c.reading clock + delay)
+      × (policy : P) × policy_clone old.b.service.predicate policy × (service : S) × service_clone old.b.service.inner.service service
+      × CallOnceReady policy service copy after output))
+
+  -- What comes of the second side. Without a copy nothing does, and that side stays as it was. With one its delay is the one that the histogram names. If
+  -- a clone was refused at the call, `Memory` comes.
   abbrev pub SecondSide : HedgeView S P L C → HedgeView S P L C → Q → ℕ → Option (Result A (Error E)) → Type 0
-  SecondSide old new request polls output =
-      ((answer : Option (Result A E)) × SecondCall old new request polls answer × (output ≡ wrapped Inner answer))
-      ⊎ ((output ≡ None) ⊎ (((copy : Q) × p.cloned old.policy.policy request (Some copy)) × ((output ≡ Some (Err Memory))
-      ⊎ ((error : E) × (before after : S) × s.polled before (Ready (Err error)) after × (output ≡ Some (Err (Inner error)))))))
+  SecondSide old new request polls output = (CopiesNone old new request × (new.b ≡ old.b) × (output ≡ None))
+      ⊎ ((copy : Q) × Copies old new request copy × (delay : ℕ) × Delayed gave c old.b.policy copy delay new.b.policy
+      × (AtOnce (Err Memory) polls output ⊎ CallAfter old delay copy polls output))
 
   -- The first side makes one call. Its answer is returned, and the second side had none before. Or the second side's is, and the first has none in
   -- that poll either.

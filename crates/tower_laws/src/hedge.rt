@@ -6,10 +6,13 @@ use tower_latch::Latch;
 use tower_retry::hedge::rotating_histogram::HistoCore;
 use tower_retry::hedge::{Hedge, Policy};
 
-/// States of each response: it makes at most two calls. The second is of a copy that the policy made and
-/// said may be tried, after the delay that the histogram named, of a clone that is ready, if the first had
-/// no answer before. The answer is that of the side that answers first, and the first side's if both do in
-/// the same poll; an error of the second side's readiness, or `Memory`, counts as its answer.
+/// States of each response: it makes at most two calls. The second is of a copy that the policy made with
+/// enough latencies and a clone of it allows, after the delay that the histogram named, of a clone of the
+/// service that is ready, if the first had no answer before. While the second side has no answer, there is
+/// no copy, or the delay isn't over, the clone isn't ready, the copy isn't allowed or the call is pending.
+///
+/// The answer is that of the side that answers first, and the first side's if both do in the same poll. An
+/// error of the clone's readiness after the delay, or `Memory`, counts as the second side's answer.
 pub fn law<Request, S, P, L, C>()
 where
     Request: Drop,
