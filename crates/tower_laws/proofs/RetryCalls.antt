@@ -87,6 +87,6 @@ module _ {P S Q A E F W : Type 0} (s : ServiceOf S Q A E F) (stepped : F → Pol
   pub answers_count_calls : (policy_clone : CloneOf P) (service_clone : CloneOf S) → AnswersCountCalls s stepped p waited policy_clone service_clone
   answers_count_calls policy_clone service_clone old request (Some first) new output called gives =
       let found = gives_answers s stepped p waited policy_clone service_clone old request (Some first) new output called gives in
-      let count = counted found.0 request first output found.1 in (found.0, found.1, count.0, count.1)
+      let count = counted found.0 request first output found.1 in (found.0, found.1, count.0, called.begins.1, count.1)
   answers_count_calls policy_clone service_clone old request None new output called gives =
-      gives_answers s stepped p waited policy_clone service_clone old request None new output called gives
+      (called.begins, gives_answers s stepped p waited policy_clone service_clone old request None new output called gives)

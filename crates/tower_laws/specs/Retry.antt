@@ -38,13 +38,14 @@ module _ {P S Q A E F W : Type 0} (s : ServiceOf S Q A E F) (stepped : F → Pol
   OneMore attempts output = (length attempts ≡ retries attempts + 1) ⊎ ((length attempts ≡ retries attempts)
       × ((error : E) × (old new : S) × s.polled old (Ready (Err error)) new × (output ≡ Err (Inner error))))
 
-  -- The answer is that of a list of attempts. The call makes the first, and a run of the clone that the future has makes just the others.
-  abbrev pub CallsPerAttempt : Q → ResponseFutureView P S Q F W → Result A (Error E) → Type 0
-  CallsPerAttempt request (Some first) output = (attempts : List (Attempt Q A E W)) × Attempted s stepped p waited attempts request first output
-      × OneMore attempts output × ((last : S) × Makes (relations s) first.service (asked_again attempts) last)
-  CallsPerAttempt request None output = output ≡ Err Memory
+  module _ (policy_clone : CloneOf P) (service_clone : CloneOf S) where
+    -- The answer is that of a list of attempts. The call makes the first, and a run of the clone that the future has makes just the others. Without one, a
+    -- clone of the policy or of the service was refused, and the answer is `Memory`.
+    abbrev pub CallsPerAttempt : RetryView P S → Q → ResponseFutureView P S Q F W → Result A (Error E) → Type 0
+    CallsPerAttempt left request (Some first) output = (attempts : List (Attempt Q A E W)) × Attempted s stepped p waited attempts request first output × OneMore attempts output
+        × service_clone.is_clone left.service first.service × ((last : S) × Makes (relations s) first.service (asked_again attempts) last)
+    CallsPerAttempt left request None output = ¬ (policy_clone.is_infallible left.policy × service_clone.is_infallible left.service) × (output ≡ Err Memory)
 
-  abbrev pub AnswersCountCalls : CloneOf P → CloneOf S → Type 0
-  AnswersCountCalls policy_clone service_clone = (old : RetryView P S) (request : Q) (future : ResponseFutureView P S Q F W) (new : RetryView P S)
-      (output : Result A (Error E)) → Called s p policy_clone service_clone old request future new
-      → MayGive (Stepped s stepped p waited) future output → CallsPerAttempt request future output
+    abbrev pub AnswersCountCalls : Type 0
+    AnswersCountCalls = (old : RetryView P S) (request : Q) (future : ResponseFutureView P S Q F W) (new : RetryView P S) (output : Result A (Error E))
+        → Called s p policy_clone service_clone old request future new → MayGive (Stepped s stepped p waited) future output → CallsPerAttempt new request future output
