@@ -87,7 +87,7 @@ module _ {K S Q A E G : Type 0} (eq : K → K → Bool) (s : ServiceOf S Q A E G
 
 -- the choice of an index
 module _ {R K S M : Type 0} (loaded : S → M → Type 0) (cmp : M → M → Option Ordering) (drew : R → ℕ → R → Type 0) where
-  picked : (es ready : List (K × S)) (old : R) (index : Option ℕ) (new : R) (i : ℕ) → ready ≡ es → PickedOf loaded cmp drew es ready old index new → index ≡ Some i → IsChosen loaded cmp drew ready i
+  picked : (es ready : List (K × S)) (old : R) (index : Option ℕ) (new : R) (i : ℕ) → ready ≡ es → PickedOf loaded cmp drew es ready old index new → index ≡ Some i → IsChosen loaded cmp drew ready new i
   picked [] ready old index new i is h at = absurd (let no : index ≡ None = h.0 in cc)
   picked (e ∷ []) ready old index new i is h at = inl (ap length is, same_index i 0 (sym at ∙ h.0))
   picked (e ∷ f ∷ es) ready old index new i is h at =
@@ -96,7 +96,6 @@ module _ {R K S M : Type 0} (loaded : S → M → Type 0) (cmp : M → M → Opt
         h.0,
         h.1,
         old,
-        new,
         h.3,
         lighter.0,
         lighter.1,
@@ -160,24 +159,24 @@ module _ {D R K S Q A E G M : Type 0} (X : Type 0) (eq : K → K → Bool) (s : 
           (i, is, found.key, found.service, here, (found.before, found.ready), inner, called.left, subst (λ (x : S). s.called x request inner called.left) service called.called, given)
 
   -- the choice
-  chooses : (old new : BalanceView D R K S) (answer : Option (Poll (Result (Unit {0}) (Error E X)))) (i : ℕ) → Chooses eq s loaded cmp drew old answer new → new.kept ≡ Some i → IsChosen loaded cmp drew new.services.ready i
+  chooses : (old new : BalanceView D R K S) (answer : Option (Poll (Result (Unit {0}) (Error E X)))) (i : ℕ) → Chooses eq s loaded cmp drew old answer new → new.kept ≡ Some i → IsChosen loaded cmp drew new.services.ready new.rng i
   chooses old new answer i h kept =
       let index : h.0 ≡ Some i = sym (ap (λ (v : BalanceView D R K S). v.kept) h.4) ∙ kept in
-      subst (λ (es : List (K × S)). IsChosen loaded cmp drew es i) (sym (ap (λ (v : BalanceView D R K S). v.services.ready) h.4)) (picked loaded cmp drew old.services.ready old.services.ready old.rng h.0 h.1 i refl h.2 index)
+      subst (λ (v : BalanceView D R K S). IsChosen loaded cmp drew v.services.ready v.rng i) (sym h.4) (picked loaded cmp drew old.services.ready old.services.ready old.rng h.0 h.1 i refl h.2 index)
 
   -- a pass that is not the last
-  passes_on : (kept : Option ℕ) (old new : BalanceView D R K S) (i : ℕ) → PassAt {X = X} eq s loaded cmp drew kept old None new → new.kept ≡ Some i → IsChosen loaded cmp drew new.services.ready i
+  passes_on : (kept : Option ℕ) (old new : BalanceView D R K S) (i : ℕ) → PassAt {X = X} eq s loaded cmp drew kept old None new → new.kept ≡ Some i → IsChosen loaded cmp drew new.services.ready new.rng i
   passes_on None old new i h at = chooses old new None i h at
   passes_on (Some j) old new i h at = by h.0 h.3
     where
-      by : (inner : Result Bool (Failed K E)) → AfterCheck {X = X} eq s loaded cmp drew (record old { services = h.1 }) j inner None new → IsChosen loaded cmp drew new.services.ready i
+      by : (inner : Result Bool (Failed K E)) → AfterCheck {X = X} eq s loaded cmp drew (record old { services = h.1 }) j inner None new → IsChosen loaded cmp drew new.services.ready new.rng i
       by (Ok true) after = absurd (let no = after.1 in cc)
       by (Ok false) after = chooses (record old { services = h.1 }) new None i after at
       by (Err x) after = chooses (record old { services = h.1 }) new None i after at
 
   -- The index was kept at first, or chosen from the endpoints that are ready.
   abbrev Kept_from : BalanceView D R K S → BalanceView D R K S → ℕ → Type 0
-  Kept_from old new i = (old.kept ≡ Some i) ⊎ IsChosen loaded cmp drew new.services.ready i
+  Kept_from old new i = (old.kept ≡ Some i) ⊎ IsChosen loaded cmp drew new.services.ready new.rng i
 
   went : (n : ℕ) (old new : BalanceView D R K S × List (K × S)) (i : ℕ) → Goes (CountedPass {X = X} eq s loaded cmp drew) n old new → new.0.kept ≡ Some i → Kept_from old.0 new.0 i
   unfolding Goes
@@ -185,7 +184,7 @@ module _ {D R K S Q A E G M : Type 0} (X : Type 0) (eq : K → K → Bool) (s : 
   went (suc n) old new i h at = inr (passes_on h.0.0.kept h.0.0 new.0 i h.2.0 at)
 
   abbrev Keeps : BalanceView D R K S → BalanceView D R K S → ℕ → Type 0
-  Keeps old new i = (old.kept ≡ Some i) ⊎ ((ready : List (K × S)) × (left : S) × (new.services.ready ≡ set_value_at ready i left) × IsChosen loaded cmp drew ready i)
+  Keeps old new i = (old.kept ≡ Some i) ⊎ ((ready : List (K × S)) × (left : S) × (new.services.ready ≡ set_value_at ready i left) × IsChosen loaded cmp drew ready new.rng i)
 
   last_pass : (first : BalanceView D R K S) (kept : Option ℕ) (old new : BalanceView D R K S) (answer : Poll (Result (Unit {0}) (Error E X))) (i : ℕ) → old.kept ≡ kept
       → ((j : ℕ) → old.kept ≡ Some j → Kept_from first old j) → PassAt {X = X} eq s loaded cmp drew kept old (Some answer) new → new.kept ≡ Some i → Keeps first new i
@@ -199,7 +198,9 @@ module _ {D R K S Q A E G M : Type 0} (X : Type 0) (eq : K → K → Bool) (s : 
           let here : i ≡ j = same_index i j (sym at ∙ ap (λ (v : BalanceView D R K S). v.kept) after.2 ∙ is) in
           let written : new.services.ready ≡ set_value_at old.services.ready i still.left =
           ap (λ (v : BalanceView D R K S). v.services.ready) after.2 ∙ still.written ∙ ap (λ (k : ℕ). set_value_at old.services.ready k still.left) (sym here) in
-          ⊎_elim (λ kept. inl kept) (λ chosen. inr (old.services.ready, still.left, written, chosen)) (from i (is ∙ ap Some (sym here)))
+          let rng : new.rng ≡ old.rng = ap (λ (v : BalanceView D R K S). v.rng) after.2 in
+          ⊎_elim (λ kept. inl kept)
+          (λ chosen. inr (old.services.ready, still.left, written, subst (λ (g : R). IsChosen loaded cmp drew old.services.ready g i) (sym rng) chosen)) (from i (is ∙ ap Some (sym here)))
       by (Ok false) checked after = absurd (let no = goes_on {E = E} {X = X} after.0 answer (sym after.3) in let f : after.0 ≡ Some i = sym (ap (λ (v : BalanceView D R K S). v.kept) after.4) ∙ at in let g = no.0 in cc)
       by (Err x) checked after = absurd (let no = goes_on {E = E} {X = X} after.0 answer (sym after.3) in let f : after.0 ≡ Some i = sym (ap (λ (v : BalanceView D R K S). v.kept) after.4) ∙ at in let g = no.0 in cc)
 

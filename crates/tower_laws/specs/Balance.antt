@@ -44,11 +44,11 @@ module _ {K S : Type 0} (eq : K → K → Bool) where
     pub stays : All (λ (change : Change K S). removes key change ≡ false) after
     pub leads : RunInside (relations s) (λ requests. Unit {0}) first service
 
--- The index is that of the only one of these ready endpoints. Or two of them were drawn, and it is the first's if its load is at most the second's, and
--- else the second's.
-abbrev pub IsChosen : {R K S M : Type 0} → (S → M → Type 0) → (M → M → Option Ordering) → (R → ℕ → R → Type 0) → List (K × S) → ℕ → Type 0
-IsChosen {R} {K} {S} {M} loaded cmp drew ready index = ((length ready ≡ 1) × (index ≡ 0))
-    ⊎ ((first second : ℕ) × (old new : R) × Drawn drew old (length ready) (first ∷ second ∷ []) new
+-- The index is that of the only one of these ready endpoints. Or two of them were drawn, which left the generator so, and it is the first's if its load is
+-- at most the second's, and else the second's.
+abbrev pub IsChosen : {R K S M : Type 0} → (S → M → Type 0) → (M → M → Option Ordering) → (R → ℕ → R → Type 0) → List (K × S) → R → ℕ → Type 0
+IsChosen {R} {K} {S} {M} loaded cmp drew ready rng index = ((length ready ≡ 1) × (index ≡ 0))
+    ⊎ ((first second : ℕ) × (before : R) × Drawn drew before (length ready) (first ∷ second ∷ []) rng
     × (load other : M) × At ready first (λ e. loaded e.1 load) × At ready second (λ e. loaded e.1 other)
     × (index ≡ (if partial_le cmp load other then first else second)))
 
@@ -66,12 +66,12 @@ module _ {D R K S Q A E G X M B : Type 0} (balance : Relations B Q (Error E X) (
   CallsReachKept = (old mid new : B) (request : Q) (future : Option G) → balance.polled old (Ready (Ok tt)) mid → balance.called mid request future new
       → Reaches s (view mid) request future
 
-  -- The index that a poll keeps was kept before it, or it was chosen in it, so, from the endpoints that are ready still. (Since then that one was polled
-  -- once more.)
+  -- The index that a poll keeps was kept before it, or it was chosen in it, so, from the endpoints that are ready still, by the balancer's generator. (Since
+  -- then that one was polled once more.)
   abbrev pub KeepsChosen : Type 0
   KeepsChosen = (old new : B) (answer : Poll (Result (Unit {0}) (Error E X))) (index : ℕ) → balance.polled old answer new → (view new).kept ≡ Some index
       → ((view old).kept ≡ Some index)
-      ⊎ ((ready : List (K × S)) × (left : S) × ((view new).services.ready ≡ set_value_at ready index left) × IsChosen loaded cmp drew ready index)
+      ⊎ ((ready : List (K × S)) × (left : S) × ((view new).services.ready ≡ set_value_at ready index left) × IsChosen loaded cmp drew ready (view new).rng index)
 
   -- So came each endpoint, ready, or pending and not cancelled, by the changes that were read since the balancer was made.
   abbrev pub EndpointsCame : Type 0

@@ -12,8 +12,8 @@ use tower_pool::balance::p2c::Balance;
 
 /// States that a call after a poll that returned `Ok` reaches the endpoint at the kept index, which that
 /// poll found ready, and that each poll keeps the index that was kept before or chooses one: that of the
-/// only ready endpoint, or, of two that are drawn, the first's if its load is at most the second's, and
-/// otherwise the second's.
+/// only ready endpoint, or, of two that are drawn by the balancer's generator, the first's if its load is
+/// at most the second's, and otherwise the second's.
 ///
 /// States of each run of a new balancer that each of its endpoints came from an `Insert` that the discovery
 /// reported, after which it reported no `Remove` of the endpoint's key.
