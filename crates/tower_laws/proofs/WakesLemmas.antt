@@ -1,5 +1,5 @@
 -- Whom a step wakes, of the line of permits and of a slot.
-use Rattle.std.proofs.Common.{◌≡◌, ◌⊎◌, inl, inr, ℕ, refl, ap, ◌∙◌}
+use Rattle.std.proofs.Common.{◌≡◌, inl, inr, ℕ, refl, ap, ◌∙◌}
 use Rattle.tower_latch.proofs.Settling.{spared_stalls}
 use Rattle.tower_latch.specs.Wakes.{IsWoken, NamesAll}
 use Rattle.tower_latch.specs.declared.Wakes.{Wakes}
