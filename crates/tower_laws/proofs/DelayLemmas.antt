@@ -103,8 +103,8 @@ module _ {S Q A E F : Type 0} (s : ServiceOf S Q A E F) (stepped : F → Poll (R
       sleeps : (clock next : C) (deadline : ℕ) (service : S) (request : Q) (polls : ℕ) (output : Option (Result A (Error E))) → c.read clock next → c.reading next < deadline
           → Calls next deadline service request polls output → Calls clock deadline service request (suc polls) output
       sleeps clock next deadline service request polls output read early (inl ((last, before), is)) = inl ((last, (next, read, early, before)), is)
-      sleeps clock next deadline service request polls output read early (inr (before, after, sum, (last, past, waits, reads, late), answer, call, is)) =
-          inr (suc before, after, omega arith, (last, past, (next, read, early, waits), reads, late), answer, call, is)
+      sleeps clock next deadline service request polls output read early (inr (before, after, sum, (last, past, waits, reads, late), call)) =
+          inr (suc before, after, omega arith, (last, past, (next, read, early, waits), reads, late), call)
 
       delaying : (polls : ℕ) (sleep : SleepView C) (service : S) (request : Q) (output : Option (Result A (Error E))) → Given polls (Delaying sleep service request) output
           → Calls sleep.clock sleep.deadline service request polls output
@@ -119,9 +119,7 @@ module _ {S Q A E F : Type 0} (s : ServiceOf S Q A E F) (stepped : F → Poll (R
             0,
             refl,
             (sleep.clock, left.clock, refl, slept.read, due_ready sleep.deadline (c.reading left.clock) x slept.answers),
-            Some found.0,
-            oneshot 0 service request (Some found.0) polled,
-            found.2,
+            (Some found.0, oneshot 0 service request (Some found.0) polled, found.2),
           )
       delaying (suc polls) sleep service request output (next, (Pending, left, slept, (is, same)), rest) =
           let more = delaying polls left service request output (subst (λ (v : Future). Given polls v output) same rest) in
@@ -140,9 +138,7 @@ module _ {S Q A E F : Type 0} (s : ServiceOf S Q A E F) (stepped : F → Poll (R
             suc polls,
             omega arith,
             (sleep.clock, left.clock, refl, slept.read, due_ready sleep.deadline (c.reading left.clock) x slept.answers),
-            more.0,
-            oneshot (suc polls) service request more.0 polled,
-            more.2,
+            (more.0, oneshot (suc polls) service request more.0 polled, more.2),
           )
 
       pub calls_after_delay : CallsAfterDelay s stepped p clones c

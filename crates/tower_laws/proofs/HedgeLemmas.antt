@@ -14,9 +14,9 @@ use Rattle.tower_laws.proofs.AsyncFilterLemmas.{checks_first}
 use Rattle.tower_laws.proofs.DelayLemmas.{calls_after_delay}
 use Rattle.tower_laws.proofs.Responses.{Forwards, answered_pending, carries}
 use Rattle.tower_laws.proofs.SelectLemmas.{first_else_second}
-use Rattle.tower_laws.specs.Delay.{CallOnceReady}
-use Rattle.tower_laws.specs.Hedge.{CallIfAllowed, CallOnceReady as SecondOnceReady, Copies, CopiesNone, HedgesOnce, SecondSide}
-use Rattle.tower_laws.specs.Responses.{AtOnce, Call, Comes, ReadyAfter, wrapped}
+use Rattle.tower_laws.specs.Delay.{CallAfter as DelayedCall, CallOnceReady}
+use Rattle.tower_laws.specs.Hedge.{CallAfter, CallIfAllowed, Copies, CopiesNone, HedgesOnce, SecondSide}
+use Rattle.tower_laws.specs.Responses.{AtOnce, Call, Comes, OnceReady, ReadyAfter, wrapped}
 use Rattle.tower_laws.specs.Select.{SecondPends}
 use Rattle.tower_limit.specs.RotatingHistogram.{RotatingHistogramView}
 use Rattle.tower_limit.specs.declared.hedge.rotating_histogram.steps.HistoStep.{HistoStep}
@@ -253,17 +253,17 @@ module _ {S P L C Q A E F : Type 0} (N : Type 0) (s : ServiceOf S Q A E F) (step
     no_memory polls output (at, inl none) = (at, inl (nothing (λ e. flat (Second e)) output none))
     no_memory polls output (at, inr some) = (at, inr (ap (λ (o : Option (Result A (DelayError Fails))). wrapped (λ e. flat (Second e)) o) some))
 
-    abbrev OnceReady : P → S → Q → ℕ → Option (Result A (Error E)) → Type 0
-    OnceReady = SecondOnceReady s stepped p policy_clone service_clone gave c
+    abbrev Allowed : P → Q → S → ℕ → Option (Result A (Error E)) → Type 0
+    Allowed policy copy service = CallIfAllowed s stepped p policy_clone service_clone gave c policy service copy
 
     filtered : (before rest polls : ℕ) (clone ready : Filtered) (copy : Q) (answer : Option (Result A Fails)) → ReadyAfter fil before clone (Some (Ok tt)) ready
-        → polls ≡ before + rest → Call fil fil_stepped ready copy rest answer → OnceReady clone.predicate clone.inner.service copy polls (Of answer)
+        → polls ≡ before + rest → Call fil fil_stepped ready copy rest answer → OnceReady s Inner (Allowed clone.predicate copy) clone.inner.service polls (Of answer)
     filtered before rest polls clone ready copy answer polled sum call =
         let law = checks_first rec rec_steps check rec_clone u ready call.left copy call.response rest answer
         (nest.fil_called ready copy call.response call.left call.called) (steps_inside rest call.response answer call.comes) in
         let found = willing before clone ready polled in
-        let goes : CallIfAllowed s stepped p policy_clone service_clone gave c clone.predicate ready.inner.service copy rest (Of answer)
-        → OnceReady clone.predicate clone.inner.service copy polls (Of answer) = λ after. inr (inr (before, rest, sum, ready.inner.service, found.0, after)) in
+        let goes : Allowed clone.predicate copy ready.inner.service rest (Of answer)
+        → OnceReady s Inner (Allowed clone.predicate copy) clone.inner.service polls (Of answer) = λ after. inr (inr (before, rest, sum, ready.inner.service, found.0, after)) in
         ⊎_elim (λ refused. goes (inl (at_once_of rest answer refused.2)))
         (λ asks. ⊎_elim
         (λ pends. ⊎_elim
@@ -285,12 +285,41 @@ module _ {S P L C Q A E F : Type 0} (N : Type 0) (s : ServiceOf S Q A E F) (step
         law
 
     readied : (polls : ℕ) (clone : Filtered) (copy : Q) (answer : Option (Result A Fails)) → CallOnceReady fil fil_stepped clone copy polls answer
-        → OnceReady clone.predicate clone.inner.service copy polls (Of answer)
+        → OnceReady s Inner (Allowed clone.predicate copy) clone.inner.service polls (Of answer)
     readied polls clone copy answer (inl ((last, ready), is)) = inl ((last.inner.service, unwilling polls clone last ready), of_none answer is)
     readied polls clone copy answer (inr (inl (error, last, ready, is))) =
         let found = failed polls clone last error ready in
         inr (inl (found.0, last.inner.service, found.1, ap Of (is ∙ ap (λ (e : Fails). Some (Err e)) found.2)))
     readied polls clone copy answer (inr (inr (before, rest, sum, ready, polled, call))) = filtered before rest polls clone ready copy answer polled sum call
+
+    -- the second side once the delay is over
+    delayed_by : (old : HedgeView S P L C) (delay : ℕ) (copy : Q) (share clock : C) (clone : Filtered) (polls : ℕ) (output : Option (Result A (DelayError Fails)))
+        → c.shared old.b.clock share → c.read share clock → fil_clone.is_clone old.b.service clone
+        → DelayedCall fil fil_stepped named fil_clone c clock (c.reading clock + delay) clone copy polls output
+        → CallAfter s stepped p policy_clone service_clone gave c old delay copy polls (wrapped (λ e. flat (Second e)) output)
+    delayed_by old delay copy share clock clone polls output shared read cloned calls =
+        let clones = nest.fil_cloned old.b.service clone cloned in (
+          share,
+          clock,
+          shared,
+          read,
+          clone.predicate,
+          clones.1,
+          clone.inner.service,
+          nest.rec_cloned old.b.service.inner clone.inner clones.0,
+          ⊎_elim
+              (λ waits. inl (waits.0, nothing (λ e. flat (Second e)) output waits.1))
+              (λ over.
+              let is : wrapped (λ e. flat (Second e)) output ≡ Of over.4.0 = ap (λ (o : Option (Result A (DelayError Fails))). wrapped (λ e. flat (Second e)) o) over.4.2 in
+              inr (
+                over.0,
+                over.1,
+                over.2,
+                over.3,
+                subst (λ (o : Option (Result A (Error E))). OnceReady s Inner (Allowed clone.predicate copy) clone.inner.service over.1 o) (sym is) (readied over.1 clone copy over.4.0 over.4.1),
+              ))
+              calls,
+        )
 
     second : (old new : HedgeView S P L C) (request copy : Q) → Copies s stepped p policy_clone service_clone gave c old new request copy → (future : DelayedFuture) (polls : ℕ)
         (output : Option (Result A (DelayError Fails))) → DelayCalled named fil_clone c old.b copy future new.b → Comes (DelayStepped fil fil_stepped c) polls future output
@@ -302,29 +331,7 @@ module _ {S P L C Q A E F : Type 0} (N : Type 0) (s : ServiceOf S Q A E F) (step
           copies,
           goes.0,
           nest.delayed old.b.policy copy goes.0 new.b.policy goes.1,
-          inr (
-            goes.4,
-            goes.5,
-            goes.6,
-            goes.7,
-            ⊎_elim
-                (λ waits. inl (waits.0, nothing (λ e. flat (Second e)) output waits.1))
-                (λ over.
-                let clones = nest.fil_cloned old.b.service goes.2 goes.3 in
-                let is : wrapped (λ e. flat (Second e)) output ≡ Of over.4 = ap (λ (o : Option (Result A (DelayError Fails))). wrapped (λ e. flat (Second e)) o) over.6 in
-                inr (
-                  over.0,
-                  over.1,
-                  over.2,
-                  over.3,
-                  goes.2.predicate,
-                  clones.1,
-                  goes.2.inner.service,
-                  nest.rec_cloned old.b.service.inner goes.2.inner clones.0,
-                  subst (λ (o : Option (Result A (Error E))). OnceReady goes.2.predicate goes.2.inner.service copy over.1 o) (sym is) (readied over.1 goes.2 copy over.4 over.5),
-                ))
-                goes.8,
-          ),
+          inr (delayed_by old goes.0 copy goes.4 goes.5 goes.2 polls output goes.6 goes.7 goes.3 goes.8),
         ))
         (calls_after_delay fil fil_stepped c named fil_clone old.b new.b copy future polls output called comes)
 

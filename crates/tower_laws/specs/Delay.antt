@@ -1,11 +1,11 @@
 -- What a `Delay` keeps to, over one response.
-use Rattle.std.specs.Prelude.{◌≡◌, ◌⊎◌, ◌<◌, ◌≤◌, ℕ, zero, suc, ◌+◌, Option, Some, None, Result, Ok, Err}
+use Rattle.std.specs.Prelude.{◌≡◌, ◌⊎◌, ◌<◌, ◌≤◌, ℕ, zero, suc, ◌+◌, Option, None, Result, Err}
 use Rattle.std.specs.declared.clone.Clone.{Ghosts as CloneOf}
 use Rattle.futures.specs.declared.task.Poll.{Poll}
 use Rattle.tower_base.specs.Sleep.{SleepView}
 use Rattle.tower_base.specs.declared.service.Clock.{Ghosts as ClockOf}
 use Rattle.tower_base.specs.declared.service.Service.{Ghosts as ServiceOf}
-use Rattle.tower_laws.specs.Responses.{AtOnce, Call, Comes, ReadyAfter, wrapped}
+use Rattle.tower_laws.specs.Responses.{AtOnce, Call, Comes, OnceReady, wrapped}
 use Rattle.tower_retry.specs.Delay.{DelayView, Called, Stepped}
 use Rattle.tower_retry.specs.declared.hedge.delay.error.Error.{Error}
 use Rattle.tower_retry.specs.declared.hedge.delay.error.Error.TheVariants.{Inner, Memory}
@@ -22,22 +22,22 @@ BeforeFor {C} c (suc polls) clock deadline last = (next : C) × c.read clock nex
 abbrev pub PastAfter : {C : Type 0} → ClockOf C → ℕ → C → ℕ → Type 0
 PastAfter {C} c polls clock deadline = (last next : C) × BeforeFor c polls clock deadline last × c.read last next × (deadline ≤ c.reading next)
 
+-- The deadline isn't reached. Or it is, and this follows, from the first poll on whose reading is at or past it.
+abbrev pub OncePast : {C X : Type 0} → ClockOf C → C → ℕ → (ℕ → Option X → Type 0) → ℕ → Option X → Type 0
+OncePast {C} c clock deadline follows polls output =
+    (((last : C) × BeforeFor c polls clock deadline last) × (output ≡ None))
+    ⊎ ((before after : ℕ) × (polls ≡ before + after) × PastAfter c before clock deadline × follows after output)
+
 module _ {S Q A E F : Type 0} (s : ServiceOf S Q A E F) (stepped : F → Poll (Result A E) → F → Type 0) where
-  -- The service isn't ready yet, or its readiness fails: then there is no call. Or it is ready, and is called in that same poll, once.
+  -- Once the service is ready, it is called, once.
   abbrev pub CallOnceReady : S → Q → ℕ → Option (Result A E) → Type 0
-  CallOnceReady service request polls answer =
-      (((last : S) × ReadyAfter s polls service None last) × (answer ≡ None))
-      ⊎ (((error : E) × (last : S) × ReadyAfter s polls service (Some (Err error)) last × (answer ≡ Some (Err error)))
-      ⊎ ((before after : ℕ) × (polls ≡ before + after) × (willing : S) × ReadyAfter s before service (Some (Ok tt)) willing
-      × Call s stepped willing request after answer))
+  CallOnceReady service request = OnceReady s (λ error. error) (λ willing. Call s stepped willing request) service
 
   module _ {P C : Type 0} (p : PolicyOf P Q) (clones : CloneOf S) (c : ClockOf C) where
-    -- The delay isn't over. Or it is, from the first poll on whose reading is at or past the deadline, and then the clone is called as above.
+    -- Once the delay is over, the clone is called as above.
     abbrev pub CallAfter : C → ℕ → S → Q → ℕ → Option (Result A (Error E)) → Type 0
-    CallAfter clock deadline service request polls output =
-        (((last : C) × BeforeFor c polls clock deadline last) × (output ≡ None))
-        ⊎ ((before after : ℕ) × (polls ≡ before + after) × PastAfter c before clock deadline
-        × (answer : Option (Result A E)) × CallOnceReady service request after answer × (output ≡ wrapped Inner answer))
+    CallAfter clock deadline service request = OncePast c clock deadline
+        (λ after output. (answer : Option (Result A E)) × CallOnceReady service request after answer × (output ≡ wrapped Inner answer))
 
     -- What comes of a call. If no clone was made, `Memory`. Otherwise a share of the clock is read at the call, and the deadline is that reading plus
     -- the delay that the policy named.

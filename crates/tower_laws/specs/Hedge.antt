@@ -1,10 +1,10 @@
 -- What a `Hedge` keeps to, over one response.
-use Rattle.std.specs.Prelude.{◌≡◌, ◌⊎◌, ◌<◌, ◌≤◌, ℕ, suc, ◌+◌, true, false, Option, Some, None, Result, Ok, Err}
+use Rattle.std.specs.Prelude.{◌≡◌, ◌⊎◌, ◌<◌, ◌≤◌, ℕ, suc, ◌+◌, true, false, Option, Some, None, Result, Err}
 use Rattle.futures.specs.declared.task.Poll.{Poll}
 use Rattle.tower_base.specs.declared.service.Clock.{Ghosts as ClockOf}
 use Rattle.tower_base.specs.declared.service.Service.{Ghosts as ServiceOf}
-use Rattle.tower_laws.specs.Delay.{BeforeFor, PastAfter}
-use Rattle.tower_laws.specs.Responses.{AtOnce, Call, Comes, ReadyAfter, wrapped}
+use Rattle.tower_laws.specs.Delay.{OncePast}
+use Rattle.tower_laws.specs.Responses.{AtOnce, Call, Comes, OnceReady, wrapped}
 use Rattle.tower_limit.specs.RotatingHistogram.{Counted}
 use Rattle.tower_limit.specs.declared.hedge.rotating_histogram.steps.HistoStep.{HistoStep}
 use Rattle.tower_limit.specs.declared.hedge.rotating_histogram.steps.HistoReply.{HistoReply}
@@ -26,28 +26,18 @@ module _ {S P L C Q A E F : Type 0} (s : ServiceOf S Q A E F) (stepped : F → P
   CopiesNone old new request = p.cloned old.policy.policy request None ⊎ ((copy : Q) × p.cloned old.policy.policy request (Some copy)
       × (points : ℕ) × Counted gave c old.policy.histogram points new.policy.histogram × (points < old.policy.min_data_points))
 
-  -- The service is ready. It isn't called if the clone that its call needs was refused, which is `Memory`, or if the policy doesn't allow the copy: then
-  -- nothing comes, ever. Otherwise it is called with the copy in that same poll, once.
+  -- The service is ready. It isn't called if a clone before its call was refused, which is `Memory`, or if the policy doesn't allow the copy: then nothing
+  -- comes, ever. Otherwise it is called with the copy in that same poll, once.
   abbrev pub CallIfAllowed : P → S → Q → ℕ → Option (Result A (Error E)) → Type 0
   CallIfAllowed policy service copy polls output = AtOnce (Err Memory) polls output
       ⊎ ((p.allowed policy copy false × (output ≡ None))
       ⊎ (p.allowed policy copy true × (answer : Option (Result A E)) × Call s stepped service copy polls answer × (output ≡ wrapped Inner answer)))
 
-  -- The service isn't ready yet, or its readiness fails: then there is no call. Or it is ready.
-  abbrev pub CallOnceReady : P → S → Q → ℕ → Option (Result A (Error E)) → Type 0
-  CallOnceReady policy service copy polls output =
-      (((last : S) × ReadyAfter s polls service None last) × (output ≡ None))
-      ⊎ (((error : E) × (last : S) × ReadyAfter s polls service (Some (Err error)) last × (output ≡ Some (Err (Inner error))))
-      ⊎ ((before after : ℕ) × (polls ≡ before + after) × (willing : S) × ReadyAfter s before service (Some (Ok tt)) willing
-      × CallIfAllowed policy willing copy after output))
-
-  -- The delay, from a reading at the call on, isn't over. Or it is, and a clone of the service is polled, with the leave of a clone of the policy.
+  -- Once the delay is over, from a reading at the call on, and a clone of the service is ready, it is called, with the leave of a clone of the policy.
   abbrev pub CallAfter : HedgeView S P L C → ℕ → Q → ℕ → Option (Result A (Error E)) → Type 0
   CallAfter old delay copy polls output = (share clock : C) × c.shared old.b.clock share × c.read share clock
-      × ((((last : C) × BeforeFor c polls clock (c.reading clock + delay) last) × (output ≡ None))
-      ⊎ ((before after : ℕ) × (polls ≡ before + after) × PastAfter c before clock (c.reading clock + delay)
       × (policy : P) × policy_clone old.b.service.predicate policy × (service : S) × service_clone old.b.service.inner.service service
-      × CallOnceReady policy service copy after output))
+      × OncePast c clock (c.reading clock + delay) (OnceReady s Inner (λ willing. CallIfAllowed policy willing copy) service) polls output
 
   -- What comes of the second side. Without a copy nothing does, and that side stays as it was. With one its delay is the one that the histogram names. If
   -- a clone was refused at the call, `Memory` comes.

@@ -1,5 +1,5 @@
 -- The polls of one response, from its call up to its first answer.
-use Rattle.std.specs.Prelude.{◌≡◌, ◌⊎◌, ℕ, zero, suc, Option, Some, None, Result, Ok, Err}
+use Rattle.std.specs.Prelude.{◌≡◌, ◌⊎◌, ℕ, zero, suc, ◌+◌, Option, Some, None, Result, Ok, Err}
 use Rattle.futures.specs.declared.task.Poll.{Poll}
 use Rattle.futures.specs.declared.task.Poll.TheVariants.{Ready, Pending}
 use Rattle.tower_base.specs.declared.service.Service.{Ghosts as ServiceOf}
@@ -37,6 +37,14 @@ module _ {S Q A E F : Type 0} (s : ServiceOf S Q A E F) where
   ReadyAfter zero first (Some answer) last = s.polled first (Ready answer) last
   ReadyAfter zero first None last = last ≡ first
   ReadyAfter (suc polls) first answer last = (next : S) × s.polled first Pending next × ReadyAfter polls next answer last
+
+  -- The service isn't ready yet, or its readiness fails, with an error that is wrapped: then nothing follows. Or it is ready, and this follows in that same
+  -- poll.
+  abbrev pub OnceReady : {B U : Type 0} → (E → U) → (S → ℕ → Option (Result B U) → Type 0) → S → ℕ → Option (Result B U) → Type 0
+  OnceReady outer follows service polls output =
+      (((last : S) × ReadyAfter polls service None last) × (output ≡ None))
+      ⊎ (((error : E) × (last : S) × ReadyAfter polls service (Some (Err error)) last × (output ≡ Some (Err (outer error))))
+      ⊎ ((before after : ℕ) × (polls ≡ before + after) × (willing : S) × ReadyAfter before service (Some (Ok tt)) willing × follows willing after output))
 
   -- One call of the service, which is ready, with the request, and what comes of its response.
   pub record Call (stepped : F → Poll (Result A E) → F → Type 0) (service : S) (request : Q) (polls : ℕ) (answer : Option (Result A E)) : Type 0 where
