@@ -40,7 +40,7 @@ module _ {S P L C Q A E F : Type 0} (s : ServiceOf S Q A E F) (stepped : F → P
       × OncePast c clock (c.reading clock + delay) (OnceReady s Inner (λ willing. CallIfAllowed policy willing copy) service) polls output
 
   -- What comes of the second side. Without a copy nothing does, and that side stays as it was. With one its delay is the one that the histogram names. If
-  -- a clone was refused at the call, `Memory` comes.
+  -- a clone was refused at the call, `Memory` comes. (Each such clone has a share of the histogram, which may be refused at any time.)
   abbrev pub SecondSide : HedgeView S P L C → HedgeView S P L C → Q → ℕ → Option (Result A (Error E)) → Type 0
   SecondSide old new request polls output = (CopiesNone old new request × (new.b ≡ old.b) × (output ≡ None))
       ⊎ ((copy : Q) × Copies old new request copy × (delay : ℕ) × Delayed gave c old.b.policy copy delay new.b.policy
