@@ -61,6 +61,15 @@ WARES = {
     "map_response": Ware("MapResponse::new({}, |answer: u32| answer / 2)", is_clone=True),
 }
 
+LEGEND = """\
+- `yes`: proved in one function.
+- `any`: make the outer one in a function over any `S: Service` that requires `S.sound inner`, and what is inside in `main`; around what is cloned, or with
+  a buffer, it requires more (docs/THREADS.md). In one function the check says the message of the number.
+- `no`: not proved in either way. The numbers are those of both messages.
+- `-`: the outer one clones what is inside, which isn't `Clone`: put a `Buffer` between, or another one that is `Clone`.
+- `not run`: not tried so far.
+"""
+
 CLONES = "requires clones {{ (x y : {0}) → {0}.is_clone x y → {0}.sound x → {0}.sound y }}"
 
 
@@ -203,8 +212,14 @@ def check(folder, pairs):
     return {pair: next(filter(None, (told.get(it, "no verdict") for it in names[pair])), "") for pair in pairs}
 
 
+def advice(said):
+    """What docs/TROUBLE.md says of a message, as `./prove` prints it."""
+    command = f'trouble="$1/docs/TROUBLE.md"; eval "$(sed -n "/^advice()/,/^}}/p" "$1/prove")"; advice message "$2"'
+    return subprocess.run(["bash", "-c", command, "advice", ROOT, said], stdout=subprocess.PIPE, text=True, check=True).stdout.rstrip()
+
+
 def table(state):
-    """The table, and under it the counts and the messages of what isn't proved in one function."""
+    """The table, and under it the counts, the legend, and the messages of what isn't proved in one function, each with its row of TROUBLE."""
     lines = ["| over | " + " | ".join(f"`{it}`" for it in WARES) + " |", "|---" * (len(WARES) + 1) + "|"]
     messages, counts = [], {}
     for outer in WARES:
@@ -215,13 +230,14 @@ def table(state):
             cell = "-" if excluded(outer, inner) else "not run" if not done else "no" if all(done.values()) else "any" if is_any else "yes"
             counts[cell] = counts.get(cell, 0) + 1
             for said in filter(None, done.values()):
-                said = re.sub(r"\b\w+_(over_\w+|around|beside|made|whole|parts)\b", "..", re.sub(r"no proof: (expected answers in \S+; )?", "", said))
+                said = re.sub(r"no proof: (expected .*? in \S+; )?|src/lib\.rt:\d+:\d+: ", "", said)
+                said = re.sub(r"\b\w+_(over_\w+|around|beside|made|whole|parts)\b", "..", said)
                 messages += [said] * (said not in messages)
                 cell += f" {messages.index(said) + 1}"
             cells.append(cell)
         lines.append(f"| `{outer}` | " + " | ".join(cells) + " |")
     lines += ["", ", ".join(f"{cell}: {number}" for cell, number in sorted(counts.items())), ""]
-    return "\n".join([*lines, *(f"{at}. {said}" for at, said in enumerate(messages, 1))])
+    return "\n".join([*lines, LEGEND, *(f"{at}. {said}\n{advice(said)}".rstrip() for at, said in enumerate(messages, 1))])
 
 
 def main():
