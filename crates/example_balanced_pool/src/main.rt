@@ -1,6 +1,6 @@
 //! A balanced pool: servers come and go, and each request goes to the one of two that are drawn which has
 //! fewer requests pending. Before the balancer stand a buffer, retries with a budget, a timeout and a
-//! limit.
+//! limit. Their clock is one of timers, so the pool sleeps while it waits.
 //!
 //! The check covers this program as it is cut: `main` makes the balancer; `buffered`, over any service,
 //! the buffer; `retried` and `timed` the layers around any service. In one function they are refused, as
