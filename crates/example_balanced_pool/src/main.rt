@@ -1,6 +1,6 @@
 //! A balanced pool: servers come and go, and each request goes to the one of two that are drawn which has
 //! fewer requests pending. Before the balancer stand a buffer, retries with a budget, a timeout and a
-//! limit.
+//! limit. Their clock is one of timers, so the pool sleeps while it waits.
 //!
 //! The check covers this program as it is cut: `main` makes the balancer; `buffered`, over any service,
 //! the buffer; `retried` and `timed` the layers around any service. In one function they are refused, as
@@ -29,9 +29,10 @@ use tower::discover::Change;
 use tower::load::{CompleteOnResponse, PendingRequestsDiscover};
 use tower::retry::backoff::{ExponentialBackoffMaker, MakeBackoff};
 use tower::retry::budget::TpsBudget;
-use tower::service::{Polled, SystemClock};
+use tower::service::{Clock, Polled};
 use tower::util::Sealed;
 use tower::{Service, ServiceBuilder, ServiceExt};
+use tower_time::Timers;
 
 // Asks for three pages after each change, while the pool runs the buffer's worker. `Sealed` keeps the
 // client sound from one call to the next.
@@ -72,28 +73,30 @@ where
 }
 
 // The timeout and the limit, around any service.
-fn timed<R, W, S>(rt: R, news: &News, pool: LocalPool<W>, inner: S) -> io::Result<()>
+fn timed<R, W, S, C>(rt: R, news: &News, pool: LocalPool<W>, inner: S, clock: C) -> io::Result<()>
 where
-    R: Wait + RandomSource + AllocGlobal + Print + std::time::Clock + Copy,
+    R: Wait + RandomSource + AllocGlobal + Print + Copy,
     W: Future<Output = ()>,
     S: Service<Get, Response = u64>,
     S::Error: Display,
+    C: Clock,
     requires { S.sound inner }
 {
     let client = ServiceBuilder::new()
-        .timeout(5_000_000_000, SystemClock::new(rt)?)
+        .timeout(5_000_000_000, clock)
         .concurrency_limit(rt, rt.alloc(), 4)
         .service(inner)?;
     ask_all(&rt, news, pool, client)
 }
 
 // The retries, around any buffer, and the pool, which runs its worker.
-fn retried<R, W, B>(rt: R, news: &News, buffer: B, worker: W) -> io::Result<()>
+fn retried<R, W, B, C>(rt: R, news: &News, buffer: B, worker: W, clock: C) -> io::Result<()>
 where
-    R: Wait + RandomSource + AllocGlobal + Print + std::time::Clock + Copy,
+    R: Wait + RandomSource + AllocGlobal + Print + Copy,
     W: Future<Output = ()> + Drop,
     B: Service<Get, Response = u64> + Clone,
     B::Error: IsBusy + Display,
+    C: Clock,
     requires sound { B.sound buffer }
     requires clones { (x y : B) → B.is_clone x y → B.sound x → B.sound y }
     requires can_poll { W.can_poll worker }
@@ -105,26 +108,27 @@ where
     }
     let retries = Cell::new(0);
     let policy = WhileBusy {
-        budget: TpsBudget::with_clock(rt, alloc, SystemClock::new(rt)?)?,
-        backoff: ExponentialBackoffMaker::with_clock(SystemClock::new(rt)?).make_backoff()?,
+        budget: TpsBudget::with_clock(rt, alloc, clock.share())?,
+        backoff: ExponentialBackoffMaker::with_clock(clock.share()).make_backoff()?,
         retries: &retries,
     };
     let client = ServiceBuilder::new().retry(policy).service(buffer)?;
-    timed(rt, news, pool, client)?;
+    timed(rt, news, pool, client, clock)?;
     println!(rt; "{} requests were made again", retries.get())
 }
 
 // The buffer, around any service.
-fn buffered<R, S>(rt: R, news: &News, service: S) -> io::Result<()>
+fn buffered<R, S, C>(rt: R, news: &News, service: S, clock: C) -> io::Result<()>
 where
-    R: Wait + RandomSource + AllocGlobal + Print + std::time::Clock + Copy,
+    R: Wait + RandomSource + AllocGlobal + Print + Copy,
     S: Service<Get, Response = u64>,
     S::Error: IsBusy + Display + Clone,
+    C: Clock,
     requires sound { S.sound service }
     requires same { (x y : S.Error) → S.Error.is_clone x y → y ≡ x }
 {
     match Buffer::pair(rt, rt.alloc(), service, 8) {
-        Ok((buffer, worker)) => retried(rt, news, buffer, worker),
+        Ok((buffer, worker)) => retried(rt, news, buffer, worker, clock),
         Err(AllocError) => Err(AllocError.into()),
     }
 }
@@ -133,5 +137,7 @@ fn main(rt: HostRuntime) -> io::Result<()> {
     let (alloc, news) = (rt.alloc(), Cell::new(None));
     let directory = Directory { news: &news };
     let counted = PendingRequestsDiscover::new(rt, alloc, directory, CompleteOnResponse);
-    buffered(rt, &news, Balance::new(alloc, counted))
+    let balance = Balance::new(alloc, counted);
+    let timers = Timers::new(rt, alloc)?;
+    timers.beside(&rt, || buffered(rt, &news, balance, timers.clock()))
 }
