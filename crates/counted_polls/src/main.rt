@@ -4,21 +4,18 @@
 
 ghost use Rattle.std.specs.Prelude.{◌<◌};
 
-mod buffers;
+mod crowds;
+mod spawned;
 mod tasks;
 
-use crate::buffers::{Crowd, buffered};
-use crate::tasks::{Counted, Echo};
-use futures::executor::LocalPool;
-use futures::task::Doorbell;
+use crate::crowds::{Crowd, Patience, buffered, limited};
+use crate::spawned::spawned;
+use crate::tasks::Echo;
 use std::alloc::AllocGlobal;
-use std::cell::Cell;
 use std::random::RandomSource;
 use std::rt::Env;
 use std::sync::Wait;
 use std::{env, io};
-use tower::limit::ConcurrencyLimit;
-use tower::{Service, ServiceExt};
 
 fn main(rt: HostRuntime) -> io::Result<()> {
     match tasks_of(&rt)? {
@@ -39,49 +36,81 @@ fn tasks_of<R: Env + AllocGlobal>(rt: &R) -> io::Result<Option<u64>> {
 // Lets so many tasks call through a limit of one, and through a buffer of two places. It ends only if no
 // task is left asleep, also if allocations are refused.
 fn few<R: Wait + RandomSource + AllocGlobal + Print + Copy>(rt: R, tasks: u64) -> io::Result<()> {
-    let _polls = limited(rt, 1, tasks, false)?;
+    let _polls = limited(rt, 1, Crowd::staying(tasks))?;
     println!(rt; "a limit of 1: ended")?;
     let _polls = buffered(rt, Echo::late(), 2, Crowd::staying(tasks))?;
     println!(rt; "a buffer of 2: ended")
 }
 
-// Prints the polls of each crowd.
+// Prints the polls of each crowd, and of a `SpawnReady`.
 fn all<R: Wait + RandomSource + AllocGlobal + Print + Copy>(rt: R) -> io::Result<()> {
-    for tasks in [10, 100, 1_000, 10_000] {
-        let polls = limited(rt, 1, tasks, false)?;
-        println!(rt; "a limit of 1, {tasks} tasks: {polls} polls")?;
+    limits(rt)?;
+    buffers(rt)?;
+    for (pending, times) in [(1, "once"), (10, "ten times")] {
+        let polls = spawned(rt, pending)?;
+        println!(rt;
+            "a SpawnReady, pending {times} in its task: {} polls of its owner, {} of its task, {} answered",
+            polls.owner, polls.task, polls.answers
+        )?;
     }
-    let polls = limited(rt, 8, 1_000, false)?;
-    println!(rt; "a limit of 8, 1000 tasks: {polls} polls")?;
-    let polls = limited(rt, 1, 1_000, true)?;
-    println!(rt; "a limit of 1, 1000 tasks, every other one leaves: {polls} polls")?;
+    Ok(())
+}
+
+// Prints the polls of crowds that call through a limit.
+fn limits<R: Wait + RandomSource + AllocGlobal + Print + Copy>(rt: R) -> io::Result<()> {
     for tasks in [10, 100, 1_000, 10_000] {
-        tell_buffered(rt, Echo::prompt(), 64, Crowd::staying(tasks), "")?;
+        tell_limited(rt, 1, Crowd::staying(tasks), "")?;
     }
-    let all = Crowd::staying(1_000);
-    tell_buffered(rt, Echo::late(), 1_000, all, ", all in flight")?;
-    let waiters = Crowd::leaving(1_000, 1);
+    tell_limited(rt, 8, Crowd::staying(1_000), "")?;
+    let leaving = every_other(Patience::Polls(1));
+    tell_limited(rt, 1, leaving, ", every other one leaves")?;
+    let dropping = every_other(Patience::Call);
+    tell_limited(rt, 1, dropping, ", every other response is dropped")
+}
+
+// Prints the polls of crowds that call through a buffer.
+fn buffers<R: Wait + RandomSource + AllocGlobal + Print + Copy>(rt: R) -> io::Result<()> {
+    let (prompt, late) = (Echo::prompt(), Echo::late());
+    for tasks in [10, 100, 1_000, 10_000] {
+        tell_buffered(rt, prompt, 64, Crowd::staying(tasks), "")?;
+    }
+    let staying = Crowd::staying(1_000);
+    tell_buffered(rt, late, 1_000, staying, ", all in flight")?;
+    let waiters = every_other(Patience::Polls(1));
+    tell_buffered(rt, prompt, 64, waiters, ", every other waiter leaves")?;
+    let callers = every_other(Patience::Polls(2));
+    tell_buffered(rt, prompt, 64, callers, ", every other caller leaves")?;
+    let which = ", every other response is dropped";
+    tell_buffered(rt, late, 1_000, callers, which)?;
+    let dropping = every_other(Patience::Call);
     tell_buffered(
         rt,
-        Echo::prompt(),
+        prompt,
         64,
-        waiters,
-        ", every other waiter leaves",
-    )?;
-    let callers = Crowd::leaving(1_000, 2);
-    tell_buffered(
-        rt,
-        Echo::prompt(),
-        64,
-        callers,
-        ", every other caller leaves",
-    )?;
-    tell_buffered(
-        rt,
-        Echo::late(),
-        1_000,
-        callers,
-        ", every other response is dropped",
+        dropping,
+        ", every other message is cancelled",
+    )
+}
+
+// A crowd of 1,000 tasks, every other of which has this patience.
+fn every_other(patience: Patience) -> Crowd {
+    Crowd {
+        tasks: 1_000,
+        patience,
+    }
+}
+
+// Prints the polls of a crowd that calls through a limit.
+fn tell_limited<R: Wait + RandomSource + AllocGlobal + Print + Copy>(
+    rt: R,
+    max: usize,
+    crowd: Crowd,
+    which: &str,
+) -> io::Result<()> {
+    let polls = limited(rt, max, crowd)?;
+    println!(rt;
+        "a limit of {max}, {} tasks{which}: {} polls, {} answered",
+        crowd.tasks, polls.callers, polls.answers
     )
 }
 
@@ -97,47 +126,7 @@ fn tell_buffered<R: Wait + RandomSource + AllocGlobal + Print + Copy>(
 {
     let polls = buffered(rt, service, bound, crowd)?;
     println!(rt;
-        "a buffer of {bound}, {} tasks{which}: {} polls, {} of the worker",
-        crowd.tasks, polls.callers, polls.worker
+        "a buffer of {bound}, {} tasks{which}: {} polls, {} of the worker, {} answered",
+        crowd.tasks, polls.callers, polls.worker, polls.answers
     )
-}
-
-// Each task makes one call through a limit of `max`, whose response is pending once. If `leave` is set,
-// every other task leaves at its second poll. Returns the number of polls.
-fn limited<R: Wait + RandomSource + AllocGlobal + Copy>(
-    rt: R,
-    max: usize,
-    tasks: u64,
-    leave: bool,
-) -> io::Result<u64> {
-    let limit = ConcurrencyLimit::new(rt, rt.alloc(), Echo::late(), max)?;
-    each_calls(rt, limit, tasks, leave)
-}
-
-// Each task makes one call of a clone. Returns the number of polls.
-fn each_calls<R, S>(rt: R, service: S, tasks: u64, leave: bool) -> io::Result<u64>
-where
-    R: Wait + RandomSource + AllocGlobal + Copy,
-    S: Service<u64> + Clone + Drop,
-    requires sound { S.sound service }
-    requires clones { (x y : S) → S.is_clone x y → S.sound x → S.sound y }
-{
-    let polls = Cell::new(0u64);
-    let mut pool = LocalPool::with_doorbell(&rt, Doorbell::parking())?;
-    let spawner = pool.spawner()?;
-    for number in 0..tasks {
-        let future = service.clone()?.oneshot(number);
-        let _refused = spawner.spawn(Counted::new(future, &polls, patience(leave, number)));
-    }
-    pool.run(&rt);
-    Ok(polls.get())
-}
-
-// Returns after how many polls the task leaves.
-fn patience(leave: bool, number: u64) -> u64 {
-    if leave && number % 2 == 1 {
-        1
-    } else {
-        u64::MAX
-    }
 }

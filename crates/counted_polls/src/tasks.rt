@@ -1,9 +1,10 @@
-//! A service whose responses are pending once, and tasks that count their polls.
+//! A service, its callers' responses, and tasks that count their polls.
 ghost use Rattle.std.specs.Prelude.{◌≡◌};
 
 use futures::future::Future;
 use futures::task::{Context, Poll};
 use std::cell::Cell;
+use std::marker::Model;
 use thiserror::Error;
 use tower::service::{Service, Steps};
 
@@ -31,21 +32,31 @@ impl Steps for Once {
     }
 }
 
-/// A service that is always ready, and returns each request, at once or at the second poll.
+/// A service that returns each request, at once or at the second poll. It is always ready, but for its
+/// first polls if it is cold.
 #[derive(Clone, Copy)]
 pub struct Echo {
     is_due: bool,
+    cold: u64,
 }
 
 impl Echo {
     /// Returns responses that are ready at the first poll.
     pub fn prompt() -> Echo {
-        Echo { is_due: true }
+        Echo::cold(0)
     }
 
     /// Returns responses that are pending once.
     pub fn late() -> Echo {
-        Echo { is_due: false }
+        Echo {
+            is_due: false,
+            cold: 0,
+        }
+    }
+
+    /// Is pending so many times, and then prompt.
+    pub fn cold(cold: u64) -> Echo {
+        Echo { is_due: true, cold }
     }
 }
 
@@ -58,8 +69,12 @@ impl Service<u64> for Echo {
 
     ghost readies = { λ _ _ _. tt };
 
-    fn poll_ready(&mut self, _cx: &mut Context<'_>) -> Poll<Result<(), Lost>> {
-        Poll::Ready(Ok(()))
+    fn poll_ready(&mut self, cx: &mut Context<'_>) -> Poll<Result<(), Lost>> {
+        if self.cold == 0 {
+            return Poll::Ready(Ok(()));
+        }
+        self.cold -= 1;
+        cx.yield_now()
     }
 
     fn call(&mut self, number: u64) -> Once {
@@ -70,17 +85,115 @@ impl Service<u64> for Echo {
     }
 }
 
+/// A service that counts the answers of another.
+#[derive(Drop)]
+pub struct Answered<'a, S> {
+    inner: S,
+    answers: &'a Cell<u64>,
+    waits: bool,
+}
+
+impl<'a, S> Answered<'a, S> {
+    /// Counts the answers. Unless the caller `waits`, it drops a response that is pending in the poll of
+    /// its call.
+    pub fn new(inner: S, answers: &'a Cell<u64>, waits: bool) -> Answered<'a, S>
+        ensures { result ≡ inner }
+    {
+        Answered {
+            inner,
+            answers,
+            waits,
+        }
+    }
+}
+
+impl<'a, S> Model for Answered<'a, S> {
+    ghost Value = { S };
+
+    ghost view = { λ a. a.inner };
+}
+
+impl<'a, S: Service<u64>> Service<u64> for Answered<'a, S> {
+    type Response = Option<S::Response>;
+
+    type Error = S::Error;
+
+    type Future = Answer<'a, S::Future>;
+
+    ghost sound = { S.sound };
+
+    ghost ready = { S.ready };
+
+    ghost polled = { S.polled };
+
+    ghost needs = { S.needs };
+
+    ghost readies = { S.readies };
+
+    fn poll_ready(&mut self, cx: &mut Context<'_>) -> Poll<Result<(), S::Error>> {
+        self.inner.poll_ready(cx)
+    }
+
+    fn call(&mut self, number: u64) -> Self::Future {
+        Answer {
+            response: self.inner.call(number),
+            answers: self.answers,
+            waits: self.waits,
+        }
+    }
+}
+
+/// The response of an `Answered`: `None` in place of one that is dropped.
+#[derive(Drop)]
+pub struct Answer<'a, F> {
+    response: F,
+    answers: &'a Cell<u64>,
+    waits: bool,
+}
+
+impl<'a, T, E, F: Steps<Output = Result<T, E>>> Steps for Answer<'a, F> {
+    type Output = Result<Option<T>, E>;
+
+    ghost can_poll = { λ a. F.can_poll a.response };
+
+    ghost needs = { λ a. F.needs a.response };
+
+    fn step(&mut self, cx: &mut Context<'_>) -> Poll<Self::Output> {
+        match self.response.step(cx) {
+            Poll::Ready(Ok(response)) => {
+                self.answers.add();
+                Poll::Ready(Ok(Some(response)))
+            }
+            Poll::Ready(Err(error)) => Poll::Ready(Err(error)),
+            Poll::Pending if self.waits => Poll::Pending,
+            Poll::Pending => Poll::Ready(Ok(None)),
+        }
+    }
+}
+
+/// A count of polls that tasks share.
+pub trait Count: Copy {
+    /// Counts one more.
+    fn add(self);
+}
+
+impl Count for &Cell<u64> {
+    fn add(self) {
+        self.set(self.get().wrapping_add(1));
+    }
+}
+
 /// A future that counts its polls. It leaves after as many polls as it has patience for.
 #[derive(Drop)]
-pub struct Counted<'a, F> {
+pub struct Counted<F, C> {
     future: F,
-    polls: &'a Cell<u64>,
+    polls: C,
     left: u64,
 }
 
-impl<'a, F> Counted<'a, F> {
+impl<F, C> Counted<F, C> {
     /// Counts the polls of the future, and leaves at the poll after the next `left` ones.
-    pub fn new(future: F, polls: &'a Cell<u64>, left: u64) -> Counted<'a, F>
+    pub fn new(future: F, polls: C, left: u64) -> Counted<F, C>
         ensures { result.future ≡ future }
     {
         Counted {
@@ -89,9 +202,18 @@ impl<'a, F> Counted<'a, F> {
             left,
         }
     }
+
+    /// Returns the future.
+    pub fn into_inner(self) -> F
+    where
+        C: Drop,
+        ensures { result ≡ self.future }
+    {
+        self.future
+    }
 }
 
-impl<F: Future<Output: Drop>> Future for Counted<'_, F> {
+impl<F: Future<Output: Drop>, C: Count + Drop> Future for Counted<F, C> {
     type Output = ();
 
     ghost can_poll = { λ c. F.can_poll c.future };
@@ -99,7 +221,7 @@ impl<F: Future<Output: Drop>> Future for Counted<'_, F> {
     ghost needs = { λ c. F.needs c.future };
 
     fn poll(&mut self, cx: &mut Context<'_>) -> Poll<()> {
-        self.polls.set(self.polls.get().wrapping_add(1));
+        self.polls.add();
         if self.left == 0 {
             return Poll::Ready(());
         }

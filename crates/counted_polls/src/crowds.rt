@@ -1,0 +1,132 @@
+//! Polls of a crowd of tasks, each of which makes one call of a clone of one service.
+ghost use Rattle.std.specs.Prelude.{◌≡◌, ◌<◌};
+
+use crate::tasks::{Answered, Counted, Echo};
+use futures::executor::LocalPool;
+use futures::future::{Either, Future, ready};
+use futures::task::Doorbell;
+use std::alloc::{AllocError, AllocGlobal};
+use std::cell::Cell;
+use std::io;
+use std::random::RandomSource;
+use std::sync::Wait;
+use tower::buffer::Buffer;
+use tower::limit::ConcurrencyLimit;
+use tower::{Service, ServiceExt};
+
+/// How often the tasks that call were polled, and how often the worker, and how many answers came.
+#[derive(Clone, Copy)]
+pub struct Polls {
+    pub callers: u64,
+    pub worker: u64,
+    pub answers: u64,
+}
+
+/// How long a task waits for its answer.
+#[derive(Clone, Copy)]
+pub enum Patience {
+    /// It stays.
+    Endless,
+    /// It leaves at the poll after so many.
+    Polls(u64),
+    /// It drops a response that is pending in the poll of its call.
+    Call,
+}
+
+impl Patience {
+    // Returns after how many polls the task leaves.
+    fn polls(self) -> u64 {
+        match self {
+            Patience::Polls(polls) => polls,
+            _ => u64::MAX,
+        }
+    }
+
+    // Returns whether the task waits for a response that is pending in the poll of its call.
+    fn waits(self) -> bool {
+        !matches!(self, Patience::Call)
+    }
+}
+
+/// A crowd of tasks, every other of which has this patience. The others stay.
+#[derive(Clone, Copy)]
+pub struct Crowd {
+    pub tasks: u64,
+    pub patience: Patience,
+}
+
+impl Crowd {
+    /// A crowd in which each task stays.
+    pub fn staying(tasks: u64) -> Crowd {
+        Crowd {
+            tasks,
+            patience: Patience::Endless,
+        }
+    }
+
+    // Returns the patience of the task of this number.
+    fn patience_of(self, number: u64) -> Patience {
+        if number % 2 == 1 {
+            return self.patience;
+        }
+        Patience::Endless
+    }
+}
+
+/// Lets a crowd call through a limit of `max`, whose responses are pending once.
+pub fn limited<R>(rt: R, max: usize, crowd: Crowd) -> io::Result<Polls>
+where
+    R: Wait + RandomSource + AllocGlobal + Copy,
+{
+    let limit = ConcurrencyLimit::new(rt, rt.alloc(), Echo::late(), max)?;
+    called(rt, limit, ready(()), crowd)
+}
+
+/// Lets a crowd call through a buffer of `bound` places over the service, whose type is a parameter
+/// here, since the check refuses a buffer that is made over a concrete stack.
+pub fn buffered<R, S>(rt: R, service: S, bound: usize, crowd: Crowd) -> io::Result<Polls>
+where
+    R: Wait + RandomSource + AllocGlobal + Copy,
+    S: Service<u64, Response = u64>,
+    S::Error: Clone,
+    requires positive { 0 < bound }
+    requires sound { S.sound service }
+    requires same { (x y : S.Error) → S.Error.is_clone x y → y ≡ x }
+{
+    match Buffer::pair(rt, rt.alloc(), service, bound) {
+        Ok((buffer, worker)) => called(rt, buffer, worker, crowd),
+        Err(AllocError) => Err(AllocError.into()),
+    }
+}
+
+// Runs the worker and the crowd in one pool, until each task has its answer or has left.
+fn called<R, W, S>(rt: R, service: S, worker: W, crowd: Crowd) -> io::Result<Polls>
+where
+    R: Wait + RandomSource + AllocGlobal + Copy,
+    W: Future<Output = ()> + Drop,
+    S: Service<u64> + Clone + Drop,
+    requires sound { S.sound service }
+    requires clones { (x y : S) → S.is_clone x y → S.sound x → S.sound y }
+    requires can_poll { W.can_poll worker }
+{
+    let (callers, turns, answers) = (Cell::new(0u64), Cell::new(0u64), Cell::new(0u64));
+    let mut pool = LocalPool::with_doorbell(&rt, Doorbell::parking())?;
+    let spawner = pool.spawner()?;
+    let worker = Counted::new(worker, &turns, u64::MAX);
+    if spawner.spawn(Either::Left(worker)).is_err() {
+        return Err(AllocError.into());
+    }
+    for number in 0..crowd.tasks {
+        let patience = crowd.patience_of(number);
+        let asked = Answered::new(service.clone()?, &answers, patience.waits());
+        let caller = Counted::new(asked.oneshot(number), &callers, patience.polls());
+        let _refused = spawner.spawn(Either::Right(caller));
+    }
+    drop(service);
+    pool.run(&rt);
+    Ok(Polls {
+        callers: callers.get(),
+        worker: turns.get(),
+        answers: answers.get(),
+    })
+}
