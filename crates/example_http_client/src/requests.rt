@@ -1,0 +1,31 @@
+//! The requests as a stream.
+
+use futures::stream::Stream;
+use futures::task::{Context, Poll};
+use tower::service::Flow;
+
+/// A stream of the requests, the last one first.
+#[derive(Drop)]
+pub struct Requests<T> {
+    left: Vec<T>,
+}
+
+impl<T> Requests<T> {
+    pub fn new(left: Vec<T>) -> Requests<T> {
+        Requests { left }
+    }
+}
+
+impl<T: Drop> Stream for Requests<T> {
+    type Item = T;
+
+    fn poll_next(&mut self, cx: &mut Context<'_>) -> Poll<Option<T>> {
+        self.flow(cx)
+    }
+}
+
+impl<T: Drop> Flow for Requests<T> {
+    fn flow(&mut self, _cx: &mut Context<'_>) -> Poll<Option<T>> {
+        Poll::Ready(self.left.pop())
+    }
+}
