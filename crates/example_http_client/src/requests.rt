@@ -1,18 +1,21 @@
-//! The requests as a stream.
+//! Requests as a stream.
 
 use futures::stream::Stream;
 use futures::task::{Context, Poll};
+use std::vec::IntoIter;
 use tower::service::Flow;
 
-/// A stream of the requests, the last one first.
+/// A stream of the requests, one at each poll.
 #[derive(Drop)]
 pub struct Requests<T> {
-    left: Vec<T>,
+    left: IntoIter<T>,
 }
 
 impl<T> Requests<T> {
-    pub fn new(left: Vec<T>) -> Requests<T> {
-        Requests { left }
+    pub fn new(requests: Vec<T>) -> Requests<T> {
+        Requests {
+            left: requests.into_iter(),
+        }
     }
 }
 
@@ -26,6 +29,6 @@ impl<T: Drop> Stream for Requests<T> {
 
 impl<T: Drop> Flow for Requests<T> {
     fn flow(&mut self, _cx: &mut Context<'_>) -> Poll<Option<T>> {
-        Poll::Ready(self.left.pop())
+        Poll::Ready(self.left.next())
     }
 }

@@ -1,18 +1,50 @@
-//! A server with a page that is there at once, and one that takes a second.
+//! A server of three pages, one of which takes a second.
+
+ghost use Rattle.std.specs.Prelude.{IfOk};
 
 use bytes::Bytes;
+use futures::future::Future;
 use futures::ready;
 use futures::task::{Context, Poll};
 use http_body_util::Full;
+use hyper::body::Incoming;
+use hyper::server::conn::http1;
 use hyper::{Request, Response};
-use std::alloc::{AllocError, Global};
+use std::alloc::{AllocError, AllocGlobal, Global};
 use std::convert::Infallible;
+use std::hash::RandomState;
+use std::io;
+use std::random::RandomSource;
+use tokio::io::{AsyncRead, AsyncWrite};
 use tower::Service;
 use tower::service::{Clock, Sleep, Steps};
+use tower_hyper::service::TowerToHyperService;
 
 const WAIT: u64 = 1_000_000_000;
 
+// It needs several writes of the connection in memory.
+const LONG: &str =
+    "Here is a page of more than a hundred bytes, so that it comes in more than one piece, since a piece has 64.\n";
+
 type Page = Full<Bytes>;
+
+/// Returns a future that serves the connection, each request by a clone of the stack.
+pub fn served<R, I, S>(
+    rt: &R,
+    io: I,
+    stack: S,
+) -> io::Result<http1::Connection<I, TowerToHyperService<S>, Page>>
+where
+    R: RandomSource + AllocGlobal,
+    I: AsyncRead + AsyncWrite,
+    S: Service<Request<Incoming<I>>, Response = Response<Page>, Error = Infallible> + Clone,
+    requires sound { S.sound stack }
+    requires clones { (old new : S) → S.is_clone old new → S.sound old → S.sound new }
+    ensures runs { IfOk result ⟦<http1::Connection<I, TowerToHyperService<S>, Page> as Future>⟧.can_poll }
+{
+    let http = http1::Builder::new(rt.alloc(), RandomState::new(rt)?);
+    Ok(http.serve_connection(io, TowerToHyperService::new(stack)))
+}
 
 /// The service that answers the requests.
 #[derive(Drop)]
@@ -49,6 +81,7 @@ impl<B: Drop, C: Clock> Service<Request<B>> for Server<C> {
 
     fn call(&mut self, request: Request<B>) -> Reply<C> {
         let (page, wait) = match request.uri().path() {
+            "/long" => (LONG, None),
             "/late" => ("at last\n", Some(Sleep::new(self.clock.share(), WAIT))),
             _ => ("here\n", None),
         };
