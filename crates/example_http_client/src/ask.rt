@@ -1,12 +1,14 @@
 //! Requests through a timeout and a limit, one after another.
 
+use crate::page::Page;
 use crate::requests::Requests;
 use bytes::Bytes;
 use futures::StreamExt;
 use futures::future::{Future, join};
 use http_body_util::{Collected, Empty};
+use hyper::body::Incoming;
 use hyper::header::HOST;
-use hyper::{Request, StatusCode};
+use hyper::{Request, Response, StatusCode};
 use std::alloc::AllocGlobal;
 use std::fmt::Display;
 use std::rt::Clock;
@@ -18,7 +20,7 @@ use tower_time::ClockLoop;
 const PATHS: [&str; 3] = ["/", "/long", "/late"];
 
 /// Asks for pages through a timeout of half a second, one at a time.
-pub fn ask<R, Q, S, E, F>(
+pub fn ask<R, Q, I, S, F>(
     rt: R,
     tasks: &mut ClockLoop<Q>,
     client: S,
@@ -27,15 +29,17 @@ pub fn ask<R, Q, S, E, F>(
 where
     R: Wait + AllocGlobal + Print + Copy,
     Q: Clock + Copy,
-    S: Service<Request<Empty<Bytes>>, Response = (StatusCode, Collected), Error = E>,
-    E: Display + Drop,
+    I: Drop,
+    S: Service<Request<Empty<Bytes>>, Response = Response<Incoming<I>>, Error = hyper::Error>,
     F: Future<Output: Drop>,
     requires sound { S.sound client }
     requires polled { F.can_poll connection }
 {
+    let alloc = rt.alloc();
     let stack = ServiceBuilder::new()
         .timeout(500_000_000, tasks.clock())
-        .concurrency_limit(rt, rt.alloc(), 1)
+        .concurrency_limit(rt, alloc, 1)
+        .and_then(move |response: Response<Incoming<I>>| Page::of(alloc, response))
         .service(client)?;
     ask_all(&rt, tasks, stack, connection)
 }

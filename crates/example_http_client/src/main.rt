@@ -8,10 +8,8 @@ mod requests;
 mod server;
 
 use ask::ask;
-use futures::future::join;
-use hyper::body::Incoming;
-use hyper::{Response, client};
-use page::Page;
+use futures::future::{Future, join};
+use hyper::client::conn::http1;
 use server::{Server, served};
 use std::alloc::AllocGlobal;
 use std::hash::RandomState;
@@ -19,27 +17,25 @@ use std::random::RandomSource;
 use std::rt::Clock;
 use std::sync::Wait;
 use tokio::io::{AsyncRead, AsyncWrite, duplex};
-use tower::ServiceExt;
 use tower_hyper::client::Client;
 use tower_time::ClockLoop;
 
 fn main(rt: HostRuntime) -> anyhow::Result<()> {
+    let mut tasks = ClockLoop::new(rt, &rt)?;
     let (near, far) = duplex(rt.alloc(), 64)?;
-    talk(rt, near, far)
+    let server = served(&rt, far, Server::new(rt.alloc(), tasks.clock()))?;
+    talk(rt, &mut tasks, near, server)
 }
 
-// Makes requests at the near end, while the far end is served.
-fn talk<R, I>(rt: R, near: I, far: I) -> anyhow::Result<()>
+// Connects a client over the stream, and asks the server, which is polled meanwhile, for pages.
+fn talk<R, Q, I, F>(rt: R, tasks: &mut ClockLoop<Q>, stream: I, server: F) -> anyhow::Result<()>
 where
-    R: Wait + RandomSource + AllocGlobal + Print + Clock + Copy,
+    R: Wait + RandomSource + AllocGlobal + Print + Copy,
+    Q: Clock + Copy,
     I: AsyncRead + AsyncWrite,
+    F: Future<Output: Drop>,
+    requires { F.can_poll server }
 {
-    let alloc = rt.alloc();
-    let mut tasks = ClockLoop::new(rt, &rt)?;
-    let served = served(&rt, far, Server::new(alloc, tasks.clock()))?;
-    let (sender, connection) = client::conn::http1::handshake(alloc, RandomState::new(&rt)?, near)?;
-    let client = Client::new(sender).and_then(move |response: Response<Incoming<I>>| Page::of(
-        alloc, response,
-    ));
-    ask(rt, &mut tasks, client, join(connection, served))
+    let (sender, connection) = http1::handshake(rt.alloc(), RandomState::new(&rt)?, stream)?;
+    ask(rt, tasks, Client::new(sender), join(connection, server))
 }
