@@ -20,6 +20,7 @@ sys.dont_write_bytecode = True
 import replay  # noqa: E402
 
 REFUSED = "out of memory"
+LATER = {"two": "t", "get_mut": "t", "retry_budget": "s", "buffer_beside_a_stream": "requests"}
 Line = collections.namedtuple("Line", "asked answer notes")
 Ran = collections.namedtuple("Ran", "returncode stdout stderr")
 
@@ -108,20 +109,22 @@ def is_cut(expected, came):
 
 
 def made_later(first):
-    """What a program makes only once the first parts are there: a second service, and the service of a policy with a budget."""
-    words = first.split(";")[0].split()
-    return collections.Counter("t" * bool({"two", "get_mut"} & set(words)) + "s" * (words[0] == "retry_budget"))
+    """What a program makes only once the first parts are there: a second service, the service of a policy with a budget, a stream of calls."""
+    return collections.Counter({LATER[word] for word in first.split(";")[0].split() if word in LATER})
 
 
 def is_over(base, came):
-    """Whether the first line made nothing: if anything was made by then, it was dropped, and so was all that was given; and the script is over."""
+    """Whether the first line made nothing: what was given and what was made by then was dropped, and nothing else; and the script is over. A latch that was itself
+    refused isn't dropped, and may have been asked for before any part was made."""
     notes = list(notes_of(came[0].notes))
     whole = [note for line in base for note in notes_of(line.notes)]
     later = made_later(base[0].asked)
     given = collections.Counter(drops(whole)) - collections.Counter(made_by(whole)) - later
-    is_dropped = collections.Counter(drops(notes)) - later == collections.Counter(made_by(notes)) + given
+    dropped, made = collections.Counter(drops(notes)) - later, collections.Counter(made_by(notes))
+    parts = given - collections.Counter(["latch"])
+    is_dropped = dropped == made + given or parts != given and (dropped == made + parts or not notes)
     rest = [line.asked for line in came[1:]]
-    return (is_dropped or not notes) and rest[-1] == "end" and all("the script is over" in it for it in rest[:-1])
+    return is_dropped and rest[-1] == "end" and all("the script is over" in it for it in rest[:-1])
 
 
 def ordered(before, lines):

@@ -49,7 +49,10 @@ pub fn play_round_a_limit<R: Wait + Copy>(
     let (Some(places), Some(permits)) = (script.number(0), script.number(1)) else {
         return script.unread(report);
     };
-    let limit = ConcurrencyLimit::new(rt, script.alloc(), script.service('s'), permits as usize)?;
+    let service = script.service('s');
+    let Ok(limit) = ConcurrencyLimit::new(rt, script.alloc(), service, permits as usize) else {
+        return script.over(report, "out of memory");
+    };
     if places > 0 {
         let service = Opens { inner: limit };
         guarded(
@@ -87,7 +90,10 @@ where
     requires sound { S.sound service }
 {
     let core: MailCore<Q, Pollable<S::Future>, E> = MailCore::new(script.alloc(), places);
-    let guarded = Guarded::new(rt, script.alloc(), core)?;
+    let Ok(guarded) = Guarded::new(rt, script.alloc(), core) else {
+        drop(service);
+        return script.over(report, "out of memory");
+    };
     let probe: Probe<Q, Pollable<S::Future>, E, _> = Probe::new(guarded.share()?);
     let latch = Named::new(script.stage().log, counts, guarded);
     over_latch(script, report, counts, requests, service, latch, probe)
@@ -112,8 +118,11 @@ where
     M: Mail + Drop,
     requires { S.sound service }
 {
-    let (buffer, worker): (Buffer<Q, S::Future, E, L>, Worker<S, Q, S::Future, E, L>) =
-        Buffer::with_latch(latch, service)?;
+    let made: Result<(Buffer<Q, S::Future, E, L>, Worker<S, Q, S::Future, E, L>), AllocError> =
+        Buffer::with_latch(latch, service);
+    let Ok((buffer, worker)) = made else {
+        return script.over(report, "out of memory");
+    };
     played::<Q, N, Buffer<Q, S::Future, E, L>, E, Worker<S, Q, S::Future, E, L>, M>(
         script, report, counts, requests, buffer, worker, probe,
     )

@@ -114,7 +114,9 @@ pub fn play_pending_requests<R: Wait + Copy>(
     report: &mut Report<'_>,
 ) -> Result<(), AllocError> {
     let shares = Cell::new(u8::MAX);
-    let latch = Guarded::new(rt, script.alloc(), CountCore::new())?;
+    let Ok(latch) = Guarded::new(rt, script.alloc(), CountCore::new()) else {
+        return script.over(report, "out of memory");
+    };
     let latch = Noting::new(script.stage().log, &shares, latch);
     over_latch(script, report, script.service('s'), latch, &shares)
 }

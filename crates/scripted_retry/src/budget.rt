@@ -1,5 +1,6 @@
 //! `budget TTL MIN NUMERATOR DIVISOR`, in nanoseconds and retries a second: over a latch whose steps are noted. `usual_budget`: over a lock.
 //! `deposit` and `withdraw` are asked of it; `spend` withdraws until that is refused, and tells how often it was allowed, 1400 at most.
+ghost use Rattle.tower_retry.specs.Budget.{Fits};
 
 use scripted::party::Party;
 use scripted::report::Report;
@@ -90,24 +91,38 @@ pub fn play<R: Wait + Copy>(
             if least < 4294967296 && BudgetCore::fits(ttl, least as u32, retries) => {
             let mut clock = script.clock();
             let moment = clock.now();
-            let core = BudgetCore::new(script.alloc(), ttl, least as u32, retries, moment)?;
-            over_latch(
-                script,
-                report,
-                Guarded::new(rt, script.alloc(), core)?,
-                clock,
-            )
+            let made = locked(rt, script.alloc(), ttl, least as u32, retries, moment);
+            over_latch(script, report, made, clock)
         }
         _ => script.unread(report),
     }
 }
 
+// A lock around the core of a budget of these numbers.
+fn locked<R: Wait + Copy>(
+    rt: R,
+    alloc: Global,
+    ttl: u64,
+    least: u32,
+    retries: Fraction,
+    moment: u64,
+) -> Result<Guarded<BudgetCore, R>, AllocError>
+    requires { Fits ttl least retries }
+{
+    let core = BudgetCore::new(alloc, ttl, least, retries, moment)?;
+    Guarded::new(rt, alloc, core)
+}
+
 fn over_latch<L: Latch<BudgetCore>>(
     script: &Script<'_>,
     report: &mut Report<'_>,
-    latch: L,
+    made: Result<L, AllocError>,
     clock: Hand<'_>,
 ) -> Result<(), AllocError> {
+    let Ok(latch) = made else {
+        drop(clock);
+        return script.over(report, "out of memory");
+    };
     let shares = Cell::new(u8::MAX);
     let latch = Noting::new(script.stage().log, &shares, latch);
     played(script, report, TpsBudget::with_latch(latch, clock))

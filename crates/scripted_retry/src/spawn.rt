@@ -54,7 +54,10 @@ where
     requires { S.sound service }
 {
     let hitches = Hitches::new();
-    let guarded = Guarded::new(rt, script.alloc(), SlotCore::new())?;
+    let Ok(guarded) = Guarded::new(rt, script.alloc(), SlotCore::new()) else {
+        drop(service);
+        return script.over(report, "out of memory");
+    };
     let latch = Told::new(script.stage().log, &hitches, guarded);
     over_latch(script, report, service, latch, &hitches, at_once)
 }
@@ -109,8 +112,10 @@ where
         tasks: &tasks,
         at_once,
     };
-    let handle = made(rt, script, service, spawner)?;
-    worked(script, report, handle, &tasks, &hitches)
+    match made(rt, script, service, spawner) {
+        Ok(handle) => worked(script, report, handle, &tasks, &hitches),
+        Err(AllocError) => script.over(report, "out of memory"),
+    }
 }
 
 // What the layer, or its clone, makes.

@@ -63,7 +63,7 @@ where
 {
     match Buffer::pair(rt, script.alloc(), service, 1) {
         Ok((buffer, worker)) => streamed(script, report, buffer, worker),
-        Err(error) => Err(error),
+        Err(AllocError) => script.over(report, "out of memory"),
     }
 }
 
@@ -73,8 +73,10 @@ pub fn beside_a_stream<R: Wait + Copy>(
     script: &Script<'_>,
     report: &mut Report<'_>,
 ) -> Result<(), AllocError> {
-    let limit = ConcurrencyLimit::new(rt, script.alloc(), script.service('s'), 1)?;
-    buffered(rt, script, report, limit)
+    match ConcurrencyLimit::new(rt, script.alloc(), script.service('s'), 1) {
+        Ok(limit) => buffered(rt, script, report, limit),
+        Err(AllocError) => script.over(report, "out of memory"),
+    }
 }
 
 // Where an executor keeps its task.
@@ -164,10 +166,13 @@ where
     requires same { (x y : E) → E.is_clone x y → y ≡ x }
 {
     let seat = Seat::new();
-    let client = ServiceBuilder::new()
+    let made = ServiceBuilder::new()
         .buffer(rt, script.alloc(), 5, Sits { seat: &seat })
-        .service(inner)?;
-    behind(script, report, client, seat.take())
+        .service(inner);
+    match made {
+        Ok(client) => behind(script, report, client, seat.take()),
+        Err(AllocError) => script.over(report, "out of memory"),
+    }
 }
 
 /// A buffer, a concurrency limit, a rate limit, retries, and maps of requests and responses.
@@ -176,12 +181,15 @@ pub fn whole_stack<R: Wait + Copy>(
     script: &Script<'_>,
     report: &mut Report<'_>,
 ) -> Result<(), AllocError> {
-    let inner = ServiceBuilder::new()
+    let made = ServiceBuilder::new()
         .concurrency_limit(rt, script.alloc(), 5)
         .rate_limit(script.alloc(), 5, 5_000_000_000, script.clock())
         .retry(NoRetries)
         .map_response(|response: u8| response == 7)
         .map_request(|request: bool| u8::from(request))
-        .service(script.service('s'))?;
-    queued(rt, script, report, inner)
+        .service(script.service('s'));
+    match made {
+        Ok(inner) => queued(rt, script, report, inner),
+        Err(AllocError) => script.over(report, "out of memory"),
+    }
 }

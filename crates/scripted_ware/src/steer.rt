@@ -22,6 +22,8 @@ pub fn play(script: &Script<'_>, report: &mut Report<'_>) -> Result<(), AllocErr
         return script.unread(report);
     }
     let picker = Picking::new(script, place as usize);
-    let service = Steer::new(alloc, services, picker)?;
-    script.play(report, service)
+    match Steer::new(alloc, services, picker) {
+        Ok(service) => script.play(report, service),
+        Err(AllocError) => script.over(report, "out of memory"),
+    }
 }

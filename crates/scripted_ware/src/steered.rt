@@ -6,8 +6,11 @@ use scripted::script::Script;
 use std::alloc::AllocError;
 use std::fmt::{Debug, Display};
 use std::sync::Wait;
+use tests_support::service::Scripted;
 use tower_base::service::Service;
+use tower_latch::Guarded;
 use tower_limit::limit::ConcurrencyLimit;
+use tower_limit::limit::concurrency::LineCore;
 use tower_ware::steer::{Picker, Steer};
 
 // Picks the first service.
@@ -25,10 +28,23 @@ pub fn play<R: Wait + Copy>(
     script: &Script<'_>,
     report: &mut Report<'_>,
 ) -> Result<(), AllocError> {
-    let alloc = script.alloc();
-    let first = ConcurrencyLimit::new(rt, alloc, script.service('s'), 1)?;
-    let second = ConcurrencyLimit::new(rt, alloc, script.service('t'), 1)?;
-    of_two(script, report, first, second)
+    match made(rt, script) {
+        Ok((first, second)) => of_two(script, report, first, second),
+        Err(AllocError) => script.over(report, "out of memory"),
+    }
+}
+
+type Locked<'a, R> = ConcurrencyLimit<Scripted<'a>, Guarded<LineCore, R>>;
+
+// The two limits.
+fn made<'a, R: Wait + Copy>(
+    rt: R,
+    script: &Script<'a>,
+) -> Result<(Locked<'a, R>, Locked<'a, R>), AllocError> {
+    let (first, second) = (script.service('s'), script.service('t'));
+    let first = ConcurrencyLimit::new(rt, script.alloc(), first, 1)?;
+    let second = ConcurrencyLimit::new(rt, script.alloc(), second, 1)?;
+    Ok((first, second))
 }
 
 // The list is made over any service: at a lock's type it is past the check's limits.
@@ -66,6 +82,8 @@ where
     requires some { 0 < length services.items }
     requires sound { (service : S) → S.sound service }
 {
-    let steer = Steer::new(script.alloc(), services, First)?;
-    script.play(report, steer)
+    match Steer::new(script.alloc(), services, First) {
+        Ok(steer) => script.play(report, steer),
+        Err(AllocError) => script.over(report, "out of memory"),
+    }
 }
