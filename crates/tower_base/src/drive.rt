@@ -149,6 +149,21 @@ impl<S, F, O> Driver<S, F, O> {
     }
 }
 
+impl<S: Drop, F, O: Drop> Driver<S, F, O> {
+    /// Drops the service and the closure, and returns the futures by their numbers.
+    pub fn into_futures(self) -> Vec<Slot<F>>
+        ensures { result ≡ self.futures }
+    {
+        let Driver {
+            service: _,
+            futures,
+            may_call: _,
+            outside: _,
+        } = self;
+        futures
+    }
+}
+
 // Makes one step.
 fn handle<Request, S, T, U, O>(
     driver: &mut Driver<S, S::Future, O>,

@@ -36,6 +36,14 @@ impl<F> ResponseFuture<F> {
     {
         ResponseFuture { response: None }
     }
+
+    /// Returns the inner response: `None` if the call was shed. The Rust has no such method.
+    pub fn into_inner(self) -> Option<F>
+        ensures { result ≡ self }
+    {
+        let ResponseFuture { response } = self;
+        response
+    }
 }
 
 impl<T, E, F: Steps<Output = Result<T, E>>> Future for ResponseFuture<F> {

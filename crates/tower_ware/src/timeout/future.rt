@@ -40,6 +40,20 @@ impl<F, C> ResponseFuture<F, C> {
     }
 }
 
+impl<F, C: Drop> ResponseFuture<F, C> {
+    /// Drops the clock and returns the inner response. The Rust has no such method.
+    pub fn into_inner(self) -> F
+        ensures { result ≡ self.response }
+    {
+        let ResponseFuture {
+            response,
+            deadline: _,
+            clock: _,
+        } = self;
+        response
+    }
+}
+
 impl<T, E, F, C> Future for ResponseFuture<F, C>
 where
     F: Steps<Output = Result<T, E>>,

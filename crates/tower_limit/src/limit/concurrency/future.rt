@@ -33,7 +33,9 @@ impl<F: Drop, L: Latch<LineCore>> Drop for ResponseFuture<F, L> {
     fn drop(self) {
         let ResponseFuture { response, permit } = self;
         drop(response);
-        drop(permit);
+        if let Some(permit) = permit {
+            permit.release();
+        }
     }
 }
 

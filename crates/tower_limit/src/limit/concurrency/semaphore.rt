@@ -134,6 +134,17 @@ impl<L: Latch<LineCore>> Permit<L> {
         let Placed { latch: _, token } = open::<Placed<L>, IsIts>(place);
         token
     }
+
+    // Gives the permit back, as its drop does. Inlined, since a drop that is called through
+    // `drop::<Option<Permit>>` is a function of its own in a large program.
+    #[inline(always)]
+    pub(crate) fn release(self)
+        ensures { (reply : _) × L.gave self.latch LineStep.Release reply }
+    {
+        let Permit { place } = self;
+        let Placed { latch, token } = open::<Placed<L>, IsIts>(place);
+        latch.give(LineStep::Release, token).1.end();
+    }
 }
 
 /// Dropping a permit gives it back by one step at its latch.
@@ -142,9 +153,7 @@ impl<L: Latch<LineCore>> Drop for Permit<L> {
     fn drop(self)
         ensures { (reply : _) × L.gave self.latch LineStep.Release reply }
     {
-        let Permit { place } = self;
-        let Placed { latch, token } = open::<Placed<L>, IsIts>(place);
-        latch.give(LineStep::Release, token).1.end();
+        self.release();
     }
 }
 
