@@ -5,9 +5,11 @@
 Each time the program ends for want of its own memory, or one line of one script meets the refusal, or nothing changes. (The parts are `quiet`, so a wake of the task's own
 shows.) The lines before it are as in a play with ample memory, and from there on each answer, note and drop is the one of a play that is known: of the plain machine in Python that the row has in
 `hostile/`, which is refused room at a place that it names (`MACHINES`), or of the same program on a script that leads to the same state without a
-refusal (`alike`). New copies are compared by their order, since what the refusal made and dropped counts too. It prints how often each was met, and how many refused plays went on to their last line."""
+refusal (`alike`). New copies are compared by their order, since what the refusal made and dropped counts too; each is dropped by the end of the script, if it is with
+ample memory. It prints how often each was met, and how many refused plays went on to their last line."""
 import collections
 import concurrent.futures
+import functools
 import os
 import re
 import subprocess
@@ -25,6 +27,7 @@ Line = collections.namedtuple("Line", "asked answer notes")
 Ran = collections.namedtuple("Ran", "returncode stdout stderr")
 
 
+@functools.cache
 def line_of(text):
     rest, _, notes = (text + " ").partition(" | ")
     asked, _, answer = rest.partition(" => ")
@@ -37,13 +40,16 @@ def scripts_of(text):
     return [list(map(line_of, lines)) for lines in texts if lines]
 
 
+@functools.cache
 def notes_of(text):
     """The notes one by one: `a, b x2 dropped` is three drops, and `c ready x63` one note 63 times."""
+    notes = []
     for note in filter(None, (it.strip() for it in text.split(";"))):
         names, is_drop, _ = note.partition(" dropped")
         for name in names.split(", ") if is_drop else [note]:
             name, _, count = name.partition(" x") if re.search(r" x\d+$", name) else (name, "", "1")
-            yield from [name + " dropped" * bool(is_drop)] * int(count)
+            notes += [name + " dropped" * bool(is_drop)] * int(count)
+    return notes
 
 
 class Program:
@@ -98,6 +104,12 @@ def made_by(notes):
             yield match[1]
         elif match := re.fullmatch(r"(\S+) called (\d+)", note):
             yield f"{match[1]}({match[2]})"
+
+
+def kept_by(lines):
+    """How many of the copies, shares and responses that these lines made were not dropped in them."""
+    notes = [note for line in lines for note in notes_of(line.notes)]
+    return (collections.Counter(made_by(notes)) - collections.Counter(drops(notes))).total()
 
 
 def is_cut(expected, came):
@@ -249,6 +261,8 @@ def told(program, base, ran, found, where):
     if not (name := known_by(program, one, came, place)):
         lines = [f"    {it.asked:14} => {it.answer:12} | {it.notes}" for it in came]
         sys.exit("\n".join([f"refused_scripts: {where}, line {place + 1} of this script: not as any machine says", *lines]))
+    if kept_by(came) > kept_by(one):
+        sys.exit(f"refused_scripts: {where}, line {place + 1} of this script: something that it made was never dropped\n{came}")
     found.met[name] += 1
     found.whole += len(came) == len(one) and came[-1].asked == "end" and "the script is over" not in "".join(it.asked for it in came)
 

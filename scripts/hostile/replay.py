@@ -37,8 +37,15 @@ class Row:
         whole = cls.whole(asked)
         before, here = ([0] + whole.ends)[place], whole.ends[place]
         for number in [*(it for it in range(before, here) if may_follow(whole.stage.rooms[it][1])), *range(before)]:
-            if may_begin(cls(asked[: place + 1], number).lines):
-                yield whole.stage.rooms[number][0], cls(asked, number).lines
+            lines = cls.refused_at(asked, number)
+            if may_begin(lines[: place + 1]):
+                yield whole.stage.rooms[number][0], lines
+
+    @classmethod
+    @functools.lru_cache(1024)
+    def refused_at(cls, asked, number):
+        """The lines of a play that is refused the room with this number."""
+        return cls(asked, number).lines
 
     def told(self, line, answer):
         if self.stage.notes:

@@ -14,6 +14,7 @@ use crate::tell;
 use crate::within_rate::Even;
 use futures::task::{Context, Poll};
 use std::alloc::AllocGlobal;
+use std::fmt::Display;
 use std::random::RandomSource;
 use std::sync::Wait;
 use std::{io, rt};
@@ -83,9 +84,19 @@ where
     let semaphore = Semaphore::new(rt, rt.alloc(), 3)?;
     let limited = ConcurrencyLimit::with_semaphore(Counted::new(Server(1)), semaphore);
     let inner = Timeout::new(Filter::new(limited, Even), 1_000_000_000, tasks.clock());
-    let mut five = RateLimit::new(rt.alloc(), inner, Rate::new(1, 2_000_000), tasks.clock())?;
-    if let Ok(ready) = tasks.block_on(&rt, Ready::<_, u32>::new(&mut five))? {
+    let five = RateLimit::new(rt.alloc(), inner, Rate::new(1, 2_000_000), tasks.clock())?;
+    call_twice(rt, &mut tasks, five)
+}
+
+// Makes a call whose response is dropped, and then one that is answered.
+fn call_twice<R, S>(rt: R, tasks: &mut ClockLoop<R>, mut service: S) -> io::Result<()>
+where
+    R: Wait + RandomSource + AllocGlobal + Print + rt::Clock + Copy,
+    S: Service<u32, Response: Display + Drop, Error: Display + Drop>,
+    requires { S.sound service }
+{
+    if let Ok(ready) = tasks.block_on(&rt, Ready::<_, u32>::new(&mut service))? {
         drop(ready.call(2));
     }
-    tell(rt, "stands", tasks.block_on(&rt, Oneshot::new(five, 4))?)
+    tell(rt, "stands", tasks.block_on(&rt, Oneshot::new(service, 4))?)
 }
