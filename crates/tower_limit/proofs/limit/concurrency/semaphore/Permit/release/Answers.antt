@@ -2,7 +2,7 @@ use Rattle.std.proofs.Common.{rules, ◌≡◌, arith, subst}
 use Rattle.tower_latch.specs.CoreTable.{places}
 use Rattle.tower_limit.proofs.Replies.{release_gains_none, release_pays}
 use Rattle.tower_limit.specs.declared.limit.concurrency.line_core.LineStep.TheVariants.{Release}
-use Rattle.tower_limit.proofs.limit.concurrency.semaphore.Permit.drop.Goals as goal
+use Rattle.tower_limit.proofs.limit.concurrency.semaphore.Permit.release.Goals as goal
 
 pub returns : goal.returns
 returns g c = (
