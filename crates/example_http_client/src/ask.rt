@@ -36,11 +36,29 @@ where
     requires polled { F.can_poll connection }
 {
     let alloc = rt.alloc();
+    let pages = client.and_then(move |response: Response<Incoming<I>>| Page::of(alloc, response));
+    ask_in_time(rt, tasks, pages, connection)
+}
+
+// Asks for whole pages.
+fn ask_in_time<R, Q, S, F>(
+    rt: R,
+    tasks: &mut ClockLoop<Q>,
+    pages: S,
+    connection: F,
+) -> anyhow::Result<()>
+where
+    R: Wait + AllocGlobal + Print + Copy,
+    Q: Clock + Copy,
+    S: Service<Request<Empty<Bytes>>, Response = (StatusCode, Collected), Error = hyper::Error>,
+    F: Future<Output: Drop>,
+    requires sound { S.sound pages }
+    requires polled { F.can_poll connection }
+{
     let stack = ServiceBuilder::new()
         .timeout(500_000_000, tasks.clock())
-        .concurrency_limit(rt, alloc, 1)
-        .and_then(move |response: Response<Incoming<I>>| Page::of(alloc, response))
-        .service(client)?;
+        .concurrency_limit(rt, rt.alloc(), 1)
+        .service(pages)?;
     ask_all(&rt, tasks, stack, connection)
 }
 
