@@ -7,6 +7,7 @@ pub mod DelayLemmas
 pub mod FilterLemmas
 pub mod HedgeLemmas
 pub mod LatencyLemmas
+pub mod LimitedRuns
 pub mod LoadShedLemmas
 pub mod PendingRequestsLemmas
 pub mod ReadyCacheLemmas

@@ -7,6 +7,8 @@ pub mod Delay
 pub mod Filter
 pub mod Hedge
 pub mod Latency
+pub mod Limited
+pub mod LimitedLemmas
 pub mod LoadShed
 pub mod PendingRequests
 pub mod ReadyCache

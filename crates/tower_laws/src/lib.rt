@@ -10,6 +10,7 @@ pub mod delay;
 pub mod filter;
 pub mod hedge;
 pub mod latency;
+pub mod limited;
 pub mod load_shed;
 pub mod pending_requests;
 pub mod ready_cache;
