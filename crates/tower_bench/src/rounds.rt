@@ -75,8 +75,9 @@ fn round<S: Service<u64, Response = u64>>(
     let Poll::Ready(Ok(())) = service.poll_ready(cx) else {
         return None;
     };
-    let mut future = service.call(request);
-    match future.step(cx) {
+    // The response is dropped at one place, so that its drop can be compiled into the loop.
+    let answer = service.call(request).step(cx);
+    match answer {
         Poll::Ready(Ok(response)) => Some(response),
         _ => None,
     }

@@ -66,6 +66,7 @@ fn main(rt: HostRuntime) -> io::Result<()> {
     latch::sell_two_seats(rt)?;
     permits::hold_three(rt)?;
     permits::hold_one_each(rt)?;
+    permits::hold_below_a_stack(rt)?;
     within_rate::hold_back(rt)?;
     within_rate::wait_for_each(rt)?;
     waits::within_rate(rt)?;

@@ -1,5 +1,5 @@
-//! Permits of one semaphore, gathered from its shares: never more than it has; and those of the responses of
-//! a program that waits.
+//! Permits of one semaphore, gathered from its shares: never more than it has; those of the responses of a
+//! program that waits; and those inside the responses of a whole stack.
 ghost use Rattle.std.specs.Prelude.{◌≡◌, ◌≤◌, IfOk};
 ghost use Rattle.tower_limit.specs.Concurrency.{idle};
 ghost use Rattle.uses.specs.Permits.{RanWithPermits};
@@ -8,16 +8,21 @@ use crate::server::Server;
 use futures::task::{Context, Doorbell, Poll, Solo};
 use std::alloc::{AllocError, AllocGlobal, Global};
 use std::cell::Cell;
-use std::io;
 use std::random::RandomSource;
 use std::sync::Wait;
+use std::{io, rt};
+use tower::drive::Event;
 use tower::latch::Latch;
 use tower::limit::concurrency::{
     ConcurrencyLimit, Error, LineCore, Permit, PollSemaphore, Semaphore,
 };
+use tower::load_shed::LoadShed;
+use tower::service::{Clock, SystemClock};
+use tower::timeout::Timeout;
 use tower::util::runs;
 use tower::{BlockOnExt, Service};
 use tower_laws::concurrency_limit;
+use tower_laws::limited::drive_within_limit;
 
 // Requests a permit from each of `shares` shares. Returns how many were there at once.
 fn gathered<L: Latch<LineCore>>(
@@ -77,6 +82,29 @@ where
     Ok(())
 }
 
+// Drives a load shed and a timeout over a limit of this semaphore. Returns how many responses are alive
+// below the limit in the end: never more than it has permits.
+fn drive_shed<S, C, L>(
+    alloc: Global,
+    cx: &mut Context<'_>,
+    semaphore: &Semaphore<L>,
+    server: S,
+    clock: C,
+    events: Vec<Event<u32, ()>>,
+) -> Result<usize, AllocError>
+where
+    S: Service<u32>,
+    C: Clock,
+    L: Latch<LineCore>,
+    requires { S.sound server }
+    ensures { IfOk result (λ alive. alive ≤ L.terms semaphore.now.latch) }
+{
+    let limit = ConcurrencyLimit::with_semaphore(server, semaphore.share()?);
+    let stack = LoadShed::new(Timeout::new(limit, 1_000_000_000, clock));
+    let (_transcript, alive) = drive_within_limit(alloc, cx, semaphore, stack, events, |_: ()| {})?;
+    Ok(alive)
+}
+
 /// Requests the three permits of a semaphore from five shares, and then keeps the permit of a response.
 pub fn hold_three<R>(rt: R) -> io::Result<()>
 where
@@ -108,4 +136,23 @@ where
         sum.set(u32::saturating_add(sum.get(), answer.unwrap_or(0)));
     })?;
     println!(rt; "permits: {} in three calls", sum.get())
+}
+
+/// Makes three calls of a stack over a semaphore of two, of which the last one is shed.
+pub fn hold_below_a_stack<R>(rt: R) -> io::Result<()>
+where
+    R: Wait + RandomSource + AllocGlobal + Print + rt::Clock + Copy,
+{
+    let (alloc, clock) = (rt.alloc(), SystemClock::new(rt)?);
+    let semaphore = Semaphore::new(rt, alloc, 2)?;
+    let mut events = Vec::new(alloc);
+    for request in 1..=3 {
+        events.push(Event::Poll)?;
+        events.push(Event::Call(request))?;
+    }
+    let solo = Solo::new(&rt, Doorbell::spinning())?;
+    let mut cx = solo.begin();
+    let alive = drive_shed(alloc, &mut cx, &semaphore, Server(1), clock, events);
+    cx.cancel();
+    println!(rt; "permits: {} alive below three layers", alive?)
 }
