@@ -106,10 +106,20 @@ def made_by(notes):
             yield f"{match[1]}({match[2]})"
 
 
+@functools.cache
+def counted(text):
+    """How often each copy, share and response was made in these notes, and how often each was dropped."""
+    notes = notes_of(text)
+    return collections.Counter(made_by(notes)), collections.Counter(drops(notes))
+
+
 def kept_by(lines):
     """How many of the copies, shares and responses that these lines made were not dropped in them."""
-    notes = [note for line in lines for note in notes_of(line.notes)]
-    return (collections.Counter(made_by(notes)) - collections.Counter(drops(notes))).total()
+    made, dropped = collections.Counter(), collections.Counter()
+    for line in lines:
+        for all_of, of_line in zip((made, dropped), counted(line.notes)):
+            all_of.update(of_line)
+    return (made - dropped).total()
 
 
 def is_cut(expected, came):

@@ -16,16 +16,22 @@ class Cache:
         self.stage = stage
         self.ready = []
         self.pending = []
+        # of each key its pending endpoint that isn't cancelled
+        self.waits = {}
 
     def index(self, key):
         return next((index for index, (other, _) in enumerate(self.ready) if other == key), len(self.ready))
 
     def awaited(self, key):
         """The key's pending endpoint that isn't cancelled."""
-        return next((entry for entry in self.pending if entry[0] == key and not entry[2]), None)
+        return self.waits.get(key)
+
+    def await_one(self, key, service):
+        self.waits[key] = [key, service, False]
+        self.pending.append(self.waits[key])
 
     def cancel(self, key):
-        entry = self.awaited(key)
+        entry = self.waits.pop(key, None)
         if entry:
             entry[2] = True
         return bool(entry)
@@ -35,7 +41,7 @@ class Cache:
         if not self.stage.has_room("a push that found no room"):
             return False
         self.cancel(key)
-        self.pending.append([key, service, False])
+        self.await_one(key, service)
         return True
 
     def remove(self, index):
@@ -61,6 +67,8 @@ class Cache:
             if answer == "pending":
                 continue
             self.pending.remove(entry)
+            if not is_cancelled:
+                del self.waits[key]
             if answer == "ready":
                 self.promote(key, service)
                 continue
@@ -95,7 +103,7 @@ class Cache:
         if self.awaited(key):
             service.drop()
         else:
-            self.pending.append([key, service, False])
+            self.await_one(key, service)
 
     def call(self, index, request):
         key, service = self.ready[index]
