@@ -14,9 +14,15 @@ use tower::retry::{Policy, Retry};
 use tower::service::Fraction;
 
 /// Pays for retries by what comes in for each response.
-#[derive(Drop)]
 pub struct Paying<B> {
     budget: B,
+}
+
+impl<B: Drop> Drop for Paying<B> {
+    #[inline(always)]
+    fn drop(self) {
+        let Paying { budget: _ } = self;
+    }
 }
 
 impl<B> Paying<B> {

@@ -95,8 +95,9 @@ where
     S: Service<u32, Response: Display + Drop, Error: Display + Drop>,
     requires { S.sound service }
 {
-    if let Ok(ready) = tasks.block_on(&rt, Ready::<_, u32>::new(&mut service))? {
-        drop(ready.call(2));
+    match tasks.block_on(&rt, Ready::<_, u32>::new(&mut service))? {
+        Ok(ready) => drop(ready.call(2)),
+        Err(error) => return tell(rt, "stands", Err::<S::Response, S::Error>(error)),
     }
     tell(rt, "stands", tasks.block_on(&rt, Oneshot::new(service, 4))?)
 }
