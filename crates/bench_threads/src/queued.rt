@@ -9,11 +9,11 @@ use std::random::RandomSource;
 use std::sync::Wait;
 use std::thread::Threads;
 use std::{io, thread};
+use tower::Service;
 use tower::buffer::{Buffer, MailCore, Worker};
 use tower::latch::Latch;
 use tower::latch::held::Pollable;
-use tower::util::Sealed;
-use tower::{BlockOnExt, Service};
+use tower::util::{Sealed, Waiter};
 
 type Mail = MailCore<u64, Pollable<Response>, Lost>;
 
@@ -134,9 +134,10 @@ where
     requires { B.sound service }
 {
     let mut service = Sealed::new(service);
+    let mut waiter = Waiter::new(rt)?;
     let mut sum = 0u64;
     for number in 0..each {
-        if let Ok(response) = service.block_on_call(rt, number ^ sum)? {
+        if let Ok(response) = waiter.block_on_call(rt, &mut service, number ^ sum)? {
             sum = sum.wrapping_add(response);
         }
     }

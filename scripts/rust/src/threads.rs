@@ -2,11 +2,11 @@
 //!
 //! Each caller is a thread of the system, which blocks on one call after another. The workers of buffers are tasks of one tokio runtime, with a
 //! thread for each buffer.
-use crate::rounds::{paying, Echo};
+use crate::rounds::{paying, Echo, Paying};
 use futures::executor::block_on;
 use std::sync::{Arc, Mutex};
 use std::time::Instant;
-use tower::{buffer::Buffer, limit::ConcurrencyLimit, retry::Retry, Service, ServiceExt};
+use tower::{buffer::Buffer, limit::ConcurrencyLimit, retry::budget::Budget, Service, ServiceExt};
 
 /// Runs a caller in each thread, and prints their sum and the time.
 fn line<F: FnOnce() -> u64 + Send>(name: &str, callers: Vec<F>) {
@@ -36,14 +36,15 @@ fn cloned<S: Service<u64, Response = u64> + Clone + Send>(name: &str, service: S
 
 pub fn all(count: u64, threads: u64) {
     let each = count / threads;
-    let lock = Mutex::new(Echo);
-    let held = || {
-        (0..each).fold(0u64, |sum, number| {
-            let mut service = lock.lock().expect("a lock");
-            sum.wrapping_add(block_on(service.call(number ^ sum)).unwrap_or(0))
-        })
+    let lock = Mutex::new(0u64);
+    let added = || {
+        (0..each).for_each(|number| {
+            let mut held = lock.lock().expect("a lock");
+            *held = held.wrapping_add(number);
+        });
+        *lock.lock().expect("a lock")
     };
-    line("lock", (0..threads).map(|_| held).collect());
+    line("lock", (0..threads).map(|_| added).collect());
     for buffers in [1u64, 2, 4].into_iter().filter(|buffers| *buffers <= threads) {
         let runtime = tokio::runtime::Builder::new_multi_thread().worker_threads(buffers as usize).build().expect("a runtime");
         let _inside = runtime.enter();
@@ -55,7 +56,9 @@ pub fn all(count: u64, threads: u64) {
     for max in [1, 2, 8] {
         cloned(&format!("a limit of {max}"), ConcurrencyLimit::new(Echo, max), threads, each);
     }
-    cloned("a budget", Retry::new(paying(0.2), Echo), threads, each);
+    let Paying(budget) = paying(0.2);
+    let paid = || (0..each).filter(|_| (budget.deposit(), budget.withdraw()).1).count() as u64;
+    line("a budget", (0..threads).map(|_| paid).collect());
     let semaphore = Arc::new(tokio::sync::Semaphore::new(1));
     let storm = || (0..each).filter(|_| block_on(semaphore.clone().acquire_owned()).is_ok()).count() as u64;
     line("a semaphore of 1", (0..threads).map(|_| storm).collect());
