@@ -2,8 +2,10 @@
 """scripts/by_function.py [--list] NAME ..: the instructions of a round of lines of `tower-bench`, by function, and those of them that are the compiler's.
 
 A round is the mean of 20,000, by callgrind, whose addresses are looked up in the disassembly (objdump) of crates/tower_bench/out/tower_bench. The
-compiler's are the tests of its flag, after each call of what may wait: an instruction that reads the flag, and the jump behind it; and clears: stores of
-a vector register that was set to zero. The flag is the byte that most instructions compare with 0. With --list each instruction of a round is printed too.
+compiler's are the tests of its flag, after each call of what may wait: an instruction that reads the flag, and the jump behind it; clears: stores of a
+vector register that was set to zero; copies of an enum's padding: moves of several bytes at an odd offset; and frames of functions that weren't compiled
+into their callers: calls, returns, and what saves registers. The flag is the byte that most instructions compare with 0. With --list each instruction of
+a round is printed too.
 """
 import collections
 import os
@@ -51,7 +53,7 @@ def counts(name):
 
 def told(name, code, flag, is_listed):
     zero, reads_flag = set(), False
-    sums = collections.defaultdict(lambda: [0, 0, 0])
+    sums = collections.defaultdict(lambda: [0, 0, 0, 0, 0])
     for at, count in sorted(counts(name).items()):
         if count < ROUNDS / 10:
             continue
@@ -63,10 +65,12 @@ def told(name, code, flag, is_listed):
         is_clear = cleared or (stored := re.match(r"mov[au]ps\s+(%xmm\d+),.*\(", text)) and stored[1] in zero
         if loaded := re.match(r"mov.*,(%xmm\d+)$", text):
             zero.discard(loaded[1])
-        for place, counted in enumerate((True, is_flag, is_clear)):
+        is_padding = re.match(r"(mov[^bz]*|lea) .*0x[0-9a-f]*[13579bdf]\(%", text)
+        is_frame = re.match(r"push|pop|call|ret|(add|sub) +\$0x[0-9a-f]+,%rsp", text)
+        for place, counted in enumerate((True, is_flag, is_clear, is_padding, is_frame)):
             sums[function][place] += bool(counted) * count / ROUNDS
         if is_listed:
-            print(f"{at:x} {count / ROUNDS:5.2f} {'flag' if is_flag else 'clear' if is_clear else '':5} {text}")
+            print(f"{at:x} {count / ROUNDS:5.2f} {'flag' if is_flag else 'clear' if is_clear else 'padding' if is_padding else 'frame' if is_frame else '':7} {text}")
     total = [sum(it) for it in zip(*sums.values())]
     print(f"| `{name}` | " + " | ".join(f"{it:.0f}" for it in total) + " | "
           + "; ".join(f"{it[0]:.0f} in `{function}`" for function, it in sorted(sums.items(), key=lambda it: -it[1][0])) + " |", flush=True)
@@ -75,7 +79,7 @@ def told(name, code, flag, is_listed):
 def main():
     words = [word for word in sys.argv[1:] if word != "--list"]
     code, flag = disassembly()
-    print("| Line | Instructions | Tests of the flag | Clears | By function |\n|---|---|---|---|---|")
+    print("| Line | Instructions | Tests of the flag | Clears | Padding | Frames | By function |\n|---|---|---|---|---|---|---|")
     for name in words:
         told(name, code, flag, "--list" in sys.argv)
 
