@@ -96,6 +96,6 @@ impl<T> SyncWrapper<T> {
 EOF
 printf '[source.crates-io]\nreplace-with = "debian"\n[source.debian]\ndirectory = "debian/usr/share/cargo/registry"\n' >.cargo/config.toml
 cp -r "$here/Cargo.toml" "$here/src" .
-# x86-64-v2 is what the kit's LLVM builds for.
+# As the Rust columns of docs/SPEED.md were built.
 RUSTFLAGS="-C target-cpu=x86-64-v2" cargo build --release --offline
 echo "$folder/target/release/rust-tower"
