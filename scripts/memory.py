@@ -1,7 +1,7 @@
 #!/usr/bin/env python3
 """scripts/memory.py RUST: prints the tables "Memory" of docs/SPEED.md, ours beside the Rust's, whose program RUST scripts/rust/build.sh builds.
 
-The first has the bytes of each middleware's service and response, as `tower-bench sizes` and `rust-tower sizes` print them. The second has the allocations of
+The first has the bytes of each middleware's service, and of a place for its response (an `Option` of it), as `tower-bench sizes` and `rust-tower sizes` print them. The second has the allocations of
 a round of each line of `tower-bench` that the Rust's program has too: those of 4000 rounds less those of 2000, over 2000, counted by scripts/count_alloc.c.
 """
 import os
@@ -19,9 +19,9 @@ NAMES = [*FLIGHTS, "retry_budget_one_retry", "balance_p2c_64_constant", "buffer_
 
 
 def sizes(words):
-    """The bytes of each service and each response, by the middleware's name."""
+    """The bytes of each service and of a place for its response, by the middleware's name."""
     told = subprocess.run(words, stdout=subprocess.PIPE, text=True, check=True).stdout
-    return {name: (service, future) for name, service, future in re.findall(r"(\w+): service (\d+), future (\d+)", told)}
+    return {name: (service, place) for name, service, place in re.findall(r"(\w+): service (\d+), place (\d+)", told)}
 
 
 def allocations(counter, words):
@@ -35,7 +35,7 @@ def allocations(counter, words):
 def main():
     rust = sys.argv[1]
     ours, theirs = sizes([OURS, "sizes"]), sizes([rust, "sizes"])
-    print("| Name | Service, ours | Rust | Response, ours | Rust |\n|---|---|---|---|---|")
+    print("| Name | Service, ours | Rust | Place, ours | Rust |\n|---|---|---|---|---|")
     for name in ours:
         other = theirs.get(name, ("", ""))
         print(f"| `{name}` | {ours[name][0]} | {other[0]} | {ours[name][1]} | {other[1]} |")

@@ -2,7 +2,7 @@
 use futures::future::{ready, Ready};
 use std::fmt::Debug;
 use std::future::Future;
-use std::mem::size_of_val;
+use std::mem::{size_of, size_of_val};
 use std::pin::{pin, Pin};
 use std::sync::atomic::{AtomicBool, Ordering};
 use std::sync::Arc;
@@ -150,13 +150,11 @@ pub fn in_flight<S: Service<u64, Response = u64>>(mut service: S, places: u64, c
 }
 struct Sizes(&'static str);
 impl Course for Sizes {
-    fn run<S: Service<u64, Response = u64>>(&self, mut service: S) -> u64
+    fn run<S: Service<u64, Response = u64>>(&self, service: S) -> u64
     where
         S::Error: Debug,
     {
-        let _ = service.poll_ready(&mut Context::from_waker(futures::task::noop_waker_ref()));
-        let bytes = size_of_val(&service);
-        println!("{}: service {bytes}, future {}", self.0, size_of_val(&service.call(0)));
+        println!("{}: service {}, place {}", self.0, size_of_val(&service), size_of::<Option<S::Future>>());
         0
     }
 }
