@@ -5,9 +5,11 @@
 # - in `unsafe` code, which may write over a value or read it twice: the library has `unsafe impl` alone;
 # - in a `static`, which is never dropped;
 # - where a value whose type has a `drop` of its own is taken apart, since its `drop` isn't called then. Only that `drop` may do it, and the
-#   functions of `taken_apart`, whose contracts say what they return in place of it. It isn't imported by another name.
+#   functions of `taken_apart`, whose contracts say what they return in place of it, or that they make its step. It isn't imported by
+#   another name.
 cd "$(dirname "${BASH_SOURCE[0]}")/.." || exit 1
-taken_apart='crates/tower_limit/src/limit/concurrency/semaphore.rt:into_token crates/tower_limit/src/limit/concurrency/future.rt:into_permit'
+semaphore=crates/tower_limit/src/limit/concurrency/semaphore.rt
+taken_apart="$semaphore:into_token $semaphore:release crates/tower_limit/src/limit/concurrency/future.rt:into_permit"
 names='forget|forget_promise|ManuallyDrop|MaybeUninit|leak|into_raw|into_raw_with_allocator|into_raw_parts|from_raw|from_raw_parts|from_raw_parts_mut'
 library=()
 for crate in crates/*/; do
