@@ -25,6 +25,9 @@ def lines(words):
 
 
 def storm(threads, each):
+    """The milliseconds of a storm, if the program was built."""
+    if not os.path.exists(STORM):
+        return {}
     start = time.monotonic()
     subprocess.run([STORM, "storm", str(threads), str(each), "1"], stdout=subprocess.DEVNULL, check=True)
     return {"a semaphore of 1": (time.monotonic() - start) * 1000}
