@@ -1,6 +1,6 @@
 #!/usr/bin/env bash
 # Runs each script here on the stack that its name begins with, and compares what is printed with the file beside it.
-# The outputs were worked out by hand. The program is ./tower-run, or the one that is named.
+# The outputs were worked out by hand. Without it nothing compares whole stacks with what somebody reckoned. The program is ./tower-run, or the one that is named.
 set -u
 program=$(realpath "${1:-$(dirname "${BASH_SOURCE[0]}")/../tower-run}") || exit 1
 cd "$(dirname "${BASH_SOURCE[0]}")" || exit 1

@@ -1,6 +1,7 @@
 #!/usr/bin/env python3
 """scripts/drops.py: drops each handle, response, worker and task of scripts at each point between two of their lines, and all of them at once.
 
+Without it a drop at another point than those of the scripts could lose a permit, a place or a message: no contract says what a drop does to others.
 It plays the files of PLAYED by the proved programs that `rt ci` left in out/ (or those in the folder PROGRAMS). At each point of each script it
 drops one thing, whichever there is, and the script goes on; or all handles and then all responses, or all responses and then all handles, and the
 script ends. Of each run, by what was noted:
@@ -20,15 +21,15 @@ import sys
 import tempfile
 
 sys.dont_write_bytecode = True
-from refused_scripts import notes_of  # noqa: E402
+from refused_scripts import joined, notes_of  # noqa: E402
 
 TOP = os.path.dirname(os.path.dirname(os.path.abspath(__file__)))
-# Of each kind of run the program, its files, and which of their scripts are played, by the first word.
+# Of each kind of run the folder of a program, its files, and which of their scripts are played, by the first word.
 PLAYED = {
-    "permits": ("scripted_ware", (("permits", "concurrency_limit"), ("concurrency_limit", "concurrency_limit"))),
-    "loads": ("scripted_pool", (("load", "pending_requests"),)),
-    "mail": ("scripted_pool", (("buffer", "buffer"), ("buffer_passes", "buffer"), ("buffer_round_a_limit", "buffer_round_a_limit"))),
-    "slot": ("scripted_retry", (("spawn_ready", "spawn_ready"),)),
+    "permits": ("scripted_ware/data/limit", (("permits", "concurrency_limit"), ("concurrency_limit", "concurrency_limit"), ("counting_latch", "concurrency_limit"))),
+    "loads": ("scripted_ware/data/limit", (("load", "pending_requests"),)),
+    "mail": ("scripted_pool/data/buffer", (("buffer", "buffer"), ("buffer_passes", "buffer"), ("buffer_round_a_limit", "buffer_round_a_limit"))),
+    "slot": ("scripted_pool/data/pool", (("spawn_ready", "spawn_ready"),)),
 }
 Line = collections.namedtuple("Line", "asked answer notes")
 
@@ -36,7 +37,7 @@ Line = collections.namedtuple("Line", "asked answer notes")
 def scripts_of(text):
     """The lines of each script, without comments: what is asked, the answer and the notes."""
     script = []
-    for line in [*text.splitlines(), ""]:
+    for line in [*joined(text).splitlines(), ""]:
         if not line.strip():
             if script:
                 yield script
@@ -75,7 +76,8 @@ def variants(kind, script):
         for first, last in ((handles, responses), (responses, handles)):
             for drops in ([*rest, *first], [*first, *rest], first) if rest else (first,):
                 yield [*asked[:place], *drops, *last, "end"], False
-        if kind == "mail" and script[0].asked.startswith("buffer "):
+        # (a buffer of 2^64 - 1 places isn't filled)
+        if kind == "mail" and script[0].asked.startswith("buffer ") and places_of(script[0].asked) < 10_000:
             yield with_spare(asked, place, letters, responses), True
 
 
@@ -243,9 +245,9 @@ def play(program, runs):
         return came
 
 
-def runs_of(kind, crate, file, name):
+def runs_of(kind, folder, file, name):
     """All runs of a file. (After `into_inner` no handle is left.)"""
-    with open(f"{TOP}/crates/{crate}/data/{file}.script", encoding="utf-8") as it:
+    with open(f"{TOP}/crates/{folder}/{file}.script", encoding="utf-8") as it:
         text = it.read()
     for script in scripts_of(text):
         first = script[0].asked.split(";")[0].split()
@@ -255,13 +257,14 @@ def runs_of(kind, crate, file, name):
 
 def main():
     failed = whole = 0
-    for kind, (crate, files) in PLAYED.items():
+    for kind, (folder, files) in PLAYED.items():
+        crate = folder.split("/")[0]
         program = f"{os.environ.get('PROGRAMS') or f'{TOP}/crates/{crate}/out'}/{crate}"
         if not os.access(program, os.X_OK):
             sys.exit(f"drops: {program} isn't there: rt run makes it")
         for file, name in files:
             count = 0
-            for runs in batches(runs_of(kind, crate, file, name)):
+            for runs in batches(runs_of(kind, folder, file, name)):
                 for (_, is_fresh), run in zip(runs, play(program, runs)):
                     for fault in faults(kind, run, is_fresh):
                         failed += 1

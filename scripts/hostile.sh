@@ -1,5 +1,5 @@
 #!/usr/bin/env bash
-# scripts/hostile.sh: plays random scripts over a hostile party. Each generator hostile/NAME.py writes files CRATE.NAME.script, of 10000 events
+# scripts/hostile.sh: plays random scripts over a hostile party: without it only what somebody thought of would be played. Each generator hostile/NAME.py writes files CRATE.NAME.script, of 10000 events
 # at least, whose answers and notes a plain machine tells. They are played with the proved program crates/CRATE/out/CRATE that `rt ci` or `rt run`
 # left there, or with $PROGRAMS/CRATE. It fails if any line is wrong. The scripts are always the same, but others for another SEED.
 set -uo pipefail

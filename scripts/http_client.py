@@ -1,7 +1,7 @@
 #!/usr/bin/env python3
 """scripts/http_client.py PROGRAM: asks `example_http` as a client of the network does. It accepts on the loopback and starts the program for each
-connection with the socket as its streams, as inetd does. Each wait and loop has a bound, and what is expected was worked out by hand. At the end no
-process may be left."""
+connection with the socket as its streams, as inetd does. Without it nothing would show that it serves a client that isn't its own. Each wait and loop has
+a bound, and what is expected was worked out by hand. At the end no process may be left."""
 import re
 import socket
 import subprocess

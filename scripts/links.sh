@@ -1,5 +1,6 @@
 #!/usr/bin/env bash
-# Each link of a document, inline or by reference, names a file or folder that is there. It prints those that don't.
+# Each link of a document, inline or by reference, names a file or folder that is there: without it links would break unseen as files move.
+# It prints those that are broken.
 set -u
 cd "$(dirname "${BASH_SOURCE[0]}")/.." || exit 1
 broken=0

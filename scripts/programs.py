@@ -2,6 +2,7 @@
 """scripts/programs.py: runs the proved `tower-run`, `example_paced_lines`, `example_timers`, `counted_polls` and `example_http`, as `rt ci` built them, with
 arguments, scripts and files of all kinds.
 
+Without it a program could take wrong arguments, or lose what it read or wrote where a call of the system fails: no contract speaks of those.
 Each run is compared whole: status, standard output, standard error. Reads and writes fail by fail_io.c, allocations by fail_alloc.c, threads by
 fail_thread.c. What is expected was worked out by hand.
 """
@@ -9,6 +10,7 @@ import os
 import pty
 import re
 import resource
+import shutil
 import subprocess
 import sys
 import tempfile
@@ -28,7 +30,7 @@ runs = 0
 
 def built(room, name):
     """Builds a library for LD_PRELOAD."""
-    kit = f"{os.path.dirname(os.path.dirname(os.path.realpath(subprocess.check_output(['which', 'rt'], text=True).strip())))}/toolchain/bin"
+    kit = f"{os.path.dirname(os.path.dirname(os.path.realpath(shutil.which('rt'))))}/toolchain/bin"
     made = f"{room}/{name}.so"
     subprocess.run([f"{kit}/clang", "-O1", "-shared", "-fPIC", "-nostdlib", f"-fuse-ld={kit}/ld.lld", "-o", made, f"{HERE}/{name}.c"], check=True)
     return made

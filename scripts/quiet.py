@@ -55,6 +55,8 @@ def wakes(row, line, before, waits):
         return "after the last pass"
     if line.notes.split("; ")[-1].startswith("clock read"):
         return "waits for a clock that wakes nobody"
+    if row == "spawn_ready" and any("Abort" in notes_of(it.notes) for it in [*before, line]):
+        return "looks at a slot that was aborted"
     if row.startswith("semaphore") and any(it.asked.startswith("cancel") for it in before):
         return "has lost its place, and asks again"
     if line.asked == "work" and waits.are_let_on(list(notes_of(line.notes))):

@@ -1,6 +1,7 @@
 #!/usr/bin/env python3
 """scripts/refused_scripts.py CRATE..: plays each file of scripts of the crates' data/ once for each allocation, which is refused, with the proved program that
 `rt ci` or `rt run` left in out/, or with those in the folder PROGRAMS. One run does it: it is forked at each allocation (fork_alloc.c).
+Without it a part could be left behind, or an answer be wrong, once memory was refused in the middle of a call: no clause says what is kept then.
 
 Each time the program ends for want of its own memory, or one line of one script meets the refusal, or nothing changes. (The parts are `quiet`, so a wake of the task's own
 shows.) The lines before it are as in a play with ample memory, and from there on each answer, note and drop is the one of a play that is known: of the plain machine in Python that the row has in
@@ -20,8 +21,11 @@ HERE = os.path.dirname(os.path.realpath(__file__))
 sys.path.insert(0, f"{HERE}/hostile")
 sys.dont_write_bytecode = True
 import replay  # noqa: E402
+from programs import built  # noqa: E402
 
 REFUSED = "out of memory"
+# These count the steps of what other files ask with refusals, up to a thousand steps in a script.
+COUNTING = "counting_latch.script"
 LATER = {"two": "t", "get_mut": "t", "retry_budget": "s", "buffer_beside_a_stream": "requests"}
 Line = collections.namedtuple("Line", "asked answer notes")
 Ran = collections.namedtuple("Ran", "returncode stdout stderr")
@@ -34,9 +38,14 @@ def line_of(text):
     return Line(asked.strip(), answer.strip(), notes.strip())
 
 
+def joined(text):
+    """The text with all notes of a line in that line."""
+    return re.sub(r"\n +\| ", " ", text)
+
+
 def scripts_of(text):
     """The lines of each script, without comments."""
-    texts = ([it for it in part.splitlines() if not it.startswith("#")] for part in re.split(r"\n(?:[ \t]*\n)+", text))
+    texts = ([it for it in part.splitlines() if not it.startswith("#")] for part in re.split(r"\n(?:[ \t]*\n)+", joined(text)))
     return [list(map(line_of, lines)) for lines in texts if lines]
 
 
@@ -286,17 +295,15 @@ def files_of(name, crates):
         if not os.access(path, os.X_OK):
             sys.exit(f"{name}: {path} isn't there: rt run makes it")
         data = f"{HERE}/../crates/{crate}/data"
-        yield from ((path, f"{data}/{file}") for file in sorted(os.listdir(data)) if file.endswith(".script"))
+        files = sorted(f"{folder}/{file}" for folder, _, files in os.walk(data) for file in files if file.endswith(".script"))
+        yield from ((path, file) for file in files)
 
 
 def main():
-    kit = f"{os.path.dirname(os.path.dirname(os.path.realpath(subprocess.check_output(['which', 'rt'], text=True).strip())))}/toolchain/bin"
     whole = Refusals()
     with tempfile.TemporaryDirectory() as room, concurrent.futures.ThreadPoolExecutor(os.cpu_count()) as pool:
-        library = f"{room}/fork_alloc.so"
-        linked = ["-O1", "-shared", "-fPIC", "-nostdlib", f"-fuse-ld={kit}/ld.lld"]
-        subprocess.run([f"{kit}/clang", *linked, "-o", library, f"{HERE}/fork_alloc.c"], check=True)
-        plays = [(file, pool.submit(refuse_each, path, file, library)) for path, file in files_of("refused_scripts", sys.argv[1:])]
+        library = built(room, "fork_alloc")
+        plays = [(file, pool.submit(refuse_each, path, file, library)) for path, file in files_of("refused_scripts", sys.argv[1:]) if os.path.basename(file) != COUNTING]
         for file, play in plays:
             found = play.result()
             met = "".join(f"; {number} {name}" for name, number in sorted(found.met.items()))

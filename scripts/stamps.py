@@ -1,16 +1,11 @@
 #!/usr/bin/env python3
 """scripts/stamps.py FOLDER: stamps the libraries that stand in a repository, as `rt lib` would. `rt ci` leaves its own without stamps, since they fit only each
-other: so all of them have to come from one run of it."""
-import importlib.machinery
-import importlib.util
+other: so all of them have to come from one run of it. Without it `scripts/vendor --built` would have the libraries proved once more for each test."""
 import os
-import shutil
 import sys
 
-PATH = os.path.realpath(shutil.which("rt"))
-loader = importlib.machinery.SourceFileLoader("rt", PATH)
-rt = importlib.util.module_from_spec(importlib.util.spec_from_loader("rt", loader))
-loader.exec_module(rt)
+sys.dont_write_bytecode = True  # no folder of its own in the repository
+from must_fail import rt  # noqa: E402
 
 
 def main(root):

@@ -82,4 +82,4 @@ def pending_requests(rng):
 
 
 if __name__ == "__main__":
-    write_hostile(sys.argv[1], "scripted_pool", "pending_requests", pending_requests)
+    write_hostile(sys.argv[1], "scripted_ware", "pending_requests", pending_requests)

@@ -266,4 +266,4 @@ def spawn_ready(rng):
 
 
 if __name__ == "__main__":
-    write_hostile(sys.argv[1], "scripted_retry", "spawn_ready", spawn_ready)
+    write_hostile(sys.argv[1], "scripted_pool", "spawn_ready", spawn_ready)

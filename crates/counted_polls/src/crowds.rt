@@ -1,8 +1,8 @@
 //! Polls of a crowd of tasks, each of which makes one call of a clone of one service.
-ghost use Rattle.std.specs.Prelude.{◌≡◌, ◌<◌};
+ghost use Rattle.std.specs.Prelude.{◌≡◌};
 
-use crate::tasks::{Answered, Counted, Echo};
-use futures::executor::LocalPool;
+use crate::tasks::{Answered, Counted, LATE};
+use futures::executor::{LocalPool, LocalSpawner};
 use futures::future::{Either, Future, ready};
 use futures::task::Doorbell;
 use std::alloc::{AllocError, AllocGlobal};
@@ -10,9 +10,10 @@ use std::cell::Cell;
 use std::io;
 use std::random::RandomSource;
 use std::sync::Wait;
-use tower::buffer::Buffer;
-use tower::limit::ConcurrencyLimit;
-use tower::{Service, ServiceExt};
+use tower_base::service::Service;
+use tower_buffer::buffer::Buffer;
+use tower_limit::limit::ConcurrencyLimit;
+use tower_util::util::Oneshot;
 
 /// How often the tasks that call were polled, and how often the worker, and how many answers came.
 #[derive(Clone, Copy)]
@@ -78,26 +79,39 @@ pub fn limited<R>(rt: R, max: usize, crowd: Crowd) -> io::Result<Polls>
 where
     R: Wait + RandomSource + AllocGlobal + Copy,
 {
-    let limit = ConcurrencyLimit::new(rt, rt.alloc(), Echo::late(), max)?;
+    let limit = ConcurrencyLimit::new(rt, rt.alloc(), LATE, max)?;
     called(rt, limit, ready(()), crowd)
 }
 
-/// Lets a crowd call through a buffer of `bound` places over the service, whose type is a parameter
-/// here, since the check refuses a buffer that is made over a concrete stack.
+/// Lets a crowd call through a buffer of `bound` places, of one at least, over the service, whose type is
+/// a parameter here, since the check refuses a buffer that is made over a concrete stack.
 pub fn buffered<R, S>(rt: R, service: S, bound: usize, crowd: Crowd) -> io::Result<Polls>
 where
     R: Wait + RandomSource + AllocGlobal + Copy,
     S: Service<u64, Response = u64>,
     S::Error: Clone,
-    requires positive { 0 < bound }
     requires sound { S.sound service }
     requires same { (x y : S.Error) → S.Error.is_clone x y → y ≡ x }
 {
-    match Buffer::pair(rt, rt.alloc(), service, bound) {
+    match Buffer::pair(rt, rt.alloc(), service, bound.max(1)) {
         Ok((buffer, worker)) => called(rt, buffer, worker, crowd),
         Err(AllocError) => Err(AllocError.into()),
     }
 }
+
+// The counts of a crowd, which its tasks share.
+#[derive(Drop)]
+struct Counts {
+    callers: Cell<u64>,
+    worker: Cell<u64>,
+    answers: Cell<u64>,
+}
+
+// A task of the pool: the worker, or a caller.
+type Task<'a, W, S> = Either<
+    Counted<W, &'a Cell<u64>>,
+    Counted<Oneshot<Answered<'a, S>, u64>, &'a Cell<u64>>,
+>;
 
 // Runs the worker and the crowd in one pool, until each task has its answer or has left.
 fn called<R, W, S>(rt: R, service: S, worker: W, crowd: Crowd) -> io::Result<Polls>
@@ -109,24 +123,70 @@ where
     requires clones { (x y : S) → S.is_clone x y → S.sound x → S.sound y }
     requires can_poll { W.can_poll worker }
 {
-    let (callers, turns, answers) = (Cell::new(0u64), Cell::new(0u64), Cell::new(0u64));
+    let counts = Counts {
+        callers: Cell::new(0),
+        worker: Cell::new(0),
+        answers: Cell::new(0),
+    };
     let mut pool = LocalPool::with_doorbell(&rt, Doorbell::parking())?;
-    let spawner = pool.spawner()?;
-    let worker = Counted::new(worker, &turns, u64::MAX);
-    if spawner.spawn(Either::Left(worker)).is_err() {
-        return Err(AllocError.into());
-    }
-    for number in 0..crowd.tasks {
-        let patience = crowd.patience_of(number);
-        let asked = Answered::new(service.clone()?, &answers, patience.waits());
-        let caller = Counted::new(asked.oneshot(number), &callers, patience.polls());
-        let _refused = spawner.spawn(Either::Right(caller));
-    }
-    drop(service);
+    spawn_all(&pool.spawner()?, service, worker, crowd, &counts)?;
     pool.run(&rt);
     Ok(Polls {
-        callers: callers.get(),
-        worker: turns.get(),
-        answers: answers.get(),
+        callers: counts.callers.get(),
+        worker: counts.worker.get(),
+        answers: counts.answers.get(),
     })
+}
+
+// Spawns the worker and the callers.
+fn spawn_all<'a, W, S>(
+    spawner: &LocalSpawner<Task<'a, W, S>>,
+    service: S,
+    worker: W,
+    crowd: Crowd,
+    counts: &'a Counts,
+) -> Result<(), AllocError>
+where
+    W: Future<Output = ()> + Drop,
+    S: Service<u64> + Clone + Drop,
+    requires sound { S.sound service }
+    requires clones { (x y : S) → S.is_clone x y → S.sound x → S.sound y }
+    requires can_poll { W.can_poll worker }
+{
+    let worker = Counted::new(worker, &counts.worker, u64::MAX);
+    if spawner.spawn(Either::Left(worker)).is_err() {
+        return Err(AllocError);
+    }
+    for number in 0..crowd.tasks {
+        spawn_caller(
+            spawner,
+            service.clone()?,
+            number,
+            crowd.patience_of(number),
+            counts,
+        );
+    }
+    Ok(())
+}
+
+// Spawns a task that makes one call.
+fn spawn_caller<'a, W, S>(
+    spawner: &LocalSpawner<Task<'a, W, S>>,
+    service: S,
+    number: u64,
+    patience: Patience,
+    counts: &'a Counts,
+)
+where
+    W: Future<Output = ()> + Drop,
+    S: Service<u64> + Drop,
+    requires { S.sound service }
+{
+    let asked = Answered::new(service, &counts.answers, patience.waits());
+    let caller = Counted::new(
+        Oneshot::new(asked, number),
+        &counts.callers,
+        patience.polls(),
+    );
+    let _refused = spawner.spawn(Either::Right(caller));
 }

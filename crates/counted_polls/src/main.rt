@@ -2,15 +2,11 @@
 //! exact, so each number is compared as it is. With an argument N: crowds of N tasks, whose polls aren't counted.
 #![tactic(auto)]
 
-ghost use Rattle.std.specs.Prelude.{◌<◌};
-
 mod crowds;
-mod spawned;
 mod tasks;
 
 use crate::crowds::{Crowd, Patience, buffered, limited};
-use crate::spawned::spawned;
-use crate::tasks::Echo;
+use crate::tasks::{Echo, LATE, PROMPT};
 use std::alloc::AllocGlobal;
 use std::random::RandomSource;
 use std::rt::Env;
@@ -38,66 +34,74 @@ fn tasks_of<R: Env + AllocGlobal>(rt: &R) -> io::Result<Option<u64>> {
 fn few<R: Wait + RandomSource + AllocGlobal + Print + Copy>(rt: R, tasks: u64) -> io::Result<()> {
     let _polls = limited(rt, 1, Crowd::staying(tasks))?;
     println!(rt; "a limit of 1: ended")?;
-    let _polls = buffered(rt, Echo::late(), 2, Crowd::staying(tasks))?;
+    let _polls = buffered(rt, LATE, 2, Crowd::staying(tasks))?;
     println!(rt; "a buffer of 2: ended")
 }
 
-// Prints the polls of each crowd, and of a `SpawnReady`.
+/// Crowds that call through a limit: its calls at a time, the tasks, the patience of every other one, and
+/// what is said of it.
+const LIMITED: [(usize, u64, Patience, &'static str); 7] = [
+    (1, 10, Patience::Endless, ""),
+    (1, 100, Patience::Endless, ""),
+    (1, 1_000, Patience::Endless, ""),
+    (1, 10_000, Patience::Endless, ""),
+    (8, 1_000, Patience::Endless, ""),
+    (1, 1_000, Patience::Polls(1), ", every other one leaves"),
+    (
+        1,
+        1_000,
+        Patience::Call,
+        ", every other response is dropped",
+    ),
+];
+
+/// Crowds that call through a buffer: its places, the service, the tasks, the patience of every other one,
+/// and what is said of it.
+const BUFFERED: [(usize, Echo, u64, Patience, &'static str); 9] = [
+    (64, PROMPT, 10, Patience::Endless, ""),
+    (64, PROMPT, 100, Patience::Endless, ""),
+    (64, PROMPT, 1_000, Patience::Endless, ""),
+    (64, PROMPT, 10_000, Patience::Endless, ""),
+    (1_000, LATE, 1_000, Patience::Endless, ", all in flight"),
+    (
+        64,
+        PROMPT,
+        1_000,
+        Patience::Polls(1),
+        ", every other waiter leaves",
+    ),
+    (
+        64,
+        PROMPT,
+        1_000,
+        Patience::Polls(2),
+        ", every other caller leaves",
+    ),
+    (
+        1_000,
+        LATE,
+        1_000,
+        Patience::Polls(2),
+        ", every other response is dropped",
+    ),
+    (
+        64,
+        PROMPT,
+        1_000,
+        Patience::Call,
+        ", every other message is cancelled",
+    ),
+];
+
+// Prints the polls of each crowd.
 fn all<R: Wait + RandomSource + AllocGlobal + Print + Copy>(rt: R) -> io::Result<()> {
-    limits(rt)?;
-    buffers(rt)?;
-    for (pending, times) in [(1, "once"), (10, "ten times")] {
-        let polls = spawned(rt, pending)?;
-        println!(rt;
-            "a SpawnReady, pending {times} in its task: {} polls of its owner, {} of its task, {} answered",
-            polls.owner, polls.task, polls.answers
-        )?;
+    for (max, tasks, patience, which) in LIMITED {
+        tell_limited(rt, max, Crowd { tasks, patience }, which)?;
+    }
+    for (bound, service, tasks, patience, which) in BUFFERED {
+        tell_buffered(rt, service, bound, Crowd { tasks, patience }, which)?;
     }
     Ok(())
-}
-
-// Prints the polls of crowds that call through a limit.
-fn limits<R: Wait + RandomSource + AllocGlobal + Print + Copy>(rt: R) -> io::Result<()> {
-    for tasks in [10, 100, 1_000, 10_000] {
-        tell_limited(rt, 1, Crowd::staying(tasks), "")?;
-    }
-    tell_limited(rt, 8, Crowd::staying(1_000), "")?;
-    let leaving = every_other(Patience::Polls(1));
-    tell_limited(rt, 1, leaving, ", every other one leaves")?;
-    let dropping = every_other(Patience::Call);
-    tell_limited(rt, 1, dropping, ", every other response is dropped")
-}
-
-// Prints the polls of crowds that call through a buffer.
-fn buffers<R: Wait + RandomSource + AllocGlobal + Print + Copy>(rt: R) -> io::Result<()> {
-    let (prompt, late) = (Echo::prompt(), Echo::late());
-    for tasks in [10, 100, 1_000, 10_000] {
-        tell_buffered(rt, prompt, 64, Crowd::staying(tasks), "")?;
-    }
-    let staying = Crowd::staying(1_000);
-    tell_buffered(rt, late, 1_000, staying, ", all in flight")?;
-    let waiters = every_other(Patience::Polls(1));
-    tell_buffered(rt, prompt, 64, waiters, ", every other waiter leaves")?;
-    let callers = every_other(Patience::Polls(2));
-    tell_buffered(rt, prompt, 64, callers, ", every other caller leaves")?;
-    let which = ", every other response is dropped";
-    tell_buffered(rt, late, 1_000, callers, which)?;
-    let dropping = every_other(Patience::Call);
-    tell_buffered(
-        rt,
-        prompt,
-        64,
-        dropping,
-        ", every other message is cancelled",
-    )
-}
-
-// A crowd of 1,000 tasks, every other of which has this patience.
-fn every_other(patience: Patience) -> Crowd {
-    Crowd {
-        tasks: 1_000,
-        patience,
-    }
 }
 
 // Prints the polls of a crowd that calls through a limit.
@@ -121,9 +125,7 @@ fn tell_buffered<R: Wait + RandomSource + AllocGlobal + Print + Copy>(
     bound: usize,
     crowd: Crowd,
     which: &str,
-) -> io::Result<()>
-    requires { 0 < bound }
-{
+) -> io::Result<()> {
     let polls = buffered(rt, service, bound, crowd)?;
     println!(rt;
         "a buffer of {bound}, {} tasks{which}: {} polls, {} of the worker, {} answered",

@@ -6,7 +6,7 @@ use futures::task::{Context, Poll};
 use std::cell::Cell;
 use std::marker::Model;
 use thiserror::Error;
-use tower::service::{Service, Steps};
+use tower_base::service::{Service, Steps};
 
 /// The service's error, which it never returns.
 #[derive(Clone, Copy, Debug, Error)]
@@ -32,33 +32,17 @@ impl Steps for Once {
     }
 }
 
-/// A service that returns each request, at once or at the second poll. It is always ready, but for its
-/// first polls if it is cold.
+/// A service that returns each request, at once or at the second poll. It is always ready.
 #[derive(Clone, Copy)]
 pub struct Echo {
     is_due: bool,
-    cold: u64,
 }
 
-impl Echo {
-    /// Returns responses that are ready at the first poll.
-    pub fn prompt() -> Echo {
-        Echo::cold(0)
-    }
+/// Returns responses that are ready at the first poll.
+pub const PROMPT: Echo = Echo { is_due: true };
 
-    /// Returns responses that are pending once.
-    pub fn late() -> Echo {
-        Echo {
-            is_due: false,
-            cold: 0,
-        }
-    }
-
-    /// Is pending so many times, and then prompt.
-    pub fn cold(cold: u64) -> Echo {
-        Echo { is_due: true, cold }
-    }
-}
+/// Returns responses that are pending once.
+pub const LATE: Echo = Echo { is_due: false };
 
 impl Service<u64> for Echo {
     type Response = u64;
@@ -69,12 +53,8 @@ impl Service<u64> for Echo {
 
     ghost readies = { λ _ _ _. tt };
 
-    fn poll_ready(&mut self, cx: &mut Context<'_>) -> Poll<Result<(), Lost>> {
-        if self.cold == 0 {
-            return Poll::Ready(Ok(()));
-        }
-        self.cold -= 1;
-        cx.yield_now()
+    fn poll_ready(&mut self, _cx: &mut Context<'_>) -> Poll<Result<(), Lost>> {
+        Poll::Ready(Ok(()))
     }
 
     fn call(&mut self, number: u64) -> Once {
@@ -201,15 +181,6 @@ impl<F, C> Counted<F, C> {
             polls,
             left,
         }
-    }
-
-    /// Returns the future.
-    pub fn into_inner(self) -> F
-    where
-        C: Drop,
-        ensures { result ≡ self.future }
-    {
-        self.future
     }
 }
 

@@ -2,7 +2,7 @@
 #![tactic(auto)]
 
 ghost use Rattle.std.specs.Prelude.{◌≡◌, ◌≤◌, Some, IfOk};
-ghost use Rattle.tower_limit.specs.Line.{blank};
+ghost use Rattle.tower_limit.specs.Line.{initial};
 ghost use Rattle.tower_limit.specs.LineCore.{StandsFor};
 
 mod audit;
@@ -54,7 +54,7 @@ fn shared<K: Log<LineCore> + Send + Sync, R: Threads + Wait + Copy + Send + Sync
     requires name { new_log.name ≡ K.name }
     requires parts { (new_log.parts ≡ K.parts) × (new_log.parts ≡ 3) }
     requires opening { K.opening ≡ Some line }
-    requires line { StandsFor line (blank max) }
+    requires line { StandsFor line (initial max) }
     requires table { table ≡ K.table }
     ensures { IfOk result (λ audit. audit.most ≤ max) }
 {

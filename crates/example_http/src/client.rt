@@ -33,7 +33,8 @@ pub enum Answer {
 #[derive(Drop)]
 pub struct Client<I> {
     stream: I,
-    sent: usize,
+    // What is left of the request.
+    request: &'static [u8],
     came: Vec<u8>,
 }
 
@@ -41,7 +42,7 @@ impl<I> Client<I> {
     pub fn new(alloc: Global, stream: I) -> Client<I> {
         Client {
             stream,
-            sent: 0,
+            request: REQUEST,
             came: Vec::new(alloc),
         }
     }
@@ -61,24 +62,26 @@ impl<I> Client<I> {
 }
 
 impl<I: AsyncRead + AsyncWrite> Client<I> {
-    // Sends the rest of the request. Returns whether the connection still takes bytes.
-    fn send(&mut self, cx: &mut Context<'_>) -> Poll<bool>
+    // Writes once if something is left of the request, and else reads once. Returns whether the connection
+    // goes on.
+    fn talk(&mut self, cx: &mut Context<'_>) -> Poll<bool>
         ensures armed { OnPending result (IsArmed cx.new) }
         ensures kept { Keeps cx.old cx.new }
     {
-        for _ in 0..REQUEST.len() {
-            let Some(rest) = REQUEST.get(self.sent..) else {
-                return Poll::Ready(true);
+        if !self.request.is_empty() {
+            return match ready!(self.stream.poll_write(cx, self.request)) {
+                Ok(0) | Err(_) => Poll::Ready(false),
+                Ok(count) => {
+                    self.request = &self.request[count..];
+                    Poll::Ready(true)
+                }
             };
-            if rest.is_empty() {
-                return Poll::Ready(true);
-            }
-            match ready!(self.stream.poll_write(cx, rest)) {
-                Ok(0) | Err(_) => return Poll::Ready(false),
-                Ok(count) => self.sent = self.sent.saturating_add(count),
-            }
         }
-        Poll::Ready(true)
+        let mut room = [0u8; 512];
+        match ready!(self.stream.poll_read(cx, &mut room)) {
+            Ok(0) | Err(_) => Poll::Ready(false),
+            Ok(count) => Poll::Ready(self.came.extend_from_slice(&room[..count]).is_ok()),
+        }
     }
 }
 
@@ -86,18 +89,9 @@ impl<I: AsyncRead + AsyncWrite> Future for Client<I> {
     type Output = Answer;
 
     fn poll(&mut self, cx: &mut Context<'_>) -> Poll<Answer> {
-        if !ready!(self.send(cx)) {
-            return Poll::Ready(self.answer());
-        }
-        let mut room = [0u8; 512];
         for _ in 0..64 {
-            match ready!(self.stream.poll_read(cx, &mut room)) {
-                Ok(0) | Err(_) => return Poll::Ready(self.answer()),
-                Ok(count) => {
-                    if self.came.extend_from_slice(&room[..count]).is_err() {
-                        return Poll::Ready(self.answer());
-                    }
-                }
+            if !ready!(self.talk(cx)) {
+                return Poll::Ready(self.answer());
             }
         }
         cx.yield_now()

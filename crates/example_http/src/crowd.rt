@@ -1,17 +1,15 @@
 //! Connections in memory, which share one stack.
-ghost use Rattle.std.specs.Prelude.{◌≡◌};
+ghost use Rattle.std.specs.Prelude.{◌≡◌, IfOk};
 
 use crate::client::{Answer, Client};
 use crate::connection::Serves;
 use crate::pipe::{Fault, Pipe};
-use crate::stream::Stream;
 use futures::executor::TaskSet;
-use futures::future::{self, Future, join};
+use futures::future::{self, Future, Join, join};
 use futures::ready;
 use futures::task::{Context, Doorbell, Poll};
 use std::alloc::{AllocError, AllocGlobal};
 use std::cell::Cell;
-use std::io::{Read, Write};
 use std::random::RandomSource;
 use std::rc::Rc;
 use std::rt;
@@ -50,6 +48,17 @@ impl Tally {
         };
         counter.set(counter.get().saturating_add(1));
     }
+
+    fn report<R: Print>(&self, rt: &R, connections: u64) -> anyhow::Result<()> {
+        println!(rt;
+            "{connections} requests: {} served, {} busy, {} broken, {} wrong",
+            self.served.get(),
+            self.busy.get(),
+            self.broken.get(),
+            self.wrong.get()
+        )?;
+        Ok(())
+    }
 }
 
 // A connection and its client, and where the client's answer is noted.
@@ -81,8 +90,29 @@ impl<F: Future<Output = (hyper::Result<()>, Answer)>> Future for Talk<F> {
     }
 }
 
+// A connection in memory and its client. The client makes one request.
+fn connect<R, T, V, H>(
+    rt: &R,
+    host: &H,
+    fault: &Fault,
+    tally: &Rc<Tally>,
+) -> anyhow::Result<Talk<Join<V, Client<Pipe>, hyper::Result<()>, Answer>>>
+where
+    R: RandomSource + AllocGlobal,
+    T: From<Pipe>,
+    V: Future<Output = hyper::Result<()>>,
+    H: Serves<T, Served = V>,
+    requires { H.can_serve host.now }
+    ensures { IfOk result ⟦<Talk<Join<V, Client<Pipe>, hyper::Result<()>, Answer>> as Future>⟧.can_poll }
+{
+    let (near, far) = duplex(rt.alloc(), PIPE)?;
+    let client = Client::new(rt.alloc(), Pipe::new(near, fault.clone()?));
+    let server = host.serves(rt, T::from(Pipe::new(far, fault.clone()?)))?;
+    Ok(Talk::new(join(server, client), tally.clone()?))
+}
+
 /// Serves so many connections at once, each of which makes one request, and prints how they were answered.
-pub fn crowd<R, Q, I, O, V, H>(
+pub fn crowd<R, Q, T, V, H>(
     rt: &R,
     tasks: &mut ClockLoop<Q>,
     host: &H,
@@ -92,34 +122,42 @@ pub fn crowd<R, Q, I, O, V, H>(
 where
     R: Wait + RandomSource + AllocGlobal + Print,
     Q: rt::Clock + Copy,
-    I: Read + Drop,
-    O: Write + Drop,
+    T: From<Pipe>,
     V: Future<Output = hyper::Result<()>>,
-    H: Serves<Stream<I, O>, Served = V>,
+    H: Serves<T, Served = V>,
     requires { H.can_serve host.now }
 {
-    let alloc = rt.alloc();
-    let set = TaskSet::new(rt, Doorbell::parking(), 1)?;
-    let tally = Rc::new(alloc, Tally::new())?;
+    let tally = Rc::new(rt.alloc(), Tally::new())?;
+    let talks = TaskSet::new(rt, Doorbell::parking(), 1)?;
     for _ in 0..connections {
-        let (near, far) = duplex(alloc, PIPE)?;
-        let client = Client::new(alloc, Pipe::new(near, fault.clone()?));
-        let far = Stream::Pipe(Pipe::new(far, fault.clone()?));
-        let server = host.serves(rt, far)?;
-        if set
-            .spawn(Talk::new(join(server, client), tally.clone()?))
-            .is_err()
-        {
+        let talk = connect::<R, T, V, H>(rt, host, fault, &tally)?;
+        if talks.spawn(talk).is_err() {
             return Err(AllocError.into());
         }
     }
-    tasks.block_on_with(rt, &set, future::ready(()))?;
-    println!(rt;
-        "{connections} requests: {} served, {} busy, {} broken, {} wrong",
-        tally.served.get(),
-        tally.busy.get(),
-        tally.broken.get(),
-        tally.wrong.get()
-    )?;
-    Ok(())
+    tasks.block_on_with(rt, &talks, future::ready(()))?;
+    tally.report(rt, connections)
+}
+
+/// Serves a crowd, one of whose reads or writes may fail, and then one of five, which are all served if all
+/// permits are back.
+pub fn crowds<R, Q, T, V, H>(
+    rt: &R,
+    tasks: &mut ClockLoop<Q>,
+    host: &H,
+    connections: u64,
+    fault: u64,
+) -> anyhow::Result<()>
+where
+    R: Wait + RandomSource + AllocGlobal + Print,
+    Q: rt::Clock + Copy,
+    T: From<Pipe>,
+    V: Future<Output = hyper::Result<()>>,
+    H: Serves<T, Served = V>,
+    requires { H.can_serve host.now }
+{
+    let fault = Rc::new(rt.alloc(), Cell::new(fault))?;
+    crowd::<R, Q, T, V, H>(rt, tasks, host, connections, &fault)?;
+    fault.set(0);
+    crowd::<R, Q, T, V, H>(rt, tasks, host, 5, &fault)
 }

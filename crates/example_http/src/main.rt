@@ -18,54 +18,29 @@ mod page;
 mod pipe;
 mod reply;
 mod routes;
+mod stack;
 mod stdio;
 mod stream;
 mod visits;
 
-use answer::{Failure, respond};
-use hyper::Response;
-use mode::{Mode, run};
-use page::Page;
+use mode::Mode;
 use routes::Routes;
+use stack::answer_all;
 use std::rc::Rc;
 use stdio::Stdio;
-use tower::limit::concurrency;
-use tower::{Own, ServiceBuilder, load_shed, timeout};
+use stream::Stream;
 use tower_time::ClockLoop;
 use visits::Visits;
 
-/// What the layers below `respond` return.
-type Outcome = Result<
-    Response<Page>,
-    load_shed::Error<concurrency::Error<timeout::Error<Own<http::Error>>>>,
->;
-
 fn main(rt: HostRuntime) -> anyhow::Result<()> {
-    let alloc = rt.alloc();
     let mode = Mode::asked(&rt)?;
     let mut tasks = ClockLoop::new(rt, &rt)?;
-    let visits = Rc::new(alloc, Visits::new())?;
-    let stack = ServiceBuilder::new()
-        .map_result(move |outcome: Outcome| -> Result<Response<Page>, Failure> {
-            respond(alloc, outcome)
-        })
-        .load_shed()
-        .concurrency_limit(rt, alloc, mode.limit())
-        .timeout(500_000_000, tasks.clock())
-        .service(Routes::new(alloc, tasks.clock(), visits.clone()?))?;
-    run(
-        &rt,
-        &mut tasks,
-        Stdio::new(rt.stdin(), rt.stdout()),
-        stack,
-        mode,
-    )?;
-    if let Mode::Crowd { .. } = mode {
-        println!(rt;
-            "at most {} inside at once, {} at the end",
-            visits.most(),
-            visits.now()
-        )?;
+    let visits = Rc::new(rt.alloc(), Visits::new())?;
+    let routes = Routes::new(rt.alloc(), tasks.clock(), visits.clone()?);
+    let stream = Stream::Standard(Stdio::new(rt.stdin(), rt.stdout()));
+    answer_all(&rt, &mut tasks, stream, routes, mode)?;
+    match mode {
+        Mode::Standard => Ok(()),
+        Mode::Crowd { .. } => visits.report(&rt),
     }
-    Ok(())
 }

@@ -2,20 +2,17 @@
 
 use crate::answer::Failure;
 use crate::connection::{OneStack, Served, serve};
-use crate::crowd::crowd;
+use crate::crowd::crowds;
 use crate::page::Page;
-use crate::stdio::Stdio;
-use crate::stream::Stream;
+use crate::pipe::Pipe;
 use hyper::body::Incoming;
 use hyper::{Request, Response};
 use std::alloc::AllocGlobal;
-use std::cell::Cell;
-use std::env;
-use std::io::{self, Read, Write};
 use std::random::RandomSource;
-use std::rc::Rc;
 use std::rt::{self, Env};
 use std::sync::Wait;
+use std::{env, io};
+use tokio::io::{AsyncRead, AsyncWrite};
 use tower::Service;
 use tower_time::ClockLoop;
 
@@ -56,41 +53,30 @@ fn number(word: Option<String>) -> u64 {
     }
 }
 
-/// Does what was asked for. A crowd is followed by one of five connections, which are all served if all
-/// permits are back.
-pub fn run<R, Q, I, O, S>(
+/// Does what was asked for.
+pub fn run<R, Q, T, S>(
     rt: &R,
     tasks: &mut ClockLoop<Q>,
-    stdio: Stdio<I, O>,
+    stream: T,
     stack: S,
     mode: Mode,
 ) -> anyhow::Result<()>
 where
     R: Wait + RandomSource + AllocGlobal + Print,
     Q: rt::Clock + Copy,
-    I: Read + Drop,
-    O: Write + Drop,
-    S: Service<Request<Incoming<Stream<I, O>>>, Response = Response<Page>, Error = Failure> + Clone,
+    T: AsyncRead + AsyncWrite + From<Pipe>,
+    S: Service<Request<Incoming<T>>, Response = Response<Page>, Error = Failure> + Clone,
     requires sound { S.sound stack }
     requires clones { (old new : S) → S.is_clone old new → S.sound old → S.sound new }
 {
     match mode {
         Mode::Standard => {
-            serve(rt, tasks, Stream::Standard(stdio), stack)??;
+            serve(rt, tasks, stream, stack)??;
             Ok(())
         }
         Mode::Crowd { connections, fault } => {
-            let fault = Rc::new(rt.alloc(), Cell::new(fault))?;
-            let stack = OneStack::new(stack);
-            crowd::<R, Q, I, O, Served<Stream<I, O>, S>, OneStack<S>>(
-                rt,
-                tasks,
-                &stack,
-                connections,
-                &fault,
-            )?;
-            fault.set(0);
-            crowd::<R, Q, I, O, Served<Stream<I, O>, S>, OneStack<S>>(rt, tasks, &stack, 5, &fault)
+            let host = OneStack::new(stack);
+            crowds::<R, Q, T, Served<T, S>, OneStack<S>>(rt, tasks, &host, connections, fault)
         }
     }
 }

@@ -14,6 +14,12 @@ pub enum Stream<I, O> {
     Pipe(Pipe),
 }
 
+impl<I, O> From<Pipe> for Stream<I, O> {
+    fn from(pipe: Pipe) -> Stream<I, O> {
+        Stream::Pipe(pipe)
+    }
+}
+
 impl<I: Read + Drop, O: Write + Drop> AsyncRead for Stream<I, O> {
     ghost reads = { λ _ _ _. ⊤ };
 

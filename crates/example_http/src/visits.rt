@@ -20,12 +20,14 @@ impl Visits {
         }
     }
 
-    pub fn now(&self) -> u64 {
-        self.now.get()
-    }
-
-    pub fn most(&self) -> u64 {
-        self.most.get()
+    /// Prints how many requests are with the routes now, and the most that were there at once.
+    pub fn report<R: Print>(&self, rt: &R) -> anyhow::Result<()> {
+        println!(rt;
+            "at most {} inside at once, {} at the end",
+            self.most.get(),
+            self.now.get()
+        )?;
+        Ok(())
     }
 }
 

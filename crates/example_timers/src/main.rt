@@ -9,6 +9,7 @@ use late::Late;
 use std::alloc::AllocGlobal;
 use std::io;
 use std::random::RandomSource;
+use std::rt::Clock as ReadsClock;
 use std::sync::Wait;
 use tower_base::service::{Clock, Polled, Service};
 use tower_time::{ClockLoop, Timers};
@@ -17,13 +18,7 @@ use tower_ware::timeout::Timeout;
 fn main(rt: HostRuntime) -> io::Result<()> {
     let timers = Timers::new(rt, rt.alloc())?;
     timers.beside(&rt, || in_pool(&rt, timers.clock()))?;
-    let mut tasks = ClockLoop::new(rt, &rt)?;
-    let late = Late::new(tasks.clock(), 20_000_000);
-    let mut stack = Timeout::new(late, 5_000_000, tasks.clock());
-    match tasks.block_on(&rt, Polled::new(stack.call(1)))? {
-        Ok(answer) => println!(rt; "answered {answer}"),
-        Err(error) => println!(rt; "{error}"),
-    }
+    in_loop(&rt, ClockLoop::new(rt, &rt)?)
 }
 
 fn in_pool<R, C>(rt: &R, clock: C) -> io::Result<()>
@@ -35,6 +30,19 @@ where
     let late = Late::new(clock.share(), 2_000_000);
     let mut stack = Timeout::new(late, 5_000_000_000, clock);
     match pool.run_until(rt, Polled::new(stack.call(1)))? {
+        Ok(answer) => println!(rt; "answered {answer}"),
+        Err(error) => println!(rt; "{error}"),
+    }
+}
+
+fn in_loop<R, K>(rt: &R, mut tasks: ClockLoop<K>) -> io::Result<()>
+where
+    R: Wait + AllocGlobal + Print,
+    K: ReadsClock + Copy,
+{
+    let late = Late::new(tasks.clock(), 20_000_000);
+    let mut stack = Timeout::new(late, 5_000_000, tasks.clock());
+    match tasks.block_on(rt, Polled::new(stack.call(1)))? {
         Ok(answer) => println!(rt; "answered {answer}"),
         Err(error) => println!(rt; "{error}"),
     }

@@ -1,7 +1,7 @@
 //! What a line of a script asks.
 
 use std::alloc::{AllocError, Global};
-use tests_support::script::{Mood, Reply};
+use tests_support::script::{Readiness, Reply};
 
 /// What a line asks. Handles and futures are numbered from 0 on.
 #[derive(Clone, Copy)]
@@ -16,14 +16,14 @@ pub enum Command<'a> {
     /// How many notes of the last line have this text.
     Count(&'a str),
     /// A change around the service.
-    Turn(Turn<'a>),
+    Directive(Directive<'a>),
     /// Words of the program's own.
     Other(&'a str),
 }
 
 /// A change around a service.
 #[derive(Clone, Copy)]
-pub enum Turn<'a> {
+pub enum Directive<'a> {
     /// From now on parts that are pending wake nobody, and it is noted if a poll that is pending wakes its task.
     Quiet,
     At(u64),
@@ -99,10 +99,10 @@ pub(crate) fn command_of(text: &str) -> Option<Command<'_>> {
         "drop" => Some(drop_of(rest).unwrap_or(Command::Other(text))),
         "end" if rest.is_empty() => Some(Command::End),
         "count" => Some(Command::Count(rest)),
-        "quiet" if rest.is_empty() => Some(Command::Turn(Turn::Quiet)),
-        "at" => Some(Command::Turn(Turn::At(rest.parse().ok()?))),
-        "others" => Some(Command::Turn(change_of(Side::Others, rest)?)),
-        "clones" | "answer" | "readiness" | "replies" => Some(Command::Turn(change_of(
+        "quiet" if rest.is_empty() => Some(Command::Directive(Directive::Quiet)),
+        "at" => Some(Command::Directive(Directive::At(rest.parse().ok()?))),
+        "others" => Some(Command::Directive(change_of(Side::Others, rest)?)),
+        "clones" | "answer" | "readiness" | "replies" => Some(Command::Directive(change_of(
             Side::Services,
             text,
         )?)),
@@ -111,29 +111,29 @@ pub(crate) fn command_of(text: &str) -> Option<Command<'_>> {
 }
 
 /// The change of this text.
-pub(crate) fn turn_of(text: &str) -> Option<Turn<'_>> {
+pub(crate) fn directive_of(text: &str) -> Option<Directive<'_>> {
     match command_of(text)? {
-        Command::Turn(turn) => Some(turn),
+        Command::Directive(turn) => Some(turn),
         _ => None,
     }
 }
 
-fn change_of(side: Side, text: &str) -> Option<Turn<'_>> {
+fn change_of(side: Side, text: &str) -> Option<Directive<'_>> {
     let (word, rest) = head_of(text);
     match word {
-        "clones" => Some(Turn::Clones(side, rest.parse().ok()?)),
+        "clones" => Some(Directive::Clones(side, rest.parse().ok()?)),
         "answer" => answered(side, rest),
-        "readiness" => Some(Turn::Readiness(side, rest)),
-        "replies" => Some(Turn::Replies(side, rest)),
+        "readiness" => Some(Directive::Readiness(side, rest)),
+        "replies" => Some(Directive::Replies(side, rest)),
         _ => None,
     }
 }
 
 // `0 ok 7` or `0 err 7`.
-fn answered(side: Side, text: &str) -> Option<Turn<'_>> {
+fn answered(side: Side, text: &str) -> Option<Directive<'_>> {
     let (call, answer) = text.split_once(' ')?;
     let (word, value) = answer.split_once(' ')?;
-    Some(Turn::Answer(side, call.parse().ok()?, answer_of(word, value)?))
+    Some(Directive::Answer(side, call.parse().ok()?, answer_of(word, value)?))
 }
 
 // `ok 7` or `err 7`.
@@ -146,16 +146,16 @@ fn answer_of(word: &str, number: &str) -> Option<Result<u8, u8>> {
 }
 
 // `ready`, `pending` or `error 7`.
-fn readiness_of(text: &str) -> Option<Mood> {
+fn readiness_of(text: &str) -> Option<Readiness> {
     match text {
-        "ready" => Some(Mood::Willing),
-        "pending" => Some(Mood::Busy),
-        _ => Some(Mood::Broken(text.strip_prefix("error ")?.parse().ok()?)),
+        "ready" => Some(Readiness::Ready),
+        "pending" => Some(Readiness::Pending),
+        _ => Some(Readiness::Error(text.strip_prefix("error ")?.parse().ok()?)),
     }
 }
 
 /// Words as `ready, pending, error 7`. There is no list if a word isn't one.
-pub fn readiness_list(alloc: Global, text: &str) -> Result<Option<Vec<Mood>>, AllocError> {
+pub fn readiness_list(alloc: Global, text: &str) -> Result<Option<Vec<Readiness>>, AllocError> {
     let mut list = Vec::new(alloc);
     for word in text.split(',') {
         match readiness_of(word.trim()) {

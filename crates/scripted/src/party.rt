@@ -30,6 +30,7 @@ pub trait Reader<S> {
 }
 
 /// Reads nothing.
+#[derive(Drop)]
 pub struct Unread;
 
 impl<S> Reader<S> for Unread {

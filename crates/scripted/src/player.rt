@@ -16,6 +16,26 @@ pub trait Services {
     fn play(&self, script: &Script<'_>, report: &mut Report<'_>) -> Result<(), AllocError>;
 }
 
+// The text with the notes of each line in that line: a line that begins with `|` goes on with those of the line before, after a tab.
+fn joined(alloc: Global, text: &str) -> Result<String, AllocError> {
+    let mut whole = String::new(alloc);
+    for (number, line) in text.lines().enumerate() {
+        match line.trim_start().strip_prefix("|") {
+            Some(notes) => {
+                whole.push('\t')?;
+                whole.push_str(notes)?;
+            }
+            None => {
+                if number > 0 {
+                    whole.push('\n')?;
+                }
+                whole.push_str(line)?;
+            }
+        }
+    }
+    Ok(whole)
+}
+
 /// Plays all scripts of the text.
 pub fn play<R, W>(
     rt: &R,
@@ -29,10 +49,10 @@ where
 {
     let alloc = rt.alloc();
     let solo = task(rt).map_err(|_| AllocError)?;
+    let text = joined(alloc, text)?;
     let mut steps = Vec::new(alloc);
-    let mut number = 0usize;
-    for text in text.lines() {
-        number = number.saturating_add(1);
+    let mut number = 1usize;
+    for text in text.as_str().lines() {
         let text = text.trim();
         if text.is_empty() {
             play_one(alloc, &solo, services, steps.as_slice(), report)?;
@@ -45,6 +65,7 @@ where
         } else {
             steps.push(Step::comment(number, text))?;
         }
+        number = number.saturating_add(text.split('\t').count());
     }
     play_one(alloc, &solo, services, steps.as_slice(), report)
 }

@@ -5,6 +5,12 @@ use std::alloc::{AllocError, Global};
 use std::fmt::{Debug, Display};
 use tests_support::log::Log;
 
+// A line that is written has at most two columns more, unless a note is longer: notes that find no room stand on further lines.
+const COLUMNS: usize = 198;
+
+// Where notes begin.
+const INDENT: usize = 45;
+
 /// What is done with what came of a line.
 #[derive(Clone, Copy, PartialEq, Eq)]
 pub enum Mode {
@@ -69,7 +75,7 @@ impl<'a> Report<'a> {
     }
 
     fn compared(&mut self, step: &Step<'_>, answer: &str, notes: &str) -> Result<(), AllocError> {
-        if step.answer == answer && step.notes == notes {
+        if step.answer == answer && step.has_notes(self.alloc, notes)? {
             return Ok(());
         }
         self.wrong = self.wrong.saturating_add(1);
@@ -157,7 +163,32 @@ fn written(
     if notes.is_empty() {
         return writeln!(text, "{left}");
     }
-    writeln!(text, "{left:<43} | {notes}")
+    write!(text, "{left:<43} |")?;
+    let mut columns = left.len().max(43).saturating_add(2);
+    for note in notes.split(';') {
+        let note = note.trim();
+        if note.len() <= COLUMNS - INDENT {
+            place(text, &mut columns, note, ';')?;
+            continue;
+        }
+        for part in note.split(", ") {
+            place(text, &mut columns, part, ',')?;
+        }
+        let _comma = text.pop();
+        text.push(';')?;
+    }
+    let _semicolon = text.pop();
+    text.push('\n')
+}
+
+// Adds a note, or a part of one, on a line of its own if it has no room on this one.
+fn place(text: &mut String, columns: &mut usize, note: &str, end: char) -> Result<(), AllocError> {
+    if columns.saturating_add(note.len()) > COLUMNS && *columns > INDENT {
+        write!(text, "\n{:<43} |", "")?;
+        *columns = INDENT;
+    }
+    *columns = columns.saturating_add(note.len()).saturating_add(2);
+    write!(text, " {note}{end}")
 }
 
 // Notes as a script has them, separated by semicolons. Drops in a row are one note, and a note in a row is counted.

@@ -1,11 +1,12 @@
 //! A script and what it is played with.
 ghost use Rattle.std.specs.Prelude.{◌≡◌, true};
 
-use crate::command::{Command, Turn, command_of, turn_of};
+use crate::command::{Command, Directive, command_of, directive_of};
 use crate::copies::Copies;
 use crate::handles::Handles;
 use crate::lone::Lone;
 use crate::party::{Nobody, Party, Reader, Unread};
+use crate::plays::{Cloned, PartyAlone, Plays, Served};
 use crate::report::Report;
 use crate::step::Step;
 use crate::turn::{Turned, turn};
@@ -15,7 +16,7 @@ use std::fmt::{Debug, Display};
 use tests_support::clock::Hand;
 use tests_support::run::is_woken;
 use tests_support::script::Script as Plan;
-use tests_support::service::{Place, Scripted};
+use tests_support::service::{Scripted, Target};
 use tests_support::story::Stage;
 use tower_base::service::{Service, Steps};
 
@@ -40,9 +41,9 @@ pub struct Places<'a> {
     pub letter: char,
 }
 
-impl<'a> Requests<Place<'a>> for Places<'a> {
-    fn request(&self, number: u8) -> Place<'a> {
-        Place::new(self.plan, self.letter, number)
+impl<'a> Requests<Target<'a>> for Places<'a> {
+    fn request(&self, number: u8) -> Target<'a> {
+        Target::new(self.plan, self.letter, number)
     }
 }
 
@@ -149,7 +150,7 @@ impl<'a> Script<'a> {
     // Changes what stands after the parts, before the service is made.
     pub(crate) fn set_up(&self, report: &mut Report<'_>) -> Result<(), AllocError> {
         for text in self.first.asked.split(';').skip(1) {
-            let turned = match turn_of(text.trim()) {
+            let turned = match directive_of(text.trim()) {
                 Some(change) => turn(self.alloc, self.stage, change)?,
                 None => Turned::Unread,
             };
@@ -225,24 +226,19 @@ impl<'a> Script<'a> {
         requires polled { always ≡ true → (old : S) (answer : _) (new : S) → S.polled old answer new → S.ready new }
         requires called { always ≡ true → (old : S) (request : Request) (future : S.Future) (new : S) → S.called old request future new → S.ready new }
     {
-        let mut handles: Handles<S, Request> = Handles::new(self.alloc, always, service)?;
-        report.came(self.stage.log, &self.first, "")?;
-        for step in self.rest {
-            let Some(command) = self.asked(report, step)? else {
-                continue;
-            };
-            let answer = match command {
-                Command::Clone(handle) => Some(handles.copy(always, handle)?),
-                Command::Count(text) => Some(report.count(text)?),
-                _ => self.answer(&mut handles, command, always, requests, party)?,
-            };
-            let Some(answer) = answer else {
-                report.unread(step)?;
-                continue;
-            };
-            self.came(report, step, answer.as_str())?;
-        }
-        Ok(())
+        let handles: Handles<S, Request> = Handles::new(self.alloc, always, service)?;
+        let reader = Unread;
+        let mut cloned = Cloned {
+            always,
+            served: Served {
+                alloc: self.alloc,
+                always,
+                handles,
+                requests,
+                reader: &reader,
+            },
+        };
+        self.each_step(report, &mut cloned, party)
     }
 
     /// Plays the script by this service, which has no clones.
@@ -293,28 +289,15 @@ impl<'a> Script<'a> {
         S::Error: Debug + Display,
         requires { S.sound service }
     {
-        let mut handles: Handles<S, Request> = Handles::new(self.alloc, false, service)?;
-        report.came(self.stage.log, &self.first, "")?;
-        for step in self.rest {
-            let Some(command) = self.asked(report, step)? else {
-                continue;
-            };
-            let read = match command {
-                Command::Other(words) => handles.read(reader, words)?,
-                Command::Count(text) => Some(report.count(text)?),
-                _ => None,
-            };
-            let answer = match read {
-                Some(answer) => Some(answer),
-                None => self.answer(&mut handles, command, false, requests, party)?,
-            };
-            let Some(answer) = answer else {
-                report.unread(step)?;
-                continue;
-            };
-            self.came(report, step, answer.as_str())?;
-        }
-        Ok(())
+        let handles: Handles<S, Request> = Handles::new(self.alloc, false, service)?;
+        let mut served = Served {
+            alloc: self.alloc,
+            always: false,
+            handles,
+            requests,
+            reader,
+        };
+        self.each_step(report, &mut served, party)
     }
 
     /// Plays the script by a party alone.
@@ -323,6 +306,19 @@ impl<'a> Script<'a> {
         report: &mut Report<'_>,
         party: &mut P,
     ) -> Result<(), AllocError> {
+        let mut alone = PartyAlone { alloc: self.alloc };
+        self.each_step(report, &mut alone, party)
+    }
+
+    // Plays all steps.
+    fn each_step<A: Plays<P>, P>(
+        &self,
+        report: &mut Report<'_>,
+        answers: &mut A,
+        party: &mut P,
+    ) -> Result<(), AllocError>
+        requires { A.sound answers.old }
+    {
         report.came(self.stage.log, &self.first, "")?;
         for step in self.rest {
             let Some(command) = self.asked(report, step)? else {
@@ -330,18 +326,13 @@ impl<'a> Script<'a> {
             };
             let answer = match command {
                 Command::Count(text) => Some(report.count(text)?),
-                Command::End => {
-                    party.end();
-                    Some(String::new(self.alloc))
-                }
-                Command::Turn(change) => self.turned(change)?,
-                _ => party.act(step.asked)?,
+                Command::Directive(change) => self.turned(change)?,
+                _ => answers.answer(self.solo, command, step.asked, party)?,
             };
-            let Some(answer) = answer else {
-                report.unread(step)?;
-                continue;
-            };
-            self.came(report, step, answer.as_str())?;
+            match answer {
+                Some(answer) => self.came(report, step, answer.as_str())?,
+                None => report.unread(step)?,
+            }
         }
         Ok(())
     }
@@ -400,46 +391,11 @@ impl<'a> Script<'a> {
     }
 
     // Makes the change and tells what came of it, if its words can be read.
-    fn turned(&self, change: Turn<'_>) -> Result<Option<String>, AllocError> {
+    fn turned(&self, change: Directive<'_>) -> Result<Option<String>, AllocError> {
         match turn(self.alloc, self.stage, change)? {
             Turned::Done => Ok(Some(String::new(self.alloc))),
             Turned::Skipped => Ok(Some("skipped".to_string(self.alloc)?)),
             Turned::Unread => Ok(None),
         }
-    }
-
-    fn answer<S, Request: Drop, Q: Requests<Request>, P: Party>(
-        &self,
-        handles: &mut Handles<S, Request>,
-        command: Command<'_>,
-        always: bool,
-        requests: &Q,
-        party: &mut P,
-    ) -> Result<Option<String>, AllocError>
-    where
-        S: Service<Request>,
-        S::Response: Display,
-        S::Error: Debug + Display,
-        requires polled { always ≡ true → (old : S) (answer : _) (new : S) → S.polled old answer new → S.ready new }
-        requires called { always ≡ true → (old : S) (request : Request) (future : S.Future) (new : S) → S.called old request future new → S.ready new }
-    {
-        let answer = match command {
-            Command::Poll(handle) => handles.poll(self.solo, always, handle)?,
-            Command::Call(handle, number) => {
-                handles.call(always, handle, requests.request(number))?
-            }
-            Command::Clone(_) | Command::Count(_) => return Ok(None),
-            Command::Future(number) => handles.future(self.solo, number)?,
-            Command::DropHandle(handle) => handles.drop_handle(handle).to_string(self.alloc)?,
-            Command::DropFuture(number) => handles.drop_future(number).to_string(self.alloc)?,
-            Command::End => {
-                handles.end();
-                party.end();
-                String::new(self.alloc)
-            }
-            Command::Turn(change) => return self.turned(change),
-            Command::Other(words) => return party.act(words),
-        };
-        Ok(Some(answer))
     }
 }

@@ -1,5 +1,7 @@
 //! The lines of a script.
 
+use std::alloc::{AllocError, Global};
+
 /// A line as it is written: `asked => answer | notes`.
 #[derive(Clone, Copy)]
 pub struct Step<'a> {
@@ -20,6 +22,13 @@ impl<'a> Step<'a> {
             answer: answer.trim(),
             notes: notes.trim(),
         }
+    }
+
+    /// Whether these notes are the step's, which may stand on several lines.
+    pub(crate) fn has_notes(&self, alloc: Global, notes: &str) -> Result<bool, AllocError> {
+        let expected: Vec<&str> = self.notes.split_whitespace().collect(alloc)?;
+        let came: Vec<&str> = notes.split_whitespace().collect(alloc)?;
+        Ok(expected.as_slice() == came.as_slice())
     }
 
     /// A comment between two lines of a script.

@@ -1,6 +1,6 @@
 //! What a script changes around a service.
 
-use crate::command::{Side, Turn, readiness_list, replies_list};
+use crate::command::{Directive, Side, readiness_list, replies_list};
 use std::alloc::{AllocError, Global};
 use tests_support::script::Script;
 use tests_support::story::Stage;
@@ -18,7 +18,7 @@ pub(crate) enum Turned {
 fn readiness(alloc: Global, plan: &Script<'_>, text: &str) -> Result<Turned, AllocError> {
     match readiness_list(alloc, text)? {
         Some(list) => {
-            plan.moods(list.as_slice());
+            plan.readiness(list.as_slice());
             Ok(Turned::Done)
         }
         None => Ok(Turned::Unread),
@@ -43,18 +43,22 @@ fn plan_of<'s, 'a>(stage: &'s Stage<'a>, side: Side) -> &'s Script<'a> {
 }
 
 /// Makes the change.
-pub(crate) fn turn(alloc: Global, stage: &Stage<'_>, turn: Turn<'_>) -> Result<Turned, AllocError> {
+pub(crate) fn turn(
+    alloc: Global,
+    stage: &Stage<'_>,
+    turn: Directive<'_>,
+) -> Result<Turned, AllocError> {
     match turn {
-        Turn::Quiet => stage.log.hush(),
-        Turn::At(moment) => stage.moment.set(moment),
-        Turn::Clones(side, clones) => plan_of(stage, side).clones(clones),
-        Turn::Answer(side, call, answer) => {
+        Directive::Quiet => stage.log.hush(),
+        Directive::At(moment) => stage.moment.set(moment),
+        Directive::Clones(side, clones) => plan_of(stage, side).clones(clones),
+        Directive::Answer(side, call, answer) => {
             if !plan_of(stage, side).answer(call, answer) {
                 return Ok(Turned::Skipped);
             }
         }
-        Turn::Readiness(side, text) => return readiness(alloc, plan_of(stage, side), text),
-        Turn::Replies(side, text) => return replies(alloc, plan_of(stage, side), text),
+        Directive::Readiness(side, text) => return readiness(alloc, plan_of(stage, side), text),
+        Directive::Replies(side, text) => return replies(alloc, plan_of(stage, side), text),
     }
     Ok(Turned::Done)
 }

@@ -11,7 +11,7 @@ use scripted::party::Reader;
 use scripted::report::Report;
 use scripted::script::{Numbers, Script};
 use std::alloc::{AllocError, Global};
-use tower::balance::p2c::Balance;
+use tower_pool::balance::p2c::Balance;
 
 type Balanced<'a, M> = Balance<Changes<'a, M>, Words<'a>, u8>;
 

@@ -3,7 +3,7 @@ ghost use Rattle.std.specs.Prelude.{◌≡◌, ◌<◌};
 
 use crate::mail::{Counts, Mail, Named, Probe};
 use crate::parcel::{Opens, Parcels};
-use crate::worker::Working;
+use crate::worker::Posting;
 use scripted::report::Report;
 use scripted::script::{Requests, Script};
 use std::alloc::AllocError;
@@ -148,6 +148,6 @@ where
     requires worker { W.can_poll worker }
     requires clones { (x y : B) → B.is_clone x y → B.sound x → B.sound y }
 {
-    let mut working = Working::new(script, counts, worker, probe);
-    script.play_with(report, buffer, requests, &mut working)
+    let mut posting = Posting::new(script, counts, worker, probe);
+    script.play_with(report, buffer, requests, &mut posting)
 }

@@ -15,9 +15,9 @@ use std::alloc::{AllocError, Global};
 use std::fmt::{Debug, Display};
 use tests_support::run::end;
 use tests_support::service::Scripted;
-use tower::ready_cache::ReadyCache;
-use tower::ready_cache::error::Failed;
 use tower_base::service::Service;
+use tower_pool::ready_cache::ReadyCache;
+use tower_pool::ready_cache::error::Failed;
 
 type Cache<'a> = ReadyCache<u8, Scripted<'a>, u8>;
 

@@ -7,7 +7,7 @@ use std::alloc::{AllocError, Global};
 use std::cell::{Cell, RefCell};
 use std::marker::PhantomData;
 use tests_support::log::Log;
-use tower::discover::{Change, Discover};
+use tower_limit::discover::{Change, Discover};
 
 /// What a poll of the discovery finds.
 #[derive(Clone, Copy)]

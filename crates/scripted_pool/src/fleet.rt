@@ -10,8 +10,8 @@ use std::cmp::Ordering;
 use tests_support::log::Log;
 use tests_support::script::Script as Plan;
 use tests_support::service::Scripted;
-use tower::load::Load;
 use tower_base::service::Service;
+use tower_limit::load::Load;
 
 /// The plans of the endpoints.
 #[derive(Drop)]
@@ -62,7 +62,7 @@ impl<'a> Fleet<'a> {
         };
         match word {
             "readiness" => match readiness_list(alloc, list)? {
-                Some(list) => self.plan(letter).moods(list.as_slice()),
+                Some(list) => self.plan(letter).readiness(list.as_slice()),
                 None => return Ok(false),
             },
             "replies" => match replies_list(alloc, list)? {

@@ -1,4 +1,4 @@
-//! Scripts of `tower::{balance, buffer, load, ready_cache}`, in data/.
+//! Scripts of `tower::{balance, ready_cache, spawn_ready}` in data/pool, and of `tower::buffer` in data/buffer.
 #![tactic(auto)]
 
 mod around;
@@ -7,10 +7,13 @@ mod buffer;
 mod cache;
 mod findings;
 mod fleet;
-mod load;
 mod mail;
 mod make;
 mod parcel;
+mod slot;
+mod spawn;
+mod tasks;
+mod turns;
 mod words;
 mod worker;
 
@@ -19,8 +22,9 @@ use scripted::player::Services;
 use scripted::program::run;
 use scripted::report::Report;
 use scripted::script::Script;
-use std::alloc::AllocError;
+use std::alloc::{AllocError, AllocGlobal};
 use std::io;
+use std::random::RandomSource;
 use std::sync::Wait;
 
 // The services of this program.
@@ -29,24 +33,26 @@ struct Pools<R> {
     rt: R,
 }
 
-impl<R: Wait + Copy> Services for Pools<R> {
+impl<R: Wait + RandomSource + AllocGlobal + Copy> Services for Pools<R> {
     fn play(&self, script: &Script<'_>, report: &mut Report<'_>) -> Result<(), AllocError> {
         match script.name() {
             "buffer" if script.knows(&[]) => buffer::play(self.rt, script, report),
             "buffer_round_a_limit" if script.knows(&[]) => buffer::play_round_a_limit(
                 self.rt, script, report,
             ),
-            _ => play_balance(self.rt, script, report),
+            "spawn_ready" if script.knows(&["at_once", "by_turns"]) => spawn::play(
+                self.rt, script, report,
+            ),
+            "spawn_ready_layer" if script.knows(&["cloned"]) => spawn::play_layer(
+                self.rt, script, report,
+            ),
+            _ => play_balance(script, report),
         }
     }
 }
 
-// The services of `tower::{balance, load, ready_cache}`.
-fn play_balance<R: Wait + Copy>(
-    rt: R,
-    script: &Script<'_>,
-    report: &mut Report<'_>,
-) -> Result<(), AllocError> {
+// The services of `tower::{balance, ready_cache}`.
+fn play_balance(script: &Script<'_>, report: &mut Report<'_>) -> Result<(), AllocError> {
     if !script.knows(&["layer"]) {
         return script.unread(report);
     }
@@ -55,8 +61,6 @@ fn play_balance<R: Wait + Copy>(
         "balance_never" => balance::play::<Never>(script, report),
         "make_balance" => make::play(script, report),
         "ready_cache" => cache::play(script, report),
-        "constant" => load::play_constant(script, report),
-        "pending_requests" => load::play_pending_requests(rt, script, report),
         _ => script.unread(report),
     }
 }

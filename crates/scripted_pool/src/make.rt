@@ -17,10 +17,10 @@ use tests_support::future::After;
 use tests_support::log::Log;
 use tests_support::script::Script as Plan;
 use tests_support::service::Scripted;
-use tower::balance::MakeError;
-use tower::balance::p2c::{MakeBalance, MakeBalanceLayer};
 use tower_base::layer::Layer;
 use tower_base::service::{Service, Steps};
+use tower_pool::balance::MakeError;
+use tower_pool::balance::p2c::{MakeBalance, MakeBalanceLayer};
 
 // Gives a discovery after a pending poll.
 #[derive(Clone, Drop)]

@@ -3,7 +3,7 @@
 use std::alloc::AllocError;
 use tests_support::log::Name;
 use tests_support::script::{Script as Plan, told_clone};
-use tower::util::rng::Rng;
+use tower_base::util::rng::Rng;
 
 /// The words of a list, and then 0 for ever. It notes each. Its clones are noted as `w`, and follow the plan's.
 #[derive(Drop)]

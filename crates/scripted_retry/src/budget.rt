@@ -1,5 +1,5 @@
 //! `budget TTL MIN NUMERATOR DIVISOR`, in nanoseconds and retries a second: over a latch whose steps are noted. `usual_budget`: over a lock.
-//! `deposit` and `withdraw` are asked of it; `spend` withdraws until that is refused, and tells how often it was allowed, 1400 at most.
+//! `deposit` and `withdraw` are asked of it, `withdraw of a clone` of a clone, which is dropped; `spend` withdraws until that is refused, and tells how often it was allowed, 1400 at most.
 ghost use Rattle.tower_retry.specs.Budget.{Fits};
 
 use scripted::party::Party;
@@ -31,7 +31,11 @@ fn spend<B: Budget>(budget: &mut B) -> usize {
     1400
 }
 
-impl<B: Budget> Party for Asked<B> {
+fn told(is_allowed: bool) -> &'static str {
+    if is_allowed { "allowed" } else { "refused" }
+}
+
+impl<B: Budget + Clone> Party for Asked<B> {
     fn act(&mut self, words: &str) -> Result<Option<String>, AllocError> {
         let Some(budget) = &mut self.budget else {
             return Ok(None);
@@ -41,11 +45,11 @@ impl<B: Budget> Party for Asked<B> {
                 budget.deposit();
                 Ok(Some(String::new(self.alloc)))
             }
-            "withdraw" => {
-                let answer = if budget.withdraw() {
-                    "allowed"
-                } else {
-                    "refused"
+            "withdraw" => Ok(Some(told(budget.withdraw()).to_string(self.alloc)?)),
+            "withdraw of a clone" => {
+                let answer = match budget.clone() {
+                    Ok(mut copy) => told(copy.withdraw()),
+                    Err(AllocError) => "out of memory",
                 };
                 Ok(Some(answer.to_string(self.alloc)?))
             }

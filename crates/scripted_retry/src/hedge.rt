@@ -1,10 +1,11 @@
-//! `hedge POINTS [SHARES] [unseeded]`: a second request is made after the time that nine of ten calls took, if so many latencies are known. Ten are
-//! known at first, eight of one millisecond and two of ten; if it is `unseeded`, none is. The histogram stands behind a latch whose steps are noted,
-//! and whose shares are refused after so many; its period is a minute.
+//! `hedge POINTS [SHARES] [unseeded] [thousand]`: a second request is made after the time that nine of ten calls took, if so many latencies are
+//! known. Ten are known at first, or a thousand, of which four of five are of one millisecond and the others of ten; if it is `unseeded`, none
+//! is. The histogram stands behind a latch whose steps are noted, and whose shares are refused after so many; its period is a minute.
 //!
 //! `locked_hedge POINTS NUMERATOR DIVISOR PERIOD [seeded]`: behind a lock; if it is `seeded`, a latency of one millisecond and one of three are known.
 ghost use Rattle.std.specs.Prelude.{◌≢◌};
 
+use crate::budget::fraction_at;
 use crate::nest::of_hedge;
 use crate::noted::Twice;
 use scripted::report::Report;
@@ -22,8 +23,19 @@ use tower_retry::hedge::rotating_histogram::HistoCore;
 
 const MINUTE: u64 = 60_000_000_000;
 
-// Eight of one millisecond, and two of ten.
-const LATENCIES: [u64; 10] = [1, 1, 1, 1, 1, 1, 1, 1, 10, 10];
+// Four of five of one millisecond, and then those of ten.
+fn latencies(script: &Script<'_>) -> Result<Vec<u64>, AllocError> {
+    let (count, short) = if script.has("thousand") {
+        (1000, 800)
+    } else {
+        (10, 8)
+    };
+    let mut latencies = Vec::new(script.alloc());
+    for place in 0..count {
+        latencies.push(if place < short { 1 } else { 10 })?;
+    }
+    Ok(latencies)
+}
 
 fn played<'a, L: Latch<HistoCore>>(
     script: &Script<'a>,
@@ -40,6 +52,7 @@ fn made<'a, L: Latch<HistoCore>>(
     script: &Script<'a>,
     latch: L,
     points: u64,
+    latencies: &[u64],
 ) -> Result<Hedge<Scripted<'a>, Twice<'a>, L, Hand<'a>>, AllocError> {
     let part = Fraction::new(9, 10);
     let service = script.service('s');
@@ -54,7 +67,7 @@ fn made<'a, L: Latch<HistoCore>>(
         points,
         part,
         script.clock(),
-        &LATENCIES,
+        latencies,
     )
 }
 
@@ -68,11 +81,12 @@ pub fn play<R: Wait + Copy>(
     };
     let shares = script.number(1).unwrap_or(255);
     let shares = Cell::new(if shares < 255 { shares as u8 } else { 255 });
+    let latencies = latencies(script)?;
     let core = HistoCore::new(script.alloc(), MINUTE, 0);
     match Guarded::new(rt, script.alloc(), core) {
         Ok(latch) => {
             let latch = Noting::new(script.stage().log, &shares, latch);
-            let made = made(script, latch, points);
+            let made = made(script, latch, points, latencies.as_slice());
             played(script, report, made)
         }
         Err(AllocError) => script.over(report, "out of memory"),
@@ -86,7 +100,7 @@ pub fn play_locked<R: Wait + Copy>(
 ) -> Result<(), AllocError> {
     let (Some(points), Some(part), Some(period)) = (
         script.number(0),
-        part_of(script),
+        fraction_at(script, 1),
         script.number(3),
     ) else {
         return script.unread(report);
@@ -96,18 +110,6 @@ pub fn play_locked<R: Wait + Copy>(
     }
     let made = made_locked(rt, script, points, part, period);
     played(script, report, made)
-}
-
-// The part of the latencies that a first call may take.
-fn part_of(script: &Script<'_>) -> Option<Fraction> {
-    match (script.number(1), script.number(2)) {
-        (Some(numerator), Some(divisor))
-            if numerator < 4294967296 && 0 < divisor && divisor < 4294967296 => Some(Fraction::new(
-            numerator as u32,
-            divisor as u32,
-        )),
-        _ => None,
-    }
 }
 
 fn made_locked<'a, R: Wait + Copy>(

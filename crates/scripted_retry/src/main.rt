@@ -1,4 +1,4 @@
-//! Scripts of `tower::retry`, its budget and its backoff, of `tower::hedge` and of `tower::spawn_ready`, in data/.
+//! Scripts of `tower::retry`, its budget and its backoff, and of `tower::hedge`, in data/retry.
 #![tactic(auto)]
 
 mod backoff;
@@ -13,18 +13,13 @@ mod policy;
 mod retry;
 mod rising;
 mod select;
-mod slot;
-mod spawn;
-mod tasks;
-mod turns;
 
 use scripted::player::Services;
 use scripted::program::run;
 use scripted::report::Report;
 use scripted::script::Script;
-use std::alloc::{AllocError, AllocGlobal};
+use std::alloc::AllocError;
 use std::io;
-use std::random::RandomSource;
 use std::sync::Wait;
 
 // The services of this program.
@@ -33,7 +28,7 @@ struct Retries<R> {
     rt: R,
 }
 
-impl<R: Wait + RandomSource + AllocGlobal + Copy> Services for Retries<R> {
+impl<R: Wait + Copy> Services for Retries<R> {
     fn play(&self, script: &Script<'_>, report: &mut Report<'_>) -> Result<(), AllocError> {
         match script.name() {
             "retry" if script.knows(&["uncopied", "layer", "get_mut", "into_inner"]) => retry::play(
@@ -47,8 +42,8 @@ impl<R: Wait + RandomSource + AllocGlobal + Copy> Services for Retries<R> {
     }
 }
 
-// Budgets and backoffs alone, and the services of `tower::spawn_ready`.
-fn play_cores<R: Wait + RandomSource + AllocGlobal + Copy>(
+// Budgets and backoffs alone.
+fn play_cores<R: Wait + Copy>(
     rt: R,
     script: &Script<'_>,
     report: &mut Report<'_>,
@@ -57,8 +52,6 @@ fn play_cores<R: Wait + RandomSource + AllocGlobal + Copy>(
         "budget" if script.knows(&[]) => budget::play(rt, script, report),
         "usual_budget" if script.knows(&[]) => budget::play_usual(rt, script, report),
         "backoff" if script.knows(&["refused"]) => backoff::play(script, report),
-        "spawn_ready" if script.knows(&["at_once", "by_turns"]) => spawn::play(rt, script, report),
-        "spawn_ready_layer" if script.knows(&["cloned"]) => spawn::play_layer(rt, script, report),
         _ => play_hedge(rt, script, report),
     }
 }
@@ -74,7 +67,7 @@ fn play_hedge<R: Wait + Copy>(
         "longest_delay" if script.knows(&[]) => delay::play_longest(script, report),
         "select" if script.knows(&[]) => select::play(script, report),
         "latency" if script.knows(&[]) => latency::play(script, report),
-        "hedge" if script.knows(&["unseeded"]) => hedge::play(rt, script, report),
+        "hedge" if script.knows(&["unseeded", "thousand"]) => hedge::play(rt, script, report),
         "locked_hedge" if script.knows(&["seeded"]) => hedge::play_locked(rt, script, report),
         _ => script.unread(report),
     }

@@ -4,7 +4,7 @@ ghost use Rattle.std.specs.Prelude.{⊤};
 use scripted::script::Script;
 use std::alloc::AllocError;
 use tests_support::log::Log;
-use tests_support::service::Place;
+use tests_support::service::Target;
 use tower_retry::hedge::latency::Record;
 use tower_retry::hedge::{Policy, delay, select};
 
@@ -19,7 +19,7 @@ const ONCE: u8 = 91;
 #[derive(Clone, Drop)]
 pub struct Twice<'a> {
     log: &'a Log,
-    part: Place<'a>,
+    part: Target<'a>,
 }
 
 impl<'a> Twice<'a> {
@@ -27,7 +27,7 @@ impl<'a> Twice<'a> {
         let stage = script.stage();
         Twice {
             log: stage.log,
-            part: Place::new(&stage.others, 'p', 0),
+            part: Target::new(&stage.others, 'p', 0),
         }
     }
 
@@ -91,7 +91,7 @@ impl delay::Policy<u8> for Longest {
 #[derive(Clone, Drop)]
 pub struct Noted<'a> {
     log: &'a Log,
-    part: Place<'a>,
+    part: Target<'a>,
 }
 
 impl<'a> Noted<'a> {
@@ -99,7 +99,7 @@ impl<'a> Noted<'a> {
         let stage = script.stage();
         Noted {
             log: stage.log,
-            part: Place::new(&stage.others, 'n', 0),
+            part: Target::new(&stage.others, 'n', 0),
         }
     }
 }

@@ -29,7 +29,7 @@ struct Paying<B> {
 impl<B: Budget> Policy<u8, u8, u8> for Paying<B> {
     type Future = Ready<()>;
 
-    ghost asked = { λ _ _ _ _ _ _ _. ⊤ };
+    ghost decided = { λ _ _ _ _ _ _ _. ⊤ };
 
     ghost cloned = { λ _ _ _ _. ⊤ };
 
@@ -58,7 +58,7 @@ struct Patient<W> {
 impl<G: Rng, C: Clock> Policy<u8, u8, u8> for Patient<ExponentialBackoff<G, C>> {
     type Future = Sleep<C>;
 
-    ghost asked = { λ _ _ _ _ _ _ _. ⊤ };
+    ghost decided = { λ _ _ _ _ _ _ _. ⊤ };
 
     ghost cloned = { λ _ _ _ _. ⊤ };
 

@@ -130,7 +130,7 @@ impl<'w, 'a> Rule<'w, 'a> {
 impl<'w, 'a> Policy<u8, u8, u8> for Rule<'w, 'a> {
     type Future = After<'a, ()>;
 
-    ghost asked = { λ _ _ _ _ _ _ _. ⊤ };
+    ghost decided = { λ _ _ _ _ _ _ _. ⊤ };
 
     ghost cloned = { λ _ _ _ _. ⊤ };
 
@@ -197,7 +197,7 @@ pub struct Stubborn {
 impl<E: Drop> Policy<u8, u8, E> for Stubborn {
     type Future = Ready<()>;
 
-    ghost asked = { λ _ _ _ _ _ _ _. ⊤ };
+    ghost decided = { λ _ _ _ _ _ _ _. ⊤ };
 
     ghost cloned = { λ _ _ _ _. ⊤ };
 

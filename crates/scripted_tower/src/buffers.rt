@@ -1,20 +1,21 @@
 //! A buffer round a limit beside a stream of calls, and outermost in a whole stack of the builder.
 ghost use Rattle.std.specs.Prelude.{◌≡◌};
 
-use crate::beside::{Streaming, Working};
 use crate::policies::NoRetries;
 use scripted::flow::Flowing;
 use scripted::report::Report;
 use scripted::script::{Numbers, Requests, Script};
+use scripted::stream::Streaming;
+use scripted::worker::Working;
 use std::alloc::AllocError;
-use std::cell::RefCell;
 use std::fmt::{Debug, Display};
 use std::sync::Wait;
 use tests_support::stream::{Outbox, Requests as Sent};
+use tests_support::task_slot::{SlotRef, TaskSlot};
 use tower::buffer::Buffer;
 use tower::latch::held::Pollable;
 use tower::limit::ConcurrencyLimit;
-use tower::service::{Executor, Steps};
+use tower::service::Steps;
 use tower::{Service, ServiceBuilder, ServiceExt};
 
 // A stream of calls through a clone of the buffer, beside the buffer itself.
@@ -39,10 +40,7 @@ where
         script,
         outbox: &outbox,
         left: Some(Flowing::new(calls)),
-        other: Working {
-            script,
-            worker: Some(Pollable::new(worker)),
-        },
+        other: Working::new(script, Some(Pollable::new(worker))),
     };
     script.play_with(report, buffer, &Numbers, &mut streaming)
 }
@@ -79,53 +77,6 @@ pub fn beside_a_stream<R: Wait + Copy>(
     }
 }
 
-// Where an executor keeps its task.
-#[derive(Drop)]
-struct Seat<T: Steps> {
-    task: RefCell<Option<Pollable<T>>>,
-}
-
-impl<T: Steps> Seat<T> {
-    fn new() -> Seat<T> {
-        Seat {
-            task: RefCell::new(None),
-        }
-    }
-
-    fn take(&self) -> Option<Pollable<T>> {
-        match self.task.try_borrow_mut() {
-            Ok(mut task) => task.take(),
-            Err(_) => None,
-        }
-    }
-}
-
-// Keeps one task, and gives any further one back.
-struct Sits<'t, T: Steps> {
-    seat: &'t Seat<T>,
-}
-
-impl<'t, T: Steps> Drop for Sits<'t, T> {
-    fn drop(self) {
-        let Sits { seat: _ } = self;
-    }
-}
-
-impl<'t, T: Steps> Executor<T> for Sits<'t, T> {
-    ghost can_spawn = { λ _ task. T.can_poll task };
-
-    fn spawn(&self, task: T) -> Result<(), T> {
-        let Ok(mut seat) = self.seat.task.try_borrow_mut() else {
-            return Err(task);
-        };
-        if seat.is_some() {
-            return Err(task);
-        }
-        *seat = Some(Pollable::new(task));
-        Ok(())
-    }
-}
-
 // Whether a number isn't 0.
 struct Truths;
 
@@ -147,7 +98,7 @@ where
     W: Steps<Output = ()>,
     requires { B.sound client }
 {
-    let mut working = Working { script, worker };
+    let mut working = Working::new(script, worker);
     script.play_alone_with(report, client, &Truths, &mut working)
 }
 
@@ -165,12 +116,12 @@ where
     requires sound { S.sound inner }
     requires same { (x y : E) → E.is_clone x y → y ≡ x }
 {
-    let seat = Seat::new();
+    let slot = TaskSlot::new();
     let made = ServiceBuilder::new()
-        .buffer(rt, script.alloc(), 5, Sits { seat: &seat })
+        .buffer(rt, script.alloc(), 5, SlotRef::new(&slot))
         .service(inner);
     match made {
-        Ok(client) => behind(script, report, client, seat.take()),
+        Ok(client) => behind(script, report, client, slot.take()),
         Err(AllocError) => script.over(report, "out of memory"),
     }
 }

@@ -1,17 +1,17 @@
 //! The methods of `tower::ServiceExt` that wrap a service.
 
-use crate::beside::Streaming;
-use futures::future::{Ready, ready};
-use futures::task::{Context, Poll};
+use futures::future::Ready;
 use scripted::flow::Flowing;
 use scripted::party::Nobody;
 use scripted::report::Report;
 use scripted::script::{Numbers, Script};
+use scripted::stream::Streaming;
 use std::alloc::AllocError;
+use tests_support::echo::Echo;
 use tests_support::future::After;
 use tests_support::stream::{Outbox, Requests};
+use tower::ServiceExt;
 use tower::filter::{AsyncPredicateFn, PredicateFn};
-use tower::{Service, ServiceExt};
 
 /// The method that the first line names.
 pub fn play(script: &Script<'_>, report: &mut Report<'_>) -> Result<(), AllocError> {
@@ -100,31 +100,10 @@ fn second_future(script: &Script<'_>, report: &mut Report<'_>) -> Result<(), All
     script.play_alone(report, service, &Numbers)
 }
 
-// Answers each request with itself. Its future has a type that a closure's parameter can name.
-#[derive(Drop)]
-struct Same;
-
-impl Service<u8> for Same {
-    type Response = u8;
-
-    type Error = u8;
-
-    type Future = Ready<Result<u8, u8>>;
-
-    ghost readies = { λ _ _ _. tt };
-
-    fn poll_ready(&mut self, _cx: &mut Context<'_>) -> Poll<Result<(), u8>> {
-        Poll::Ready(Ok(()))
-    }
-
-    fn call(&mut self, request: u8) -> Ready<Result<u8, u8>> {
-        ready(Ok(request))
-    }
-}
-
+// (A closure's parameter names the type of the future.)
 fn future(script: &Script<'_>, report: &mut Report<'_>) -> Result<(), AllocError> {
     let log = script.stage().log;
-    let service = Same.map_future(|future: Ready<Result<u8, u8>>| {
+    let service = Echo.map_future(|future: Ready<Result<u8, u8>>| {
         log.note("given");
         future
     });

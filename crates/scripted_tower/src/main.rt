@@ -1,7 +1,6 @@
 //! Scripts of the stacks of `tower::ServiceBuilder` and of the methods of `tower::ServiceExt`, in data/.
 #![tactic(auto)]
 
-mod beside;
 mod buffers;
 mod ext;
 mod limits;

@@ -1,47 +1,16 @@
 //! `call_all SENT [closed]` and `call_all_unordered SENT [closed]`: the service `s` is called with so many requests, the numbers from 0
 //! on. `next` polls the stream, `send N` sends requests up to so many in all, and `close` ends them.
 
-use scripted::flow::{Flowing, next};
-use scripted::party::Party;
+use scripted::flow::Flowing;
+use scripted::party::Nobody;
 use scripted::report::Report;
 use scripted::script::Script;
+use scripted::stream::Streaming;
 use std::alloc::AllocError;
 use tests_support::stream::{Outbox, Requests};
 use tower_base::service::{Flow, Service};
 use tower_ware::util::call_all::Error;
 use tower_ware::util::{CallAll, CallAllUnordered};
-
-// A stream of answers, and the side that sends its requests.
-#[derive(Drop)]
-struct Calls<'s, 'a, F: Flow> {
-    script: &'s Script<'a>,
-    outbox: &'s Outbox,
-    left: Option<Flowing<F>>,
-}
-
-impl<'s, 'a, F: Flow<Item = Result<u8, Error<u8>>>> Party for Calls<'s, 'a, F> {
-    fn act(&mut self, words: &str) -> Result<Option<String>, AllocError> {
-        let alloc = self.script.alloc();
-        match words {
-            "next" => return Ok(Some(next(alloc, self.script.solo(), &mut self.left)?)),
-            "close" => self.outbox.close(),
-            _ => {
-                let Some(sent) = words.strip_prefix("send ") else {
-                    return Ok(None);
-                };
-                match sent.parse() {
-                    Ok(sent) => self.outbox.send(sent),
-                    Err(_) => return Ok(None),
-                }
-            }
-        }
-        Ok(Some(String::new(alloc)))
-    }
-
-    fn end(&mut self) {
-        self.left = None;
-    }
-}
 
 fn played<F: Flow<Item = Result<u8, Error<u8>>>>(
     script: &Script<'_>,
@@ -51,12 +20,13 @@ fn played<F: Flow<Item = Result<u8, Error<u8>>>>(
 ) -> Result<(), AllocError>
     requires { F.can_poll flow }
 {
-    let mut calls = Calls {
+    let mut streaming = Streaming {
         script,
         outbox,
         left: Some(Flowing::new(flow)),
+        other: Nobody,
     };
-    script.play_party(report, &mut calls)
+    script.play_party(report, &mut streaming)
 }
 
 fn ordered<S: Service<u8, Response = u8, Error = u8>>(

@@ -1,4 +1,5 @@
-//! Scripts of `tower::{filter, limit, load_shed, make, reconnect, steer, timeout, util}` and of streams of calls, in data/.
+//! Scripts of `tower::{util, make}` in data/util, of `tower::{filter, load_shed, reconnect, steer, timeout}` and of streams of calls in
+//! data/ware, and of `tower::{limit, load}` in data/limit.
 #![tactic(auto)]
 
 mod answers;
@@ -8,6 +9,7 @@ mod call_all;
 mod chains;
 mod concurrency_limit;
 mod filter;
+mod load;
 mod load_shed;
 mod maps;
 mod oneshot;
@@ -59,7 +61,7 @@ impl<R: Wait + Copy> Services for Ware<R> {
     }
 }
 
-// The services of `tower::limit`.
+// The services of `tower::{limit, load}`.
 fn play_limit<R: Wait + Copy>(
     rt: R,
     script: &Script<'_>,
@@ -77,6 +79,8 @@ fn play_limit<R: Wait + Copy>(
             script, report,
         ),
         "semaphore" if script.knows(&[]) => semaphore::play(rt, script, report),
+        "constant" if script.knows(&[]) => load::play_constant(script, report),
+        "pending_requests" if script.knows(&[]) => load::play_pending_requests(rt, script, report),
         "steered_limits" if script.knows(&[]) => steered::play(rt, script, report),
         _ => play_util(script, report),
     }

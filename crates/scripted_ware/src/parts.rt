@@ -4,7 +4,7 @@ use scripted::script::Script;
 use std::alloc::AllocError;
 use tests_support::future::After;
 use tests_support::log::Log;
-use tests_support::service::Place;
+use tests_support::service::Target;
 use tower_ware::filter::{AsyncPredicate, Predicate};
 use tower_ware::steer::Picker;
 
@@ -12,7 +12,7 @@ use tower_ware::steer::Picker;
 #[derive(Clone, Drop)]
 pub struct Doubling<'a> {
     log: &'a Log,
-    part: Place<'a>,
+    part: Target<'a>,
     polls: u8,
 }
 
@@ -21,7 +21,7 @@ impl<'a> Doubling<'a> {
         let stage = script.stage();
         Doubling {
             log: stage.log,
-            part: Place::new(&stage.others, 'p', 0),
+            part: Target::new(&stage.others, 'p', 0),
             polls,
         }
     }
@@ -62,7 +62,7 @@ impl<'a> AsyncPredicate<u8> for Doubling<'a> {
 #[derive(Clone, Drop)]
 pub struct Picking<'a> {
     log: &'a Log,
-    part: Place<'a>,
+    part: Target<'a>,
     place: usize,
     turns: bool,
 }
@@ -72,7 +72,7 @@ impl<'a> Picking<'a> {
         let stage = script.stage();
         Picking {
             log: stage.log,
-            part: Place::new(&stage.others, 'p', 0),
+            part: Target::new(&stage.others, 'p', 0),
             place,
             turns: script.has("turning"),
         }

@@ -4,7 +4,7 @@
 use scripted::report::Report;
 use scripted::script::Script;
 use std::alloc::AllocError;
-use tests_support::service::Place;
+use tests_support::service::Target;
 use tower_base::layer::Layer;
 use tower_util::make::Shared;
 use tower_util::util::{
@@ -14,15 +14,15 @@ use tower_util::util::{
 };
 
 // Plays by what the layer makes.
-fn layered<'a, L: Layer<Place<'a>> + Drop>(
+fn layered<'a, L: Layer<Target<'a>> + Drop>(
     script: &Script<'_>,
     report: &mut Report<'_>,
     layer: L,
-    service: Place<'a>,
+    service: Target<'a>,
 ) -> Result<(), AllocError>
 where
     L::Service: Clone + Drop,
-    requires { (l : L) (s : Place) → L.can_layer l s }
+    requires { (l : L) (s : Target) → L.can_layer l s }
 {
     let made = layer.layer(service);
     drop(layer);
@@ -34,8 +34,8 @@ where
 
 pub fn play(script: &Script<'_>, report: &mut Report<'_>) -> Result<(), AllocError> {
     let stage = script.stage();
-    let part = || Place::new(&stage.script, 'p', 0);
-    let closure = || Place::new(&stage.others, 'f', 0);
+    let part = || Target::new(&stage.script, 'p', 0);
+    let closure = || Target::new(&stage.others, 'f', 0);
     match (script.word(0), script.word(1)) {
         (Some("map_request"), None) => script.play_copies(
             report,
@@ -78,8 +78,8 @@ pub fn play(script: &Script<'_>, report: &mut Report<'_>) -> Result<(), AllocErr
 
 fn play_others(script: &Script<'_>, report: &mut Report<'_>) -> Result<(), AllocError> {
     let stage = script.stage();
-    let part = || Place::new(&stage.script, 'p', 0);
-    let closure = || Place::new(&stage.others, 'f', 0);
+    let part = || Target::new(&stage.script, 'p', 0);
+    let closure = || Target::new(&stage.others, 'f', 0);
     match (script.word(0), script.word(1)) {
         (Some("map_result"), None) => script.play_copies(report, MapResult::new(part(), closure())),
         (Some("map_result"), Some("layer")) => script.play_copies(
@@ -94,17 +94,17 @@ fn play_others(script: &Script<'_>, report: &mut Report<'_>) -> Result<(), Alloc
             AndThenLayer::new(closure()),
         ),
         (Some("left"), None) => {
-            let left: Either<Place<'_>, Place<'_>> = Either::Left(part());
+            let left: Either<Target<'_>, Target<'_>> = Either::Left(part());
             script.play_copies(report, left)
         }
         (Some("right"), None) => {
-            let right: Either<Place<'_>, Place<'_>> = Either::Right(closure());
+            let right: Either<Target<'_>, Target<'_>> = Either::Right(closure());
             script.play_copies(report, right)
         }
         (Some("service_fn"), None) => script.play_copies(report, service_fn(closure())),
         (Some("shared"), None) => script.play_copies(report, Shared::new(part())),
         (Some("future_service"), None) => {
-            let coming: FutureService<Place<'_>, Place<'_>> = FutureService::new(part());
+            let coming: FutureService<Target<'_>, Target<'_>> = FutureService::new(part());
             script.play_copies(report, coming)
         }
         _ => script.unread(report),

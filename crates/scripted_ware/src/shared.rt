@@ -4,7 +4,7 @@
 use scripted::report::Report;
 use scripted::script::{Places, Script};
 use std::alloc::AllocError;
-use tests_support::service::{Maker, Place};
+use tests_support::service::{Maker, Target};
 use tower_util::make::{MakeService, Shared};
 
 pub fn play(script: &Script<'_>, report: &mut Report<'_>) -> Result<(), AllocError> {
@@ -31,11 +31,11 @@ fn places<'a>(script: &Script<'a>) -> Places<'a> {
 
 pub fn play_lent(script: &Script<'_>, report: &mut Report<'_>) -> Result<(), AllocError> {
     let mut maker = maker(script);
-    let lent = MakeService::<Place<'_>, u8>::as_service(&mut maker);
+    let lent = MakeService::<Target<'_>, u8>::as_service(&mut maker);
     script.play_alone(report, lent, &places(script))
 }
 
 pub fn play_maker(script: &Script<'_>, report: &mut Report<'_>) -> Result<(), AllocError> {
-    let service = MakeService::<Place<'_>, u8>::into_service(maker(script));
+    let service = MakeService::<Target<'_>, u8>::into_service(maker(script));
     script.play_alone(report, service, &places(script))
 }

@@ -4,6 +4,12 @@
 #[cfg(test)]
 mod counted;
 #[cfg(test)]
+mod mail_core;
+#[cfg(test)]
 mod making;
+#[cfg(test)]
+mod refused;
+#[cfg(test)]
+mod stored;
 #[cfg(test)]
 mod storm;

@@ -1,15 +1,17 @@
 //! Constructors, layers and texts. Its own service has no lifetime: the kit's borrow checker covers no `Buffer` whose futures have one.
 ghost use Rattle.std.specs.Prelude.{◌≡◌, IfOk, IfSome};
 
-use futures::future::{Ready, ready};
-use futures::task::{Context, Poll};
+use futures::future::Ready;
+use futures::task::Poll;
 use std::alloc::{AllocError, AllocGlobal};
-use std::cell::{Cell, RefCell};
+use std::cell::Cell;
 use std::process::Abort;
 use std::random::RandomSource;
 use std::sync::Wait;
 use std::test::Fail;
+use tests_support::echo::Echo;
 use tests_support::run::{called, polled, stepped, task};
+use tests_support::task_slot::TaskSlot;
 use tower_base::layer::Layer;
 use tower_base::service::{Executor, Service, Steps};
 use tower_buffer::buffer::error::{Closed, ServiceError};
@@ -17,62 +19,18 @@ use tower_buffer::buffer::{Buffer, BufferLayer, Error, MailCore, Worker};
 use tower_latch::Guarded;
 use tower_latch::held::Pollable;
 
-/// Keeps one task, and gives any further one back.
-#[derive(Drop)]
-pub struct Bench<T: Steps> {
-    seat: RefCell<Option<Pollable<T>>>,
-}
-
-impl<T: Steps> Bench<T> {
-    pub fn new() -> Bench<T> {
-        Bench {
-            seat: RefCell::new(None),
-        }
-    }
-
-    /// The task that it has, which it has no more.
-    pub fn take(&self) -> Option<Pollable<T>> {
-        match self.seat.try_borrow_mut() {
-            Ok(mut seat) => seat.take(),
-            Err(_) => None,
-        }
-    }
-}
-
-impl<T: Steps> Executor<T> for Bench<T> {
-    ghost can_spawn = { λ _ task. T.can_poll task };
-
-    fn spawn(&self, task: T) -> Result<(), T> {
-        let Ok(mut seat) = self.seat.try_borrow_mut() else {
-            return Err(task);
-        };
-        if seat.is_some() {
-            return Err(task);
-        }
-        *seat = Some(Pollable::new(task));
-        Ok(())
-    }
-}
-
-/// A clone is free.
-impl<T: Steps> Clone for Bench<T> {
-    fn clone(&self) -> Result<Bench<T>, AllocError> {
-        Ok(Bench::new())
-    }
-}
-
 /// Gives the first task back, and keeps the next one.
 #[derive(Drop)]
 pub struct Reluctant<T: Steps> {
     was_asked: Cell<bool>,
-    bench: Bench<T>,
+    slot: TaskSlot<T>,
 }
 
 impl<T: Steps> Reluctant<T> {
     pub fn new() -> Reluctant<T> {
         Reluctant {
             was_asked: Cell::new(false),
-            bench: Bench::new(),
+            slot: TaskSlot::new(),
         }
     }
 }
@@ -85,29 +43,7 @@ impl<T: Steps> Executor<T> for Reluctant<T> {
             self.was_asked.set(true);
             return Err(task);
         }
-        self.bench.spawn(task)
-    }
-}
-
-/// Answers with the request.
-#[derive(Drop)]
-pub struct Echo;
-
-impl Service<u8> for Echo {
-    type Response = u8;
-
-    type Error = u8;
-
-    type Future = Ready<Result<u8, u8>>;
-
-    ghost readies = { λ _ _ _. tt };
-
-    fn poll_ready(&mut self, _cx: &mut Context<'_>) -> Poll<Result<(), u8>> {
-        Poll::Ready(Ok(()))
-    }
-
-    fn call(&mut self, request: u8) -> Ready<Result<u8, u8>> {
-        ready(Ok(request))
+        self.slot.spawn(task)
     }
 }
 
@@ -202,10 +138,10 @@ where
     Ok(CLONES)
 }
 
-// What two buffers came to that were made with one bench.
+// What two buffers came to that were made with one slot.
 fn spawned<R, B, W>(
     rt: R,
-    bench: Bench<W>,
+    slot: TaskSlot<W>,
     first: Result<B, Error<u8>>,
     second: Result<B, Error<u8>>,
 ) -> Result<(), Fail>
@@ -216,20 +152,20 @@ where
     requires { IfOk first B.sound }
 {
     assert!(rt; matches!(second, Err(Error::NotSpawned)));
-    let worker = bench.take().ok_or("a worker")?;
+    let worker = slot.take().ok_or("a worker")?;
     answers(rt, first.map_err(|_| "no buffer")?, worker.into_inner())
 }
 
 #[test]
 fn a_worker_is_spawned_or_given_back(rt: HostRuntime) -> Result<(), Fail> {
-    let bench = Bench::new();
-    let first = Buffer::new(rt, rt.alloc(), Echo, 1, &bench);
-    // The bench is taken.
-    let second = Buffer::new(rt, rt.alloc(), Echo, 1, &bench);
-    spawned(rt, bench, first, second)
+    let slot = TaskSlot::new();
+    let first = Buffer::new(rt, rt.alloc(), Echo, 1, &slot);
+    // The slot is taken.
+    let second = Buffer::new(rt, rt.alloc(), Echo, 1, &slot);
+    spawned(rt, slot, first, second)
 }
 
-// What a layer with a bench makes.
+// What a layer with a slot makes.
 fn layered<R, B, Y>(rt: R, layer: Y) -> Result<(), Fail>
 where
     R: Wait + Abort + RandomSource + AllocGlobal + Copy,
@@ -239,7 +175,7 @@ where
     requires sound { (y : Y) (s : Echo) (b : B) → Y.made y s b → B.sound b }
 {
     let first = layer.layer(Echo)?;
-    // The bench is taken, but not the clone's.
+    // The slot is taken, but not the clone's.
     let second = layer.layer(Echo)?;
     let copy = layer.clone()?;
     let third = copy.layer(Echo)?;
@@ -250,7 +186,7 @@ where
 
 #[test]
 fn a_layer_spawns_each_worker(rt: HostRuntime) -> Result<(), Fail> {
-    layered(rt, BufferLayer::new(rt, rt.alloc(), 1, Bench::new()))
+    layered(rt, BufferLayer::new(rt, rt.alloc(), 1, TaskSlot::new()))
 }
 
 // What a layer makes whose executor gives the first worker back: a layer that asked again would leave the second one closed.
@@ -295,10 +231,10 @@ fn each_constructor_makes_so_many_places(rt: HostRuntime) -> Result<(), Fail> {
             Ok((buffer, worker)) => holds(rt, Some(buffer), worker, bound)?,
             Err(AllocError) => return Err("no pair".into()),
         }
-        let bench = Bench::new();
-        let spawned = Buffer::new(rt, rt.alloc(), Echo, bound, &bench);
-        holds(rt, spawned.ok(), bench, bound)?;
-        let layer = BufferLayer::new(rt, rt.alloc(), bound, Bench::new());
+        let slot = TaskSlot::new();
+        let spawned = Buffer::new(rt, rt.alloc(), Echo, bound, &slot);
+        holds(rt, spawned.ok(), slot, bound)?;
+        let layer = BufferLayer::new(rt, rt.alloc(), bound, TaskSlot::new());
         let layered = layer.layer(Echo);
         holds(rt, layered.ok(), layer, bound)?;
     }

@@ -1,1 +1,1 @@
-pub mod Second
+pub mod FullCount

@@ -1,13 +1,6 @@
-//! Tests of `tower::limit`, `tower::discover`, `tower::load` and `tower::retry`, of the histogram of `tower::hedge`, and of refused
-//! memory.
+//! Tests of `tower::{limit, discover, load}`: what no script asks.
 #![tactic(auto)]
 
-#[cfg(test)]
-mod attempts;
-#[cfg(test)]
-mod backoff;
-#[cfg(test)]
-mod budget;
 #[cfg(test)]
 mod concurrency;
 #[cfg(test)]
@@ -21,11 +14,9 @@ mod discover;
 #[cfg(test)]
 mod driven;
 #[cfg(test)]
-mod histogram;
+mod full_count;
 #[cfg(test)]
 mod line_core;
-#[cfg(test)]
-mod nest;
 #[cfg(test)]
 mod parts;
 #[cfg(test)]
@@ -36,7 +27,5 @@ mod rate;
 mod refused;
 #[cfg(test)]
 mod semaphore;
-#[cfg(test)]
-mod silent;
 #[cfg(test)]
 mod threads;

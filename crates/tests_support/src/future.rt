@@ -1,6 +1,7 @@
-//! A future that answers after a count of polls, or once a gate is open.
+//! A future that answers after a count of polls, or once it is answered.
 ghost use Rattle.std.specs.Prelude.{◌≡◌, IsSome, Some};
 ghost use Rattle.futures.specs.Poll.{IfReady, OnPending};
+ghost use Rattle.futures.specs.Task.{IsArmed, Keeps};
 
 use crate::log::{Log, Name};
 use crate::script::{Reply, Script};
@@ -15,10 +16,25 @@ pub(crate) enum When<'a> {
     // After so many polls, each of which wakes its task, unless the log is quiet.
     Polls(u8),
     Never,
-    // Once the gate of this call is open. Nothing wakes the task.
-    Gate(&'a Script<'a>, usize),
     // Once this call is answered. Nothing wakes the task.
     Later(&'a Script<'a>, usize),
+}
+
+impl<'a> When<'a> {
+    // A poll that is pending. It is noted, and counted if polls are.
+    fn pending<T>(&mut self, log: &Log, name: Name, cx: &mut Context<'_>) -> Poll<T>
+        ensures pending { result ≡ Poll.Pending }
+        ensures armed { IsArmed cx.new }
+        ensures kept { Keeps cx.old cx.new }
+    {
+        log.note(format_args!("{name} pending"));
+        match *self {
+            When::Later(_, _) => return log.wait(cx),
+            When::Never => {}
+            When::Polls(polls) => *self = When::Polls(polls.saturating_sub(1)),
+        }
+        log.pending(cx)
+    }
 }
 
 /// An answer that is there after a count of pending polls. It notes its polls, clones and drop.
@@ -51,7 +67,6 @@ pub(crate) fn plan<'a>(script: &'a Script<'a>, request: u8) -> (When<'a>, Result
         Reply::Fail(polls) => (When::Polls(polls), Err(request)),
         Reply::Give(polls, answer) => (When::Polls(polls), answer),
         Reply::Never => (When::Never, Ok(request)),
-        Reply::Gated(answer) => (When::Gate(script, call), answer),
         Reply::Later => (When::Later(script, call), Ok(request)),
     }
 }
@@ -92,24 +107,11 @@ impl<'a, T: Drop> Steps for After<'a, T> {
     ghost stepped = { λ old answer new. IfReady answer (λ x. old.answer ≡ Some x) × OnPending answer (new.answer ≡ old.answer) };
 
     fn step(&mut self, cx: &mut Context<'_>) -> Poll<T> {
-        let is_there = match self.when {
-            When::Polls(polls) => polls == 0,
-            When::Never | When::Later(_, _) => false,
-            When::Gate(script, call) => script.is_open(call),
-        };
-        if is_there {
+        if matches!(self.when, When::Polls(0)) {
             self.log.note(format_args!("{} ready", self.name));
             return Poll::Ready(self.answer.take().unwrap());
         }
-        self.log.note(format_args!("{} pending", self.name));
-        match self.when {
-            When::Gate(_, _) | When::Later(_, _) => self.log.wait(cx),
-            When::Never => self.log.pending(cx),
-            When::Polls(polls) => {
-                self.when = When::Polls(polls.saturating_sub(1));
-                self.log.pending(cx)
-            }
-        }
+        self.when.pending(self.log, self.name, cx)
     }
 }
 
@@ -170,13 +172,6 @@ impl<'a> Response<'a> {
         match self.when {
             When::Polls(0) => Some(self.answer),
             When::Polls(_) | When::Never => None,
-            When::Gate(script, call) => {
-                if script.is_open(call) {
-                    Some(self.answer)
-                } else {
-                    None
-                }
-            }
             When::Later(script, call) => script.answer_to(call),
         }
     }
@@ -198,15 +193,7 @@ impl<'a> Steps for Response<'a> {
             self.log.note(format_args!("{} ready", self.name));
             return Poll::Ready(answer);
         }
-        self.log.note(format_args!("{} pending", self.name));
-        match self.when {
-            When::Gate(_, _) | When::Later(_, _) => self.log.wait(cx),
-            When::Never => self.log.pending(cx),
-            When::Polls(polls) => {
-                self.when = When::Polls(polls.saturating_sub(1));
-                self.log.pending(cx)
-            }
-        }
+        self.when.pending(self.log, self.name, cx)
     }
 }
 

@@ -3,13 +3,16 @@
 
 pub mod checks;
 pub mod clock;
+pub mod echo;
 pub mod future;
 pub mod latch;
 pub mod log;
 pub mod plain;
+pub mod refused;
 pub mod run;
 pub mod script;
 pub mod service;
 pub mod slots;
 pub mod story;
 pub mod stream;
+pub mod task_slot;

@@ -6,14 +6,14 @@ use std::cell::Cell;
 
 /// What a poll of readiness answers.
 #[derive(Clone, Copy, Debug, PartialEq, Eq)]
-pub enum Mood {
-    Willing,
+pub enum Readiness {
+    Ready,
     /// Pending, and its task is woken, unless the log is quiet.
-    Busy,
-    Broken(u8),
+    Pending,
+    Error(u8),
 }
 
-/// What a call's future answers. While it is pending its task is woken, but by `Gated` and `Later`, and unless the log is quiet.
+/// What a call's future answers. While it is pending its task is woken, but by `Later`, and unless the log is quiet.
 #[derive(Clone, Copy, Debug, PartialEq, Eq)]
 pub enum Reply {
     /// The request, after so many pending polls.
@@ -24,8 +24,6 @@ pub enum Reply {
     Give(u8, Result<u8, u8>),
     /// Always pending.
     Never,
-    /// This, once the call's gate is open.
-    Gated(Result<u8, u8>),
     /// What the call is answered later, by `Script::answer`. A maker's call has no such answer.
     Later,
 }
@@ -35,11 +33,10 @@ pub enum Reply {
 #[derive(Drop)]
 pub struct Script<'a> {
     pub log: &'a Log,
-    moods: Line<Mood>,
+    readiness: Line<Readiness>,
     replies: Line<Reply>,
     clones: Cell<u8>,
     calls: Cell<usize>,
-    gates: Cell<[bool; 8]>,
     answers: Cell<[Option<Result<u8, u8>>; 8]>,
 }
 
@@ -47,18 +44,17 @@ impl<'a> Script<'a> {
     pub fn new(log: &'a Log) -> Script<'a> {
         Script {
             log,
-            moods: Line::new(&[]),
+            readiness: Line::new(&[]),
             replies: Line::new(&[]),
             clones: Cell::new(u8::MAX),
             calls: Cell::new(0),
-            gates: Cell::new([false; 8]),
             answers: Cell::new([None; 8]),
         }
     }
 
     /// What the next polls of readiness answer, eight at most. The last goes on for ever.
-    pub fn moods(&self, moods: &[Mood]) {
-        self.moods.set(moods);
+    pub fn readiness(&self, readiness: &[Readiness]) {
+        self.readiness.set(readiness);
     }
 
     /// What the next calls answer, eight at most. The last goes on for ever.
@@ -69,15 +65,6 @@ impl<'a> Script<'a> {
     /// How many clones there are before they are refused for want of memory; 255 is always.
     pub fn clones(&self, clones: u8) {
         self.clones.set(clones);
-    }
-
-    /// Opens the gate of the call of this number from 0 on, below 8.
-    pub fn open(&self, call: usize) {
-        let mut gates = self.gates.get();
-        if call < 8 {
-            gates[call] = true;
-        }
-        self.gates.set(gates);
     }
 
     /// Answers the call of this number from 0 on, below 8, if it was made and has no answer yet.
@@ -96,13 +83,8 @@ impl<'a> Script<'a> {
         *answers.get(call)?
     }
 
-    pub(crate) fn is_open(&self, call: usize) -> bool {
-        let gates = self.gates.get();
-        call < 8 && gates[call]
-    }
-
-    pub(crate) fn next_mood(&self) -> Mood {
-        self.moods.take_but_last().unwrap_or(Mood::Willing)
+    pub(crate) fn next_readiness(&self) -> Readiness {
+        self.readiness.take_but_last().unwrap_or(Readiness::Ready)
     }
 
     pub(crate) fn next_reply(&self) -> Reply {

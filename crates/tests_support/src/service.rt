@@ -6,7 +6,7 @@ ghost use Rattle.futures.specs.declared.task.Poll.TheVariants.{Ready};
 
 use crate::future::{After, Response, plan, planned};
 use crate::log::Name;
-use crate::script::{Mood, Script, told_clone};
+use crate::script::{Readiness, Script, told_clone};
 use futures::task::{Context, Poll};
 use std::alloc::AllocError;
 use std::fmt::{self, Display};
@@ -31,20 +31,20 @@ impl<'a> Scripted<'a> {
 }
 
 // Notes a poll of readiness and its answer.
-fn told_mood(script: &Script<'_>, name: Name, cx: &mut Context<'_>) -> Poll<Result<(), u8>>
+fn told_readiness(script: &Script<'_>, name: Name, cx: &mut Context<'_>) -> Poll<Result<(), u8>>
     ensures armed { OnPending result (IsArmed cx.new) }
     ensures kept { Keeps cx.old cx.new }
 {
-    match script.next_mood() {
-        Mood::Willing => {
+    match script.next_readiness() {
+        Readiness::Ready => {
             script.log.note(format_args!("{name} ready"));
             Poll::Ready(Ok(()))
         }
-        Mood::Busy => {
+        Readiness::Pending => {
             script.log.note(format_args!("{name} pending"));
             script.log.pending(cx)
         }
-        Mood::Broken(error) => {
+        Readiness::Error(error) => {
             script.log.note(format_args!("{name} error {error}"));
             Poll::Ready(Err(error))
         }
@@ -75,7 +75,7 @@ impl<'a> Service<u8> for Scripted<'a> {
     ghost readies = { λ old new p. p refl };
 
     fn poll_ready(&mut self, cx: &mut Context<'_>) -> Poll<Result<(), u8>> {
-        let answer = told_mood(self.script, self.name, cx);
+        let answer = told_readiness(self.script, self.name, cx);
         self.is_ready = matches!(answer, Poll::Ready(Ok(())));
         answer
     }
@@ -116,15 +116,15 @@ impl<'a> Drop for Scripted<'a> {
 }
 
 /// Where a maker connects to. It notes its clones and drop, which follow the script of the services.
-pub struct Place<'a> {
+pub struct Target<'a> {
     script: &'a Script<'a>,
     name: Name,
     number: u8,
 }
 
-impl<'a> Place<'a> {
-    pub fn new(script: &'a Script<'a>, letter: char, number: u8) -> Place<'a> {
-        Place {
+impl<'a> Target<'a> {
+    pub fn new(script: &'a Script<'a>, letter: char, number: u8) -> Target<'a> {
+        Target {
             script,
             name: Name::new(letter),
             number,
@@ -132,10 +132,10 @@ impl<'a> Place<'a> {
     }
 }
 
-impl<'a> Clone for Place<'a> {
-    fn clone(&self) -> Result<Place<'a>, AllocError> {
+impl<'a> Clone for Target<'a> {
+    fn clone(&self) -> Result<Target<'a>, AllocError> {
         let name = told_clone(self.script, self.name)?;
-        Ok(Place {
+        Ok(Target {
             script: self.script,
             name,
             number: self.number,
@@ -143,10 +143,10 @@ impl<'a> Clone for Place<'a> {
     }
 }
 
-impl<'a> Drop for Place<'a> {
+impl<'a> Drop for Target<'a> {
     fn drop(self) {
         self.script.log.note(format_args!("{} dropped", self.name));
-        let Place {
+        let Target {
             script: _,
             name: _,
             number: _,
@@ -190,7 +190,7 @@ impl<'a> Maker<'a> {
     }
 }
 
-impl<'a> Service<Place<'a>> for Maker<'a> {
+impl<'a> Service<Target<'a>> for Maker<'a> {
     type Response = Scripted<'a>;
 
     type Error = u8;
@@ -206,12 +206,12 @@ impl<'a> Service<Place<'a>> for Maker<'a> {
     ghost readies = { λ old new p. p refl };
 
     fn poll_ready(&mut self, cx: &mut Context<'_>) -> Poll<Result<(), u8>> {
-        let answer = told_mood(self.script, self.name, cx);
+        let answer = told_readiness(self.script, self.name, cx);
         self.is_ready = matches!(answer, Poll::Ready(Ok(())));
         answer
     }
 
-    fn call(&mut self, place: Place<'a>) -> After<'a, Result<Scripted<'a>, u8>> {
+    fn call(&mut self, place: Target<'a>) -> After<'a, Result<Scripted<'a>, u8>> {
         told_call(self.script, self.name, place.number, self.is_ready);
         self.is_ready = false;
         let (when, answer) = plan(self.script, place.number);

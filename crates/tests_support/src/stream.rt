@@ -1,11 +1,10 @@
-//! Requests that a test sends, and the answers to them.
-ghost use Rattle.std.specs.Prelude.{⊤, IfSome};
+//! Requests that a test sends.
+ghost use Rattle.std.specs.Prelude.{⊤};
 
 use crate::log::Log;
 use futures::stream::Stream;
-use futures::task::{Context, Poll, Solo};
+use futures::task::{Context, Poll};
 use std::cell::Cell;
-use std::fmt::{Display, Write};
 use tower_base::service::Flow;
 
 /// The test's side of a stream of requests.
@@ -86,32 +85,5 @@ impl<'a> Drop for Requests<'a> {
             outbox: _,
             next: _,
         } = self;
-    }
-}
-
-/// One poll of a stream of calls, and a word for its answer: `pending;`, the response's number, `error 7;`, `ended;`. At its end
-/// it is dropped, and from then on it is `gone;`.
-pub fn tell_next<F, E>(solo: &Solo, flow: &mut Option<F>, text: &mut String)
-where
-    F: Flow<Item = Result<u8, E>>,
-    E: Display + Drop,
-    requires { IfSome flow.old F.can_poll }
-    ensures { IfSome flow.new F.can_poll }
-{
-    let Some(mut live) = flow.take() else {
-        let _ = text.push_str("gone;");
-        return;
-    };
-    let mut cx = solo.begin();
-    let answer = live.flow(&mut cx);
-    cx.cancel();
-    let _ = match &answer {
-        Poll::Ready(None) => write!(text, "ended;"),
-        Poll::Ready(Some(Ok(number))) => write!(text, "{number};"),
-        Poll::Ready(Some(Err(error))) => write!(text, "error {error};"),
-        Poll::Pending => write!(text, "pending;"),
-    };
-    if !matches!(answer, Poll::Ready(None)) {
-        *flow = Some(live);
     }
 }

@@ -47,13 +47,20 @@ where
     Ok((polled == Poll::Pending, timers.len()))
 }
 
+// What `dropped` found beside its timers, and how many timers were left.
+fn dropped_beside<R>(rt: R) -> io::Result<(bool, usize, usize)>
+where
+    R: Wait + RandomSource + AllocGlobal + Threads + ReadsClock + Copy + Sync,
+{
+    let timers = Timers::new(rt, rt.alloc())?;
+    let (was_pending, count) = timers.beside(&rt, || dropped(&rt, &timers))?;
+    Ok((was_pending, count, timers.len()))
+}
+
+// There are two timers: that of the response, and that of its timeout.
 #[test]
 fn dropped_response_leaves_no_timer(rt: HostRuntime) -> Result<(), Fail> {
-    let timers = Timers::new(rt, rt.alloc())?;
-    let found = timers.beside(&rt, || dropped(&rt, &timers))?;
-    // That of the response, and that of its timeout.
-    assert_eq!(rt; found, (true, 2));
-    assert_eq!(rt; timers.len(), 0);
+    assert_eq!(rt; dropped_beside(rt)?, (true, 2, 0));
     Ok(())
 }
 
@@ -83,24 +90,47 @@ fn is_woken(solo: &Solo) -> bool {
     }
 }
 
-#[test]
-fn deadline_past_the_last_tick_lasts_until_the_end(rt: HostRuntime) -> Result<(), Fail> {
+// Whether such a task is to be polled again at once, and whether it is at the end.
+fn left_beside<R>(rt: R) -> io::Result<(bool, bool)>
+where
+    R: Wait + RandomSource + AllocGlobal + Threads + ReadsClock + Copy + Sync,
+{
     let timers = Timers::new(rt, rt.alloc())?;
     let solo = Solo::new(&rt, Doorbell::spinning())?;
     let (woken_at_once, _clock) = timers.beside(&rt, || left_for_ever(&solo, timers.clock()));
-    assert_eq!(rt; (woken_at_once, is_woken(&solo)), (false, true));
+    Ok((woken_at_once, is_woken(&solo)))
+}
+
+#[test]
+fn deadline_past_the_last_tick_lasts_until_the_end(rt: HostRuntime) -> Result<(), Fail> {
+    assert_eq!(rt; left_beside(rt)?, (false, true));
     Ok(())
 }
 
-// Where no thread fires the timers, and outside its loop, a clock's task is polled all the while.
+// What a call told before a thread fires the timers, after it, and outside its loop.
+fn busy<R>(rt: R) -> io::Result<[(u64, u64); 3]>
+where
+    R: Wait + RandomSource + AllocGlobal + Threads + ReadsClock + Copy + Sync,
+{
+    let timers = Timers::new(rt, rt.alloc())?;
+    let before = one_call(&rt, timers.clock(), LIMIT)?;
+    timers.beside(&rt, || ());
+    let after = one_call(&rt, timers.clock(), LIMIT)?;
+    Ok([before, after, outside_its_loop(rt)?])
+}
+
+fn outside_its_loop<R>(rt: R) -> io::Result<(u64, u64)>
+where
+    R: Wait + RandomSource + AllocGlobal + ReadsClock + Copy,
+{
+    let tasks = ClockLoop::new(rt, &rt)?;
+    one_call(&rt, tasks.clock(), LIMIT)
+}
+
+// Without a thread that fires the timers, and outside its loop, a clock's task is polled all the while.
 #[test]
 fn busy_without_the_thread_or_the_loop(rt: HostRuntime) -> Result<(), Fail> {
-    let timers = Timers::new(rt, rt.alloc())?;
-    assert_eq!(rt; one_call(&rt, timers.clock(), LIMIT)?, (1, 1));
-    timers.beside(&rt, || ());
-    assert_eq!(rt; one_call(&rt, timers.clock(), LIMIT)?, (1, 1));
-    let tasks = ClockLoop::new(rt, &rt)?;
-    assert_eq!(rt; one_call(&rt, tasks.clock(), LIMIT)?, (1, 1));
+    assert_eq!(rt; busy(rt)?, [(1, 1); 3]);
     Ok(())
 }
 
@@ -190,11 +220,18 @@ where
     second_call(rt, limit)
 }
 
+// The same beside timers.
+fn limited_beside<R>(rt: R) -> io::Result<Option<u64>>
+where
+    R: Wait + RandomSource + AllocGlobal + Threads + ReadsClock + Copy + Sync,
+{
+    let timers = Timers::new(rt, rt.alloc())?;
+    timers.beside(&rt, || limited(&rt, timers.clock()))
+}
+
 // Once when it is asked, and once at the deadline, or a little before it.
 #[test]
 fn rate_limit_is_polled_three_times_at_most(rt: HostRuntime) -> Result<(), Fail> {
-    let timers = Timers::new(rt, rt.alloc())?;
-    let polls = timers.beside(&rt, || limited(&rt, timers.clock()))?;
-    assert!(rt; matches!(polls, Some(2..=3)));
+    assert!(rt; matches!(limited_beside(rt)?, Some(2..=3)));
     Ok(())
 }

@@ -8,6 +8,7 @@ use futures::task::Doorbell;
 use std::alloc::AllocGlobal;
 use std::io;
 use std::random::RandomSource;
+use std::rt::Clock as ReadsClock;
 use std::sync::Wait;
 use std::test::Fail;
 use std::thread::{self, Threads};
@@ -75,14 +76,22 @@ where
     in_unordered(rt, &clock, &boards[2])
 }
 
-#[test]
-fn each_flight_is_polled_three_times_at_most(rt: HostRuntime) -> Result<(), Fail> {
+// What each of the three told, and how many responses the last one ended.
+fn told_beside<R>(rt: R) -> io::Result<([(u64, u64); 3], u64)>
+where
+    R: Wait + RandomSource + AllocGlobal + Threads + ReadsClock + Copy + Send + Sync,
+{
     let boards = [Board::new(), Board::new(), Board::new()];
     let timers = Timers::new(rt, rt.alloc())?;
     let ended = timers.beside(&rt, || all(&rt, timers.clock(), &boards))?;
-    assert_eq!(rt; ended, COUNT);
-    for board in &boards {
-        assert_eq!(rt; board.told(), (COUNT, 0));
-    }
+    Ok((
+        [boards[0].told(), boards[1].told(), boards[2].told()],
+        ended,
+    ))
+}
+
+#[test]
+fn each_flight_is_polled_three_times_at_most(rt: HostRuntime) -> Result<(), Fail> {
+    assert_eq!(rt; told_beside(rt)?, ([(COUNT, 0); 3], COUNT));
     Ok(())
 }

@@ -8,7 +8,7 @@ use std::test::Fail;
 use tests_support::checks::Checks;
 use tests_support::log::Log;
 use tests_support::run::{awaited, task};
-use tests_support::script::{Mood, Reply, Script};
+use tests_support::script::{Readiness, Reply, Script};
 use tests_support::service::Scripted;
 use tower::util::service_fn;
 use tower::{BlockOnExt, Service, ServiceExt};
@@ -19,7 +19,7 @@ fn ready_gives_the_borrow_back(rt: HostRuntime) -> Result<(), Fail> {
     let log = Log::new(rt.alloc())?;
     let script = Script::new(&log);
     let solo = task(&rt)?;
-    script.moods(&[Mood::Busy, Mood::Willing]);
+    script.readiness(&[Readiness::Pending, Readiness::Ready]);
     let mut service = Scripted::new(&script, 's');
     match block_on(&rt, service.ready())? {
         Ok(lent) => checks.same(&awaited(&solo, lent.call(6)), &Some(Ok(6))),
@@ -37,7 +37,7 @@ fn ready_oneshot_gives_the_service_back(rt: HostRuntime) -> Result<(), Fail> {
     let checks = Checks::new(rt.alloc());
     let log = Log::new(rt.alloc())?;
     let script = Script::new(&log);
-    script.moods(&[Mood::Busy, Mood::Willing, Mood::Broken(90)]);
+    script.readiness(&[Readiness::Pending, Readiness::Ready, Readiness::Error(90)]);
     let service = Scripted::new(&script, 's');
     match block_on(&rt, service.ready_oneshot())? {
         Ok(mut service) => {
@@ -58,7 +58,7 @@ fn oneshot_waits_and_calls_once(rt: HostRuntime) -> Result<(), Fail> {
     let checks = Checks::new(rt.alloc());
     let log = Log::new(rt.alloc())?;
     let script = Script::new(&log);
-    script.moods(&[Mood::Busy, Mood::Willing]);
+    script.readiness(&[Readiness::Pending, Readiness::Ready]);
     script.replies(&[Reply::Echo(1)]);
     checks.same(
         &block_on(&rt, Scripted::new(&script, 's').oneshot(6))?,
@@ -76,7 +76,7 @@ fn waits_on_a_borrowed_service(rt: HostRuntime) -> Result<(), Fail> {
     let checks = Checks::new(rt.alloc());
     let log = Log::new(rt.alloc())?;
     let script = Script::new(&log);
-    script.moods(&[Mood::Busy, Mood::Willing]);
+    script.readiness(&[Readiness::Pending, Readiness::Ready]);
     let mut service = Scripted::new(&script, 's');
     checks.same(&service.block_on_ready(&rt)?, &Ok(()));
     checks.same(&service.block_on_call(&rt, 6)?, &Ok(6));

@@ -12,10 +12,6 @@ mod make_service;
 #[cfg(test)]
 mod map_future;
 #[cfg(test)]
-mod outlasts;
-#[cfg(test)]
 mod ready;
 #[cfg(test)]
 mod shared;
-#[cfg(test)]
-mod waits;

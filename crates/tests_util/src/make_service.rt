@@ -6,8 +6,8 @@ use std::test::Fail;
 use tests_support::checks::Checks;
 use tests_support::log::Log;
 use tests_support::run::{fire, stepped, task};
-use tests_support::script::{Mood, Reply, Script};
-use tests_support::service::{Maker, Place};
+use tests_support::script::{Readiness, Reply, Script};
+use tests_support::service::{Maker, Target};
 use tower_base::service::{Service, Steps};
 use tower_util::make::MakeService;
 
@@ -33,7 +33,7 @@ fn each_service_of_services_is_a_maker(rt: HostRuntime) -> Result<(), Fail> {
     let solo = task(&rt)?;
     let maker = Maker::new(&making, 'm', &script, 'a');
     let mut cx = solo.begin();
-    let answer = made(maker, Place::new(&script, 'p', 5), &mut cx);
+    let answer = made(maker, Target::new(&script, 'p', 5), &mut cx);
     cx.cancel();
     let Some(Poll::Ready(Ok(service))) = answer else {
         return Err("no service".into());
@@ -56,17 +56,17 @@ fn maker_that_is_pending_or_fails_makes_nothing(rt: HostRuntime) -> Result<(), F
     let log = Log::new(rt.alloc())?;
     let (making, script) = (Script::new(&log), Script::new(&log));
     let solo = task(&rt)?;
-    making.moods(&[Mood::Busy, Mood::Willing]);
+    making.readiness(&[Readiness::Pending, Readiness::Ready]);
     making.replies(&[Reply::Fail(0)]);
     let maker = Maker::new(&making, 'm', &script, 'a');
     let mut cx = solo.begin();
-    let answer = made(maker, Place::new(&script, 'p', 5), &mut cx);
+    let answer = made(maker, Target::new(&script, 'p', 5), &mut cx);
     cx.cancel();
     checks.holds(answer.is_none());
     checks.told(&log, "m pending;p dropped;m dropped;");
     let maker = Maker::new(&making, 'm', &script, 'a');
     let mut cx = solo.begin();
-    let answer = made(maker, Place::new(&script, 'p', 5), &mut cx);
+    let answer = made(maker, Target::new(&script, 'p', 5), &mut cx);
     cx.cancel();
     checks.holds(matches!(answer, Some(Poll::Ready(Err(5)))));
     checks.told(
@@ -105,12 +105,12 @@ fn maker_makes_once_it_was_found_ready_by_a_loan(rt: HostRuntime) -> Result<(), 
     let alloc = rt.alloc();
     let log = Log::new(alloc)?;
     let (making, script) = (Script::new(&log), Script::new(&log));
-    making.moods(&[Mood::Busy, Mood::Willing]);
+    making.readiness(&[Readiness::Pending, Readiness::Ready]);
     let solo = task(&rt)?;
     let mut maker = Maker::new(&making, 'm', &script, 'a');
     let mut cx = solo.begin();
-    let early = made_once_ready(&mut maker, Place::new(&script, 'p', 5), &mut cx);
-    let made = made_once_ready(&mut maker, Place::new(&script, 'q', 6), &mut cx);
+    let early = made_once_ready(&mut maker, Target::new(&script, 'p', 5), &mut cx);
+    let made = made_once_ready(&mut maker, Target::new(&script, 'q', 6), &mut cx);
     cx.cancel();
     checks.holds(early.is_none());
     let mut future = made.ok_or("not ready")?;

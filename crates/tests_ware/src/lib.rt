@@ -1,9 +1,6 @@
-//! Tests of `tower::{filter, load_shed, reconnect, steer, timeout}` and of streams of calls, of what no script asks, and of what
-//! all services stand on.
+//! Tests of `tower::{filter, load_shed, reconnect, steer, timeout}` and of streams of calls: what no script asks.
 #![tactic(auto)]
 
-#[cfg(test)]
-mod base;
 #[cfg(test)]
 mod call_all;
 #[cfg(test)]

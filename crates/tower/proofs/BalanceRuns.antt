@@ -9,7 +9,7 @@ use Rattle.std.proofs.lemmas.Option.{get_or_from_slice_get, slice_get_within}
 use Rattle.futures.specs.declared.task.Poll.{Poll}
 use Rattle.futures.specs.declared.task.Poll.TheVariants.{Ready, Pending}
 use Rattle.indexmap.specs.IndexMap.{insert_entry, set_value_at, swap_remove_entry}
-use Rattle.tower_base.specs.Passes.{Goes, Passes}
+use Rattle.tower_base.specs.Iterations.{Iterates, Iterations}
 use Rattle.tower_base.specs.Projection.{AtMostOnce, ByAction}
 use Rattle.tower_base.specs.ProjectionLemmas.{no_action, one_poll, one_call}
 use Rattle.tower_base.specs.ServiceRun.{Relations, relations, Action, Takes}
@@ -18,14 +18,14 @@ use Rattle.tower_limit.specs.Discover.{Found, MayInsert}
 use Rattle.tower_limit.specs.declared.discover.Change.TheVariants.{Insert, Remove}
 use Rattle.tower_pool.proofs.AskLemmas.{All-insert_entry}
 use Rattle.tower_pool.proofs.PendingLemmas.{All-cancel, All-new}
-use Rattle.tower_pool.specs.ReadyCache.{Askable, Called as CacheCalled, Checked, PendingView, ReadyCacheView, Settles, Sound as CacheSound, awaited, put_back, waiting}
-use Rattle.tower_pool.specs.ReadyCachePoll.{ByAnswer, ByTest, EachAsked, PendingPolled}
+use Rattle.tower_pool.specs.ReadyCache.{Askable, Called as CacheCalled, Checked, PendingView, ReadyCacheView, Settles, Sound as CacheSound, is_pending, put_back, pending_entry}
+use Rattle.tower_pool.specs.ReadyCachePoll.{PollCases, IfThenElse, EachPolled, PendingPolled}
 use Rattle.tower_pool.specs.declared.ready_cache.error.Failed.{Failed}
 use Rattle.tower_pool.specs.declared.ready_cache.error.Error.{Error as CacheError}
 use Rattle.tower_pool.specs.declared.ready_cache.error.Error.TheVariants.{Failed as EndpointFailed, Memory as NoRoom}
 use Rattle.tower_ware.proofs.RunsLemmas.{after}
 use Rattle.tower_pool.proofs.BalanceLemmas.{inserts_less, inserted_now}
-use Rattle.tower_pool.specs.Balance.{AfterChanges, AfterCheck, AfterFound, AfterPromotion, BalanceView, Called, ChangedAt, Chooses, CountedPass, IsReady, PassAt, Polled, PromotesAfter, Reads, ReadsAll, pushed}
+use Rattle.tower_pool.specs.Balance.{AfterChanges, AfterCheck, AfterFound, AfterPromotion, BalanceView, Called, ChangedAt, Chooses, CountedIteration, IsReady, IterationAt, Polled, PromotesAfter, Reads, ReadsAll, pushed}
 use Rattle.tower.specs.Projections.{EachEndpoint, LedTo, MayBeEndpoint}
 use Rattle.tower_pool.specs.declared.balance.error.Error.{Error}
 
@@ -65,11 +65,11 @@ module _ {K S : Type 0} (P : S → Type 0) where
 -- one comes back
 put_back_in : {K S : Type 0} → (eq : K → K → Bool) (P : S → Type 0) (key : K) (service : S) (ps : List (PendingView K S)) → P service → All (Askable P) ps
     → All (Askable P) (put_back eq key service ps)
-put_back_in eq P key service ps here h = by (awaited eq key ps)
+put_back_in eq P key service ps here h = by (is_pending eq key ps)
   where
-    by : (b : Bool) → All (Askable P) (if b then ps else ps ++ waiting key service ∷ [])
+    by : (b : Bool) → All (Askable P) (if b then ps else ps ++ pending_entry key service ∷ [])
     by true = h
-    by false = All-append (Askable P) ps (waiting key service ∷ []) h (All-cons (Askable P) (waiting key service) [] (λ e. here) (All-nil (Askable P)))
+    by false = All-append (Askable P) ps (pending_entry key service ∷ []) h (All-cons (Askable P) (pending_entry key service) [] (λ e. here) (All-nil (Askable P)))
 
 -- What holds of each endpoint, and of what a poll leaves of it, holds of each endpoint after a poll.
 module _ {K S Q A E G : Type 0} (eq : K → K → Bool) (s : ServiceOf S Q A E G) (P : S → Type 0)
@@ -78,31 +78,31 @@ module _ {K S Q A E G : Type 0} (eq : K → K → Bool) (s : ServiceOf S Q A E G
   Asks ps = All (Askable P) ps
 
   module _ (q : PendingView K S) (rest : List (PendingView K S)) (answer : Poll (Result (Unit {0}) (CacheError K E))) (new : ReadyCacheView K S)
-      (more : (before : List (PendingView K S)) (ready : List (K × S)) → EachAsked eq s before rest ready answer new → Asks before → Each P ready → CacheSound P new)
+      (more : (before : List (PendingView K S)) (ready : List (K × S)) → EachPolled eq s before rest ready answer new → Asks before → Each P ready → CacheSound P new)
       (before : List (PendingView K S)) (ready : List (K × S)) (b : Asks before) (p : Asks (q ∷ rest)) (r : Each P ready) where
-    answered : (inner : Poll (Result (Unit {0}) E)) (left : S) → P left → ByAnswer inner
-        (EachAsked eq s before rest (insert_entry eq ready q.key left) answer new)
+    answered : (inner : Poll (Result (Unit {0}) E)) (left : S) → P left → PollCases inner
+        (EachPolled eq s before rest (insert_entry eq ready q.key left) answer new)
         (λ e. (answer ≡ Ready (Err (EndpointFailed q.key e))) × (new ≡ record { ready = ready; pending = before ++ rest }))
-        (EachAsked eq s (before ++ (record q { service = left }) ∷ []) rest ready answer new) → CacheSound P new
+        (EachPolled eq s (before ++ (record q { service = left }) ∷ []) rest ready answer new) → CacheSound P new
     answered (Ready (Ok u)) left here h = more before (insert_entry eq ready q.key left) h b (All-insert_entry eq P ready q.key left here r)
     answered (Ready (Err e)) left here h =
         subst (CacheSound P) (sym h.1) (record { ready = r; pending = All-append (Askable P) before rest b (All-tail (Askable P) q rest p) })
     answered Pending left here h = more (before ++ (record q { service = left }) ∷ []) ready h
         (All-append (Askable P) before ((record q { service = left }) ∷ []) b (All-cons (Askable P) (record q { service = left }) [] (λ e. here) (All-nil (Askable P)))) r
 
-    first_asked : (cancelled : Bool) → q.cancelled ≡ cancelled → ByTest cancelled (EachAsked eq s before rest ready answer new)
+    first_asked : (cancelled : Bool) → q.cancelled ≡ cancelled → IfThenElse cancelled (EachPolled eq s before rest ready answer new)
         (((answer ≡ Ready (Err NoRoom)) × (new ≡ record { ready = ready; pending = before ++ q ∷ rest }))
-        ⊎ ((inner : Poll (Result (Unit {0}) E)) × (left : S) × s.polled q.service inner left × ByAnswer inner
-        (EachAsked eq s before rest (insert_entry eq ready q.key left) answer new)
+        ⊎ ((inner : Poll (Result (Unit {0}) E)) × (left : S) × s.polled q.service inner left × PollCases inner
+        (EachPolled eq s before rest (insert_entry eq ready q.key left) answer new)
         (λ e. (answer ≡ Ready (Err (EndpointFailed q.key e))) × (new ≡ record { ready = ready; pending = before ++ rest }))
-        (EachAsked eq s (before ++ (record q { service = left }) ∷ []) rest ready answer new))) → CacheSound P new
+        (EachPolled eq s (before ++ (record q { service = left }) ∷ []) rest ready answer new))) → CacheSound P new
     first_asked true e h = more before ready h b r
     first_asked false e h = ⊎_elim
         (λ full. subst (CacheSound P) (sym full.1) (record { ready = r; pending = All-append (Askable P) before (q ∷ rest) b p }))
         (λ polled. answered polled.0 polled.1 (closed q.service polled.0 polled.1 (All-head (Askable P) q rest p e) polled.2) polled.3) h
 
   asked : (pending before : List (PendingView K S)) (ready : List (K × S)) (answer : Poll (Result (Unit {0}) (CacheError K E))) (new : ReadyCacheView K S)
-      → EachAsked eq s before pending ready answer new → Asks before → Asks pending → Each P ready → CacheSound P new
+      → EachPolled eq s before pending ready answer new → Asks before → Asks pending → Each P ready → CacheSound P new
   asked [] before ready answer new h b p r = subst (CacheSound P) (sym h.1) (record { ready = r; pending = b })
   asked (q ∷ rest) before ready answer new h b p r =
       first_asked q rest answer new (λ earlier others h c d. asked rest earlier others answer new h c (All-tail (Askable P) q rest p) d) before ready b p r q.cancelled refl h
@@ -173,15 +173,15 @@ module _ {K S Q A E G : Type 0} (eq : K → K → Bool) (s : ServiceOf S Q A E G
       inserts = inserts_less discovered P old.discover h.1 h.0 h.2 c.inserts;
     })
 
-    went_reading : (n : ℕ) (old new : BalanceView D R K S) → Goes (Reads discovered eq {E = E}) n old new → Has old → Has new
-    unfolding Goes
+    went_reading : (n : ℕ) (old new : BalanceView D R K S) → Iterates (Reads discovered eq {E = E}) n old new → Has old → Has new
+    unfolding Iterates
     went_reading zero old new h c = subst Has (sym h) c
     went_reading (suc n) old new h c = read h.0 None new h.2 (went_reading n old h.0 h.1 c)
 
     all_read : (old : BalanceView D R K S) (answer : Result (Unit {0}) (Error E X)) (new : BalanceView D R K S) → ReadsAll discovered eq old answer new → Has old → Has new
     all_read old answer new h c = by old.is_over h
       where
-        by : (over : Bool) → ByTest over ((answer ≡ Ok tt) × (new ≡ old)) (Passes (Reads discovered eq) (Ok tt) old answer new) → Has new
+        by : (over : Bool) → IfThenElse over ((answer ≡ Ok tt) × (new ≡ old)) (Iterations (Reads discovered eq) (Ok tt) old answer new) → Has new
         by true h = subst Has (sym h.1) c
         by false h =
             let so_far = went_reading h.count old h.last h.went c in
@@ -207,14 +207,14 @@ module _ {K S Q A E G : Type 0} (eq : K → K → Bool) (s : ServiceOf S Q A E G
       after_check old i (Ok false) answer new h c = chooses old answer new h c
       after_check old i (Err x) answer new h c = chooses old answer new h c
 
-      passed : (kept : Option ℕ) (old : BalanceView D R K S) (answer : Option (Poll (Result (Unit {0}) (Error E X)))) (new : BalanceView D R K S) → PassAt eq s loaded cmp drew kept old answer new
+      passed : (kept : Option ℕ) (old : BalanceView D R K S) (answer : Option (Poll (Result (Unit {0}) (Error E X)))) (new : BalanceView D R K S) → IterationAt eq s loaded cmp drew kept old answer new
           → Has old → Has new
       passed None old answer new h c = chooses old answer new h c
       passed (Some i) old answer new h c = after_check (record old { services = h.1 }) i h.0 answer new h.3
           (record { discover = tt; services = checked old.services i h.0 h.1 h.2 c.services; change = c.change; inserts = c.inserts })
 
-      went_choosing : (n : ℕ) (old new : BalanceView D R K S × List (K × S)) → Goes (CountedPass {X = X} eq s loaded cmp drew) n old new → Has old.0 → Has new.0
-      unfolding Goes
+      went_choosing : (n : ℕ) (old new : BalanceView D R K S × List (K × S)) → Iterates (CountedIteration {X = X} eq s loaded cmp drew) n old new → Has old.0 → Has new.0
+      unfolding Iterates
       went_choosing zero old new h c = subst (λ v. Has v.0) (sym h) c
       went_choosing (suc n) old new h c = passed h.0.0.kept h.0.0 None new.0 h.2.0 (went_choosing n old h.0 h.1 c)
 

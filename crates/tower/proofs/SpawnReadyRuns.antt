@@ -2,7 +2,7 @@
 use Rattle.std.proofs.Common.{◌≡◌, ℕ, zero, suc, Bool, true, false, inl, inr, ⊎_elim, refl, ap, sym, ◌∙◌, subst, [], Option, Some, None, Result, Ok, Err}
 use Rattle.futures.specs.declared.task.Poll.{Poll}
 use Rattle.futures.specs.declared.task.Poll.TheVariants.{Ready, Pending}
-use Rattle.tower_base.specs.Passes.{Goes}
+use Rattle.tower_base.specs.Iterations.{Iterates}
 use Rattle.tower_base.specs.ServiceRun.{Relations, relations, Action, Takes}
 use Rattle.tower_base.specs.Projection.{RunInside}
 use Rattle.tower_base.specs.ProjectionLemmas.{no_action, one_poll, one_call}
@@ -11,7 +11,7 @@ use Rattle.tower_base.specs.declared.service.Executor.{Ghosts as ExecutorOf}
 use Rattle.tower_base.specs.declared.service.Service.{Ghosts as ServiceOf}
 use Rattle.tower_ware.proofs.RunsLemmas.{after}
 use Rattle.tower.specs.Projections.{FromHere, IsHereAgain, RunsHere, RunsInTask}
-use Rattle.tower_pool.specs.SpawnReady.{SpawnReadyView, AfterReadiness, Drives, TaskStepped, AfterReply, AfterSpawn, HandsOver, AfterPoll, PassAt, Pass, Polled, Called, tells}
+use Rattle.tower_pool.specs.SpawnReady.{SpawnReadyView, AfterReadiness, Drives, TaskStepped, AfterReply, AfterSpawn, HandsOver, AfterPoll, IterationAt, Iteration, Polled, Called, tells}
 use Rattle.tower_pool.specs.declared.spawn_ready.error.Error.{Error}
 use Rattle.tower_pool.specs.declared.spawn_ready.slot_core.Slot.{Slot}
 use Rattle.tower_pool.specs.declared.spawn_ready.slot_core.SlotStep.{SlotStep}
@@ -46,7 +46,7 @@ module _ {S Q A E F L : Type 0} (s : ServiceOf S Q A E F) (l : LatchOf L (Slot S
     abbrev Answer : Type 0
     Answer = Option (Poll (Result (Unit {0}) (Error E)))
 
-    -- what one pass leaves
+    -- what one iteration leaves
     abbrev Left : Option S → View → View → Type 0
     Left service old new = (new.latch ≡ old.latch) × IsHereAgain s l old.latch service new.service
 
@@ -86,17 +86,17 @@ module _ {S Q A E F L : Type 0} (s : ServiceOf S Q A E F) (l : LatchOf L (Slot S
     after_poll service left old (Ready (Err e)) answer new polled h =
         left_by (Some service) (Some left) old new (ap (λ v. v.latch) h.1) (ap (λ v. v.service) h.1) (inl (one_poll (relations s) service left (Ready (Err e)) polled refl))
 
-    passed : (service : Option S) (old : View) (answer : Answer) (new : View) → old.service ≡ service → PassAt s l x service old answer new → Left service old new
+    passed : (service : Option S) (old : View) (answer : Answer) (new : View) → old.service ≡ service → IterationAt s l x service old answer new → Left service old new
     passed (Some service) old answer new same h = after_poll service h.1 old h.0 answer new h.2 h.3
     passed None old answer new same h = looked old h.0 answer new same h.1 h.2
 
-    -- one pass more
+    -- one iteration more
     more : (old mid new : View) → Left old.service old mid → Left mid.service mid new → Left old.service old new
     more old mid new first second =
         (second.0 ∙ first.0, chained old.latch old.service mid.service new.service first.1 (subst (λ latch. IsHereAgain s l latch mid.service new.service) first.0 second.1))
 
-    went : (n : ℕ) (old new : View) → Goes (Pass s l x) n old new → Left old.service old new
-    unfolding Goes
+    went : (n : ℕ) (old new : View) → Iterates (Iteration s l x) n old new → Left old.service old new
+    unfolding Iterates
     went zero old new h = left_by old.service old.service old new (ap (λ v. v.latch) h) (ap (λ v. v.service) h) (stays old.latch old.service)
     went (suc n) old new h = more old h.0 new (went n old h.0 h.1) (passed h.0.service h.0 None new refl h.2)
 

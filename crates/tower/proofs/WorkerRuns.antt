@@ -3,12 +3,12 @@ use Rattle.std.proofs.Common.{◌≡◌, ℕ, zero, suc, Bool, true, false, inl,
 use Rattle.std.specs.List.{AllByRecursion}
 use Rattle.futures.specs.declared.task.Poll.{Poll}
 use Rattle.futures.specs.declared.task.Poll.TheVariants.{Ready, Pending}
-use Rattle.tower_base.specs.Passes.{Goes}
+use Rattle.tower_base.specs.Iterations.{Iterates}
 use Rattle.tower_base.specs.ServiceRun.{relations, Action, requests}
 use Rattle.tower_base.specs.Projection.{RunInside}
 use Rattle.tower_base.specs.ProjectionLemmas.{joined, requests_joined, no_action, one_poll}
 use Rattle.tower_base.specs.declared.service.Service.{Ghosts as ServiceOf}
-use Rattle.tower_buffer.specs.Worker.{WorkerView, AfterLive, AfterMessage, AfterPoll, AfterTake, Pass, PassAt, Serves, Stepped}
+use Rattle.tower_buffer.specs.Worker.{WorkerView, AfterLive, AfterMessage, AfterPoll, AfterTake, Iteration, IterationAt, Serves, Stepped}
 use Rattle.tower_buffer.specs.declared.buffer.mail.MailStep.{MailStep}
 use Rattle.tower_buffer.specs.declared.buffer.mail.MailStep.TheVariants.{Take}
 use Rattle.tower_buffer.specs.declared.buffer.mail.MailReply.{MailReply}
@@ -89,7 +89,7 @@ module _ {L S Q A E F : Type 0} (gave : L → MailStep Q F E → MailReply Q F E
   lived old id request _ answer new keeps is h = absurd h
 
   passed : (message : Option (ℕ × Q)) (old : View) (answer : Option (Poll (Unit {0}))) (new : View) → old.message ≡ message → Keeps old
-      → PassAt gave s message old answer new → Leads old new
+      → IterationAt gave s message old answer new → Leads old new
   passed None old answer new e keeps h = taken old h.0 answer new keeps h.1 h.2
   passed (Some m) old answer new e keeps h =
       lived (record old { message = None }) m.0 m.1 h.0 answer new (keeps.0, tt) (subst (λ o. IfSome o (λ m. Is m.1)) e keeps.1) h.2
@@ -97,8 +97,8 @@ module _ {L S Q A E F : Type 0} (gave : L → MailStep Q F E → MailReply Q F E
   more : (old mid new : View) → Leads old mid → Leads mid new → Leads old new
   more old mid new before later = (later.0, on old.service mid.service new.service before.1 later.1)
 
-  went : (n : ℕ) (old new : View) → Goes (Pass gave s) n old new → Keeps old → Leads old new
-  unfolding Goes
+  went : (n : ℕ) (old new : View) → Iterates (Iteration gave s) n old new → Keeps old → Leads old new
+  unfolding Iterates
   went zero old new h keeps = stays old new keeps h
   went (suc n) old new h keeps =
       let before = went n old h.0 h.1 keeps in more old h.0 new before (passed h.0.message h.0 None new refl before.0 h.2)

@@ -5,7 +5,7 @@ use Rattle.tower_base.specs.Projection.{AtMostOnce, Each as EachMakes, RunInside
 use Rattle.tower_base.specs.ServiceRun.{relations}
 use Rattle.tower_base.specs.declared.service.Service.{Ghosts as ServiceOf}
 use Rattle.tower_base.specs.declared.service.Clock.{Ghosts as ClockOf}
-use Rattle.tower_limit.specs.Rate.{RateLimitView, StandsFor, opening}
+use Rattle.tower_limit.specs.Rate.{RateLimitView, StandsFor, initial}
 use Rattle.tower_limit.specs.RateRun.{AtMostIn, KeepsRate, call_moments}
 use Rattle.tower.specs.Waits.{Waited, Answered, Each}
 
@@ -35,7 +35,7 @@ pub record WithinRate {S C Q R A E F : Type 0} (num per : ℕ) (s : ServiceOf S 
 
 -- If no call was made of the limit before, its number and its period are `num` and `per`.
 abbrev pub IfNew : {S C : Type 0} → RateLimitView S C → (ℕ → ℕ → Type 0) → Type 0
-IfNew limit P = (num per : ℕ) → StandsFor limit.core (opening num per) → P num per
+IfNew limit P = (num per : ℕ) → StandsFor limit.core (initial num per) → P num per
 
 -- Whatever run a stack had, the calls that reach the limit inside it keep to its rate.
 abbrev pub RunsWithin : {W S C Q R A E F B D G : Type 0} → ServiceOf W Q B D G → ServiceOf S R A E F → ClockOf C → (W → RateLimitView S C) → (Q → List R → Type 0) → Type 0

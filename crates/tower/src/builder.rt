@@ -61,7 +61,11 @@ impl<L> ServiceBuilder<L> {
 
     /// Adds the layer, if there is one.
     pub fn option_layer<T>(self, layer: Option<T>) -> ServiceBuilder<Stack<Either<T, Identity>, L>>
-        ensures { result ≡ record { inner = elim layer [ Some l ↦ Left l | None ↦ Right (record {}) ]; outer = self } }
+        ensures { result ≡ record {
+          inner = elim layer
+              [ Some l ↦ Left l | None ↦ Right (record {}) ];
+          outer = self;
+        } }
     {
         self.layer(option_layer(layer))
     }
@@ -79,7 +83,8 @@ impl<L> ServiceBuilder<L> {
         duration: u64,
         clock: C,
     ) -> ServiceBuilder<Stack<TimeoutLayer<C>, L>>
-        ensures { result ≡ record { inner = record { duration = duration; clock = clock }; outer = self } }
+        ensures { result
+            ≡ record { inner = record { duration = duration; clock = clock }; outer = self } }
     {
         self.layer(TimeoutLayer::new(duration, clock))
     }
@@ -95,7 +100,8 @@ impl<L> ServiceBuilder<L> {
     ) -> ServiceBuilder<Stack<BufferLayer<Request, E, X, R>, L>>
         requires positive { 0 < bound }
         requires same { (x y : E) → E.is_clone x y → y ≡ x }
-        ensures { result ≡ record { inner = record { bound = bound; executor = executor }; outer = self } }
+        ensures { result
+            ≡ record { inner = record { bound = bound; executor = executor }; outer = self } }
     {
         self.layer(BufferLayer::new(rt, alloc, bound, executor))
     }
@@ -122,7 +128,8 @@ impl<L> ServiceBuilder<L> {
     ) -> ServiceBuilder<Stack<RateLimitLayer<C>, L>>
         requires num { num ≢ 0 }
         requires per { per ≢ 0 }
-        ensures { result ≡ record { inner = record { num = num; per = per; clock = clock }; outer = self } }
+        ensures { result
+            ≡ record { inner = record { num = num; per = per; clock = clock }; outer = self } }
     {
         self.layer(RateLimitLayer::new(alloc, num, per, clock))
     }

@@ -28,21 +28,26 @@ use tower_ware::filter;
 
 /// Each call goes to the inner service, once.
 pub fn latency<Q, R: Record + Clone, S: Service<Q>, C: Clock>()
-    ensures { Projects (relations ⟦<Latency<R, S, C> as Service<Q>>⟧) (relations S.Service) (λ l. l.service) Once }
+    ensures { Projects (relations ⟦<Latency<R, S, C> as Service<Q>>⟧) (relations S.Service)
+        (λ l. l.service) Once }
 {}
 
 /// Each call goes to the first service, once. A copy of its request goes to the second, if the policy makes
 /// one.
 pub fn select<Q, P: select::Policy<Q>, A: Service<Q>, B: Service<Q, Response = A::Response>>()
-    ensures first { Projects (relations ⟦<Select<P, A, B> as Service<Q>>⟧) (relations A.Service) (λ s. s.a) Once }
-    ensures second { Projects (relations ⟦<Select<P, A, B> as Service<Q>>⟧) (relations B.Service) (λ s. s.b) (MappedOrNone (Copies P.Policy)) }
+    ensures first { Projects (relations ⟦<Select<P, A, B> as Service<Q>>⟧) (relations A.Service)
+        (λ s. s.a) Once }
+    ensures second { Projects (relations ⟦<Select<P, A, B> as Service<Q>>⟧) (relations B.Service)
+        (λ s. s.b) (MappedOrNone (Copies P.Policy)) }
 {}
 
 /// Nothing reaches the service itself: a call clones it. The clone in the future is called once, after the
 /// delay, or fails.
 pub fn delay<Q: Drop, P: delay::Policy<Q>, S: Service<Q> + Clone, C: Clock>()
-    ensures inside { Projects (relations ⟦<Delay<P, S, C> as Service<Q>>⟧) (relations S.Service) (λ d. d.service) Never }
-    ensures future { (old new : _) (answer : _) → DelayStepped S.Service S.Future.stepped C.Clock old answer new → RunsInDelay S.Service old new }
+    ensures inside { Projects (relations ⟦<Delay<P, S, C> as Service<Q>>⟧) (relations S.Service)
+        (λ d. d.service) Never }
+    ensures future { (old new : _) (answer : _) → DelayStepped S.Service S.Future.stepped C.Clock
+        old answer new → RunsInDelay S.Service old new }
 {}
 
 /// Each call goes, once, to the inner service: a `Select` over the two sides.
@@ -62,7 +67,8 @@ pub fn worker<Q: Drop, S: Service<Q>, L>()
 where
     S::Error: Clone,
     L: Latch<MailCore<Q, Pollable<S::Future>, S::Error>>,
-    ensures { (old new : _) (answer : _) → WorkerStepped L.gave S.Service old answer new → RunsInWorker L.gave S.Service old new }
+    ensures { (old new : _) (answer : _) → WorkerStepped L.gave S.Service old answer new
+        → RunsInWorker L.gave S.Service old new }
 {}
 
 /// Each call goes, once, to the service that is here. A service that comes back from a task came from its
@@ -73,8 +79,11 @@ where
     S: Service<Q, Error = E>,
     X: Executor<ReadyTask<S, Q, E, L>> + Drop,
     L: Latch<SlotCore<Viewed<S, Q>, E>>,
-    ensures inside { (old : _) (action : _) (new : _) → Takes (relations ⟦<SpawnReady<S, Q, E, X, L> as Service<Q>>⟧) old action new → RunsHere S.Service L.Latch (view_of old) action (view_of new) }
-    ensures task { (old new : _) (answer : _) → TaskStepped L.Latch S.Service old answer new → RunsInTask S.Service L.Latch old new }
+    ensures inside { (old : _) (action : _) (new : _)
+        → Takes (relations ⟦<SpawnReady<S, Q, E, X, L> as Service<Q>>⟧) old action new
+        → RunsHere S.Service L.Latch (view_of old) action (view_of new) }
+    ensures task { (old new : _) (answer : _) → TaskStepped L.Latch S.Service old answer new
+        → RunsInTask S.Service L.Latch old new }
 {}
 
 /// A run leads to each endpoint, from one that was there before or that the discovery inserted since. A
@@ -86,6 +95,9 @@ where
     X: Drop,
     D: Discover<Key = K, Service = S, Error = X>,
     R: Rng,
-    ensures { (old : _) (action : _) (new : _) → Takes (relations ⟦<Balance<D, R, Q> as Service<Q>>⟧) old action new
-        → EachEndpoint D.discovered (LedTo S.Service (MayBeEndpoint D.discovered (view_of_balance old)) (ByAction AtMostOnce action)) (view_of_balance new) }
+    ensures { (old : _) (action : _) (new : _)
+        → Takes (relations ⟦<Balance<D, R, Q> as Service<Q>>⟧) old action new
+        → EachEndpoint D.discovered (LedTo S.Service
+        (MayBeEndpoint D.discovered (view_of_balance old)) (ByAction AtMostOnce action))
+        (view_of_balance new) }
 {}

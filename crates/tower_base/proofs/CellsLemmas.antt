@@ -5,16 +5,16 @@ use Rattle.std.proofs.lemmas.List.Sums.{sum_by-cons}
 use Rattle.std.proofs.Math.ListN.{get_or-map}
 use Rattle.slab.specs.Slab.{Slab, get, with_value, Updates, slab_len}
 use Rattle.slab.proofs.SlabLemmas.{Updates-with_value}
-use Rattle.tower_base.specs.declared.links.cells.Place.{Place}
+use Rattle.tower_base.specs.declared.links.cells.LinkState.{LinkState}
 use Rattle.tower_base.specs.declared.links.cells.Entry.{Entry}
 use Rattle.tower_base.specs.Cells.{entry, place_of, value_of, place_at, values_of, with_place_if, with_place, with_place_at, bypassed}
-use Rattle.tower_base.specs.Order.{Places, moved, place_map, with_next, with_previous}
+use Rattle.tower_base.specs.Order.{LinkStates, moved, place_map, with_next, with_previous}
 use Rattle.tower_base.proofs.OrderLemmas.{moved_same, moved_other}
 
 abbrev the_none : (X : Type 0) → Option X
 the_none X = None
 
-moved_along : (P Q : Places) (at : Option ℕ) (f : Place → Place) (other : ℕ) → P other ≡ Q other → moved P at f other ≡ moved Q at f other
+moved_along : (P Q : LinkStates) (at : Option ℕ) (f : LinkState → LinkState) (other : ℕ) → P other ≡ Q other → moved P at f other ≡ moved Q at f other
 moved_along P Q None f other same = same
 moved_along P Q (Some key) f other same = ap (λ q. cond (eqb other key) (place_map f q) q) same
 
@@ -50,7 +50,7 @@ module _ {T : Type 0} where
       clash : (b : Bool) → b ≡ true → b ≡ false → ⊥
       clash b x y = cc
 
-  with_place_if_at : (s : Slab (Entry T)) (key : ℕ) (f : Place → Place) (slot : Option (Entry T)) → get s key ≡ slot → (other : ℕ) → place_at (with_place_if s key f slot) other ≡ moved (place_at s) (Some key) f other
+  with_place_if_at : (s : Slab (Entry T)) (key : ℕ) (f : LinkState → LinkState) (slot : Option (Entry T)) → get s key ≡ slot → (other : ℕ) → place_at (with_place_if s key f slot) other ≡ moved (place_at s) (Some key) f other
   with_place_if_at s key f None is other =
       elim (eqb_tells other key) [
         | inl equal ↦
@@ -68,28 +68,28 @@ module _ {T : Type 0} where
         | inr apart ↦ ap place_of (u.others other apart.1) ∙ sym (moved_other (place_at s) key other f apart.0)
       ]
 
-  pub with_place_is : (s : Slab (Entry T)) (key : ℕ) (f : Place → Place) (other : ℕ) → place_at (with_place s key f) other ≡ moved (place_at s) (Some key) f other
+  pub with_place_is : (s : Slab (Entry T)) (key : ℕ) (f : LinkState → LinkState) (other : ℕ) → place_at (with_place s key f) other ≡ moved (place_at s) (Some key) f other
   with_place_is s key f other = with_place_if_at s key f (get s key) refl other
 
-  same_set : (slots : List (Option (Entry T))) (key : ℕ) (e : Entry T) (place : Place) → get_or slots key None ≡ Some e → map value_of (set slots key (Some (entry e.value place))) ≡ map value_of slots
+  same_set : (slots : List (Option (Entry T))) (key : ℕ) (e : Entry T) (place : LinkState) → get_or slots key None ≡ Some e → map value_of (set slots key (Some (entry e.value place))) ≡ map value_of slots
   same_set [] key e place is = refl
   same_set (slot ∷ rest) zero e place is = ap (λ v. v ∷ map value_of rest) (sym (ap value_of is))
   same_set (slot ∷ rest) (suc key) e place is = ap (λ vs. value_of slot ∷ vs) (same_set rest key e place is)
 
-  with_place_if_values : (s : Slab (Entry T)) (key : ℕ) (f : Place → Place) (slot : Option (Entry T)) → get s key ≡ slot → values_of (with_place_if s key f slot) ≡ values_of s
+  with_place_if_values : (s : Slab (Entry T)) (key : ℕ) (f : LinkState → LinkState) (slot : Option (Entry T)) → get s key ≡ slot → values_of (with_place_if s key f slot) ≡ values_of s
   with_place_if_values s key f None is = refl
   with_place_if_values s key f (Some e) is =
       ap (λ vs. record { slots = vs; vacant_key = s.vacant_key; capacity = s.capacity }) (same_set s.slots key e (f e.place) is)
 
   -- a change of places leaves the values
-  pub with_place_values : (s : Slab (Entry T)) (key : ℕ) (f : Place → Place) → values_of (with_place s key f) ≡ values_of s
+  pub with_place_values : (s : Slab (Entry T)) (key : ℕ) (f : LinkState → LinkState) → values_of (with_place s key f) ≡ values_of s
   with_place_values s key f = with_place_if_values s key f (get s key) refl
 
-  pub with_place_at_values : (s : Slab (Entry T)) (at : Option ℕ) (f : Place → Place) → values_of (with_place_at s at f) ≡ values_of s
+  pub with_place_at_values : (s : Slab (Entry T)) (at : Option ℕ) (f : LinkState → LinkState) → values_of (with_place_at s at f) ≡ values_of s
   with_place_at_values s None f = refl
   with_place_at_values s (Some key) f = with_place_values s key f
 
-  pub with_place_at_is : (s : Slab (Entry T)) (at : Option ℕ) (f : Place → Place) (other : ℕ) → place_at (with_place_at s at f) other ≡ moved (place_at s) at f other
+  pub with_place_at_is : (s : Slab (Entry T)) (at : Option ℕ) (f : LinkState → LinkState) (other : ℕ) → place_at (with_place_at s at f) other ≡ moved (place_at s) at f other
   with_place_at_is s None f other = refl
   with_place_at_is s (Some key) f other = with_place_is s key f other
 

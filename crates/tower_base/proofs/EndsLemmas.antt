@@ -3,8 +3,8 @@ use Rattle.std.proofs.Common.{◌≡◌, ℕ, ◌+◌, ◌<◌, ◌≤◌, true,
 use Rattle.std.proofs.Common.{OnSome, IfNone, IsSome, arith}
 use Rattle.slab.specs.Slab.{Slab, get, slab_len, ContainsKey, Updates, with_value}
 use Rattle.slab.proofs.SlabLemmas.{Updates-with_value}
-use Rattle.tower_base.specs.declared.links.cells.Place.{Place}
-use Rattle.tower_base.specs.declared.links.cells.Place.TheVariants.{Linked, Outside}
+use Rattle.tower_base.specs.declared.links.cells.LinkState.{LinkState}
+use Rattle.tower_base.specs.declared.links.cells.LinkState.TheVariants.{Linked, Outside}
 use Rattle.tower_base.specs.declared.links.cells.Entry.{Entry}
 use Rattle.tower_base.specs.declared.links.Ends.{Ends}
 use Rattle.tower_base.specs.Cells.{entry, place_of, value_of, place_at, values_of, with_place, bypassed}
@@ -13,7 +13,7 @@ use Rattle.tower_base.specs.Ends.{left_ends, pushed_ends, order_of, IsSound, lef
 use Rattle.tower_base.proofs.OrderLemmas.{order_is, has_is, IsOrder-same, unlinked, pushed, stayed, not_empty, len_within, moved_same, moved_other}
 use Rattle.tower_base.proofs.CellsLemmas.{bypassed_values, bypassed_is, with_place_at_values, with_place_at_is, with_place_is, with_place_values, value_at_key, len_of_values, len_of_replaced, replaced_places, Updates-places, Updates-values}
 
-outside_unlinked : (q : Option Place) → is_linked (place_map (λ _. Outside) q) ≡ false
+outside_unlinked : (q : Option LinkState) → is_linked (place_map (λ _. Outside) q) ≡ false
 outside_unlinked None = refl
 outside_unlinked (Some p) = refl
 
@@ -33,7 +33,7 @@ module _ {T : Type 0} where
   ordered s e o =
       subst (λ ks. IsOrder (place_at s) ks e.first e.last e.len s.capacity) (sym (order_is (place_at s) o.0 e.first e.last e.len s.capacity o.1)) o.1
 
-  left_at : (s s1 : Slab (Entry T)) (key : ℕ) (e : Ends) (place : Option Place) → place_at s key ≡ place → IsSound s e → ((other : ℕ) → eqb other key ≡ false → place_at s1 other ≡ place_at s other) → is_linked (place_at s1 key) ≡ false → IsOrder (place_at (left_slab s1 place)) (without (order_of s e) key) (left_ends place e).first (left_ends place e).last (left_ends place e).len s.capacity
+  left_at : (s s1 : Slab (Entry T)) (key : ℕ) (e : Ends) (place : Option LinkState) → place_at s key ≡ place → IsSound s e → ((other : ℕ) → eqb other key ≡ false → place_at s1 other ≡ place_at s other) → is_linked (place_at s1 key) ≡ false → IsOrder (place_at (left_slab s1 place)) (without (order_of s e) key) (left_ends place e).first (left_ends place e).last (left_ends place e).len s.capacity
   left_at s s1 key e None is o same gone =
       stayed (place_at s) (place_at s1) (order_of s e) key e.first e.last e.len s.capacity (ordered s e o) (ap is_linked is) same gone
   left_at s s1 key e (Some Outside) is o same gone =
@@ -41,7 +41,7 @@ module _ {T : Type 0} where
   left_at s s1 key e (Some (Linked previous next)) is o same gone =
       unlinked (place_at s) (place_at s1) (place_at (bypassed s1 previous next)) (order_of s e) key e.first e.last previous next e.len s.capacity (ordered s e o) is same gone (bypassed_is s1 previous next)
 
-  left_values : (s1 : Slab (Entry T)) (place : Option Place) → values_of (left_slab s1 place) ≡ values_of s1
+  left_values : (s1 : Slab (Entry T)) (place : Option LinkState) → values_of (left_slab s1 place) ≡ values_of s1
   left_values s1 None = refl
   left_values s1 (Some Outside) = refl
   left_values s1 (Some (Linked previous next)) = bypassed_values s1 previous next
@@ -52,7 +52,7 @@ module _ {T : Type 0} where
     pub order : order_of s2 e2 ≡ without (order_of s e) key
     pub values : values_of s2 ≡ values_of s1
 
-  pub left : (s s1 s2 : Slab (Entry T)) (e e2 : Ends) (key : ℕ) (place : Option Place) → IsSound s e → place ≡ place_at s key → ((other : ℕ) → eqb other key ≡ false → place_at s1 other ≡ place_at s other) → is_linked (place_at s1 key) ≡ false → s1.capacity ≡ s.capacity → s2 ≡ left_slab s1 place → e2 ≡ left_ends place e → Left s s1 s2 e e2 key
+  pub left : (s s1 s2 : Slab (Entry T)) (e e2 : Ends) (key : ℕ) (place : Option LinkState) → IsSound s e → place ≡ place_at s key → ((other : ℕ) → eqb other key ≡ false → place_at s1 other ≡ place_at s other) → is_linked (place_at s1 key) ≡ false → s1.capacity ≡ s.capacity → s2 ≡ left_slab s1 place → e2 ≡ left_ends place e → Left s s1 s2 e e2 key
   left s s1 s2 e e2 key place o stood same gone capacity is ends =
       let order : IsOrder (place_at (left_slab s1 place)) (without (order_of s e) key) (left_ends place e).first (left_ends place e).last (left_ends place e).len s.capacity = left_at s s1 key e place (sym stood) o same gone in
       let larger : s.capacity ≡ (left_slab s1 place).capacity = sym (ap (λ v. v.capacity) (left_values s1 place) ∙ capacity) in
@@ -93,7 +93,7 @@ module _ {T : Type 0} where
       })
 
   -- the entry was put outside the order
-  pub put_left : (s s1 s2 : Slab (Entry T)) (e e2 : Ends) (key : ℕ) (place : Option Place) → IsSound s e → place ≡ place_at s key → s1 ≡ with_place s key (λ _. Outside) → s2 ≡ left_slab s1 place → e2 ≡ left_ends place e → Left s s s2 e e2 key
+  pub put_left : (s s1 s2 : Slab (Entry T)) (e e2 : Ends) (key : ℕ) (place : Option LinkState) → IsSound s e → place ≡ place_at s key → s1 ≡ with_place s key (λ _. Outside) → s2 ≡ left_slab s1 place → e2 ≡ left_ends place e → Left s s s2 e e2 key
   put_left s s1 s2 e e2 key place o stood put is ends =
       let at : (other : ℕ) → place_at s1 other ≡ moved (place_at s) (Some key) (λ _. Outside) other = λ other. ap (λ t. place_at t other) put ∙ with_place_is s key (λ _. Outside) other in
       let values : values_of s1 ≡ values_of s = ap values_of put ∙ with_place_values s key (λ _. Outside) in
@@ -105,7 +105,7 @@ module _ {T : Type 0} where
       record { sound = l.sound; order = l.order; values = l.values ∙ values }
 
   -- the entry was removed
-  pub removed_left : (s s1 s2 : Slab (Entry T)) (e e2 : Ends) (key : ℕ) (place : Option Place) → IsSound s e → place ≡ place_at s key → Updates s s1 key None → s1.capacity ≡ s.capacity → s2 ≡ left_slab s1 place → e2 ≡ left_ends place e → Left s s1 s2 e e2 key
+  pub removed_left : (s s1 s2 : Slab (Entry T)) (e e2 : Ends) (key : ℕ) (place : Option LinkState) → IsSound s e → place ≡ place_at s key → Updates s s1 key None → s1.capacity ≡ s.capacity → s2 ≡ left_slab s1 place → e2 ≡ left_ends place e → Left s s1 s2 e e2 key
   removed_left s s1 s2 e e2 key place o stood updates capacity is ends =
       left s s1 s2 e e2 key place o stood (Updates-places s s1 key None updates) (ap (λ slot. is_linked (place_of slot)) updates.changed) capacity is ends
 

@@ -6,9 +6,9 @@ use Rattle.std.proofs.lemmas.List.Folds.{list_any-append}
 use Rattle.std.proofs.lemmas.List.Elements.{filter-append}
 use Rattle.std.proofs.lemmas.Map.Steps.{length-le_from_distinct_below}
 use Rattle.std.specs.List.{IsDistinct, AllByRecursion}
-use Rattle.tower_base.specs.declared.links.cells.Place.{Place}
-use Rattle.tower_base.specs.declared.links.cells.Place.TheVariants.{Linked, Outside}
-use Rattle.tower_base.specs.Order.{Places, has, without, Apart, with_next, with_previous, place_map, moved, is_linked, next_of, chain, first_or, last_or, IsChain, IsOrder, end_after}
+use Rattle.tower_base.specs.declared.links.cells.LinkState.{LinkState}
+use Rattle.tower_base.specs.declared.links.cells.LinkState.TheVariants.{Linked, Outside}
+use Rattle.tower_base.specs.Order.{LinkStates, has, without, Apart, with_next, with_previous, place_map, moved, is_linked, next_of, chain, first_or, last_or, IsChain, IsOrder, end_after}
 
 eqb_self : (n : ℕ) → eqb n n ≡ true
 eqb_self n = eq-eqb n n refl
@@ -40,35 +40,35 @@ has-append a b key = list_any-append (eqb key) a b
 
 -- ---- changes of one place
 
-pub moved_same : (P : Places) (key : ℕ) (f : Place → Place) → moved P (Some key) f key ≡ place_map f (P key)
+pub moved_same : (P : LinkStates) (key : ℕ) (f : LinkState → LinkState) → moved P (Some key) f key ≡ place_map f (P key)
 moved_same P key f = rw (eqb_self key) refl
 
-pub moved_other : (P : Places) (at key : ℕ) (f : Place → Place) → eqb key at ≡ false → moved P (Some at) f key ≡ P key
+pub moved_other : (P : LinkStates) (at key : ℕ) (f : LinkState → LinkState) → eqb key at ≡ false → moved P (Some at) f key ≡ P key
 moved_other P at key f differs = rw differs refl
 
-moved_last : (P : Places) (f : Place → Place) (key first : ℕ) (rest : List ℕ) → has (first ∷ rest) key ≡ false → moved P (last_or rest (Some first)) f key ≡ P key
+moved_last : (P : LinkStates) (f : LinkState → LinkState) (key first : ℕ) (rest : List ℕ) → has (first ∷ rest) key ≡ false → moved P (last_or rest (Some first)) f key ≡ P key
 moved_last P f key first [] lacks = moved_other P first key f (or_no _ _ lacks).0
 moved_last P f key first (second ∷ rest) lacks = moved_last P f key second rest (or_no _ _ lacks).1
 
-moved_last_or : (P : Places) (f : Place → Place) (key : ℕ) (keys : List ℕ) → has keys key ≡ false → moved P (last_or keys None) f key ≡ P key
+moved_last_or : (P : LinkStates) (f : LinkState → LinkState) (key : ℕ) (keys : List ℕ) → has keys key ≡ false → moved P (last_or keys None) f key ≡ P key
 moved_last_or P f key [] lacks = refl
 moved_last_or P f key (first ∷ rest) lacks = moved_last P f key first rest lacks
 
-moved_first_or : (P : Places) (f : Place → Place) (key : ℕ) (keys : List ℕ) → has keys key ≡ false → moved P (first_or keys None) f key ≡ P key
+moved_first_or : (P : LinkStates) (f : LinkState → LinkState) (key : ℕ) (keys : List ℕ) → has keys key ≡ false → moved P (first_or keys None) f key ≡ P key
 moved_first_or P f key [] lacks = refl
 moved_first_or P f key (first ∷ rest) lacks = moved_other P first key f (or_no _ _ lacks).0
 
-linked-next : (q : Option Place) (next : Option ℕ) → is_linked (place_map (with_next next) q) ≡ is_linked q
+linked-next : (q : Option LinkState) (next : Option ℕ) → is_linked (place_map (with_next next) q) ≡ is_linked q
 linked-next None next = refl
 linked-next (Some Outside) next = refl
 linked-next (Some (Linked before after)) next = refl
 
-linked-previous : (q : Option Place) (previous : Option ℕ) → is_linked (place_map (with_previous previous) q) ≡ is_linked q
+linked-previous : (q : Option LinkState) (previous : Option ℕ) → is_linked (place_map (with_previous previous) q) ≡ is_linked q
 linked-previous None previous = refl
 linked-previous (Some Outside) previous = refl
 linked-previous (Some (Linked before after)) previous = refl
 
-linked_moved : (P : Places) (at : Option ℕ) (f : Place → Place) (key : ℕ) → ((q : Option Place) → is_linked (place_map f q) ≡ is_linked q) → is_linked (moved P at f key) ≡ is_linked (P key)
+linked_moved : (P : LinkStates) (at : Option ℕ) (f : LinkState → LinkState) (key : ℕ) → ((q : Option LinkState) → is_linked (place_map f q) ≡ is_linked q) → is_linked (moved P at f key) ≡ is_linked (P key)
 linked_moved P None f key keeps = refl
 linked_moved P (Some at) f key keeps =
     elim (eqb_tells key at) [
@@ -78,7 +78,7 @@ linked_moved P (Some at) f key keeps =
 
 -- ---- chains
 
-pub IsChain-same : (P Q : Places) (before : Option ℕ) (keys : List ℕ) (after : Option ℕ) → ((key : ℕ) → has keys key ≡ true → Q key ≡ P key) → IsChain P before keys after → IsChain Q before keys after
+pub IsChain-same : (P Q : LinkStates) (before : Option ℕ) (keys : List ℕ) (after : Option ℕ) → ((key : ℕ) → has keys key ≡ true → Q key ≡ P key) → IsChain P before keys after → IsChain Q before keys after
 IsChain-same P Q before [] after same c = tt
 IsChain-same P Q before (key ∷ rest) after same c =
     (same key (has-first key rest) ∙ c.0, IsChain-same P Q (Some key) rest after (λ other h. same other (or_right _ _ h)) c.1)
@@ -91,22 +91,22 @@ last_or-append : (a b : List ℕ) (before : Option ℕ) → last_or (a ++ b) bef
 last_or-append [] b before = refl
 last_or-append (key ∷ rest) b before = last_or-append rest b (Some key)
 
-IsChain-join : (P : Places) (before : Option ℕ) (a b : List ℕ) (after : Option ℕ) → IsChain P before a (first_or b after) → IsChain P (last_or a before) b after → IsChain P before (a ++ b) after
+IsChain-join : (P : LinkStates) (before : Option ℕ) (a b : List ℕ) (after : Option ℕ) → IsChain P before a (first_or b after) → IsChain P (last_or a before) b after → IsChain P before (a ++ b) after
 IsChain-join P before [] b after front back = back
 IsChain-join P before (key ∷ rest) b after front back =
     (front.0 ∙ ap (λ x. Some (Linked before x)) (sym (first_or-append rest b after)), IsChain-join P (Some key) rest b after front.1 back)
 
-IsChain-front : (P : Places) (before : Option ℕ) (a b : List ℕ) (after : Option ℕ) → IsChain P before (a ++ b) after → IsChain P before a (first_or b after)
+IsChain-front : (P : LinkStates) (before : Option ℕ) (a b : List ℕ) (after : Option ℕ) → IsChain P before (a ++ b) after → IsChain P before a (first_or b after)
 IsChain-front P before [] b after c = tt
 IsChain-front P before (key ∷ rest) b after c =
     (c.0 ∙ ap (λ x. Some (Linked before x)) (first_or-append rest b after), IsChain-front P (Some key) rest b after c.1)
 
-IsChain-back : (P : Places) (before : Option ℕ) (a b : List ℕ) (after : Option ℕ) → IsChain P before (a ++ b) after → IsChain P (last_or a before) b after
+IsChain-back : (P : LinkStates) (before : Option ℕ) (a b : List ℕ) (after : Option ℕ) → IsChain P before (a ++ b) after → IsChain P (last_or a before) b after
 IsChain-back P before [] b after c = c
 IsChain-back P before (key ∷ rest) b after c = IsChain-back P (Some key) rest b after c.1
 
 -- the last entry names another key after it
-relink_next : (P : Places) (before : Option ℕ) (keys : List ℕ) (after next : Option ℕ) → Apart keys → IsChain P before keys after → IsChain (moved P (last_or keys None) (with_next next)) before keys next
+relink_next : (P : LinkStates) (before : Option ℕ) (keys : List ℕ) (after next : Option ℕ) → Apart keys → IsChain P before keys after → IsChain (moved P (last_or keys None) (with_next next)) before keys next
 relink_next P before [] after next apart c = tt
 relink_next P before (key ∷ []) after next apart c =
     (moved_same P key (with_next next) ∙ ap (place_map (with_next next)) c.0, tt)
@@ -114,7 +114,7 @@ relink_next P before (key ∷ second ∷ rest) after next apart c =
     (moved_last P (with_next next) key second rest apart.0 ∙ c.0, relink_next P (Some key) (second ∷ rest) after next apart.1 c.1)
 
 -- the first entry names another key before it
-relink_previous : (P : Places) (before previous : Option ℕ) (keys : List ℕ) (after : Option ℕ) → Apart keys → IsChain P before keys after → IsChain (moved P (first_or keys None) (with_previous previous)) previous keys after
+relink_previous : (P : LinkStates) (before previous : Option ℕ) (keys : List ℕ) (after : Option ℕ) → Apart keys → IsChain P before keys after → IsChain (moved P (first_or keys None) (with_previous previous)) previous keys after
 relink_previous P before previous [] after apart c = tt
 relink_previous P before previous (key ∷ rest) after apart c = (
   moved_same P key (with_previous previous) ∙ ap (place_map (with_previous previous)) c.0,
@@ -122,7 +122,7 @@ relink_previous P before previous (key ∷ rest) after apart c = (
 )
 
 -- a chain's entries are linked
-chained_linked : (P : Places) (before : Option ℕ) (keys : List ℕ) (after : Option ℕ) (key : ℕ) → IsChain P before keys after → has keys key ≡ true → is_linked (P key) ≡ true
+chained_linked : (P : LinkStates) (before : Option ℕ) (keys : List ℕ) (after : Option ℕ) (key : ℕ) → IsChain P before keys after → has keys key ≡ true → is_linked (P key) ≡ true
 chained_linked P before [] after key c h = absurd (cc)
 chained_linked P before (first ∷ rest) after key c h =
     elim (eqb_tells key first) [
@@ -130,7 +130,7 @@ chained_linked P before (first ∷ rest) after key c h =
       | inr differs ↦ chained_linked P (Some first) rest after key c.1 (sym (ap (λ b. b || has rest key) differs.0) ∙ h)
     ]
 
-chain_is : (P : Places) (before : Option ℕ) (keys : List ℕ) → IsChain P before keys None → chain P (length keys) (first_or keys None) ≡ keys
+chain_is : (P : LinkStates) (before : Option ℕ) (keys : List ℕ) → IsChain P before keys None → chain P (length keys) (first_or keys None) ≡ keys
 chain_is P before [] c = refl
 chain_is P before (key ∷ rest) c =
     ap (λ place. key ∷ chain P (length rest) (next_of place)) c.0 ∙ ap (λ keys. key ∷ keys) (chain_is P (Some key) rest c.1)
@@ -222,12 +222,12 @@ start_pushed [] key first h = refl
 start_pushed (x ∷ rest) key first h =
     let s = last_some rest x in ap (λ l. end_after l (Some key) first) s.1 ∙ h
 
-pub order_is : (P : Places) (keys : List ℕ) (first last : Option ℕ) (len capacity : ℕ) → IsOrder P keys first last len capacity → chain P len first ≡ keys
+pub order_is : (P : LinkStates) (keys : List ℕ) (first last : Option ℕ) (len capacity : ℕ) → IsOrder P keys first last len capacity → chain P len first ≡ keys
 order_is P keys first last len capacity o =
     ap (λ n. chain P n first) o.counted ∙ ap (λ at. chain P (length keys) at) o.starts ∙ chain_is P None keys o.chained
 
 -- the order has the keys whose entries are linked
-pub has_is : (P : Places) (keys : List ℕ) (first last : Option ℕ) (len capacity : ℕ) (key : ℕ) → IsOrder P keys first last len capacity → is_linked (P key) ≡ has keys key
+pub has_is : (P : LinkStates) (keys : List ℕ) (first last : Option ℕ) (len capacity : ℕ) (key : ℕ) → IsOrder P keys first last len capacity → is_linked (P key) ≡ has keys key
 has_is P keys first last len capacity key o = both (is_linked (P key)) (has keys key) (o.all key) (chained_linked P None keys None key o.chained)
   where
     both : (a b : Bool) → (a ≡ true → b ≡ true) → (b ≡ true → a ≡ true) → a ≡ b
@@ -236,7 +236,7 @@ has_is P keys first last len capacity key o = both (is_linked (P key)) (has keys
     both true b f g = sym (f refl)
 
 -- the same places have the same order
-pub IsOrder-same : (P Q : Places) (keys : List ℕ) (first last : Option ℕ) (len capacity larger : ℕ) → ((key : ℕ) → Q key ≡ P key) → capacity ≤ larger → IsOrder P keys first last len capacity → IsOrder Q keys first last len larger
+pub IsOrder-same : (P Q : LinkStates) (keys : List ℕ) (first last : Option ℕ) (len capacity larger : ℕ) → ((key : ℕ) → Q key ≡ P key) → capacity ≤ larger → IsOrder P keys first last len capacity → IsOrder Q keys first last len larger
 IsOrder-same P Q keys first last len capacity larger same grows o =
     record {
       starts = o.starts;
@@ -248,12 +248,12 @@ IsOrder-same P Q keys first last len capacity larger same grows o =
       in_range = λ key h. let below = o.in_range key h in omega arith;
     }
 
-unlinked_mid : (P P1 Q : Places) (a b : List ℕ) (key : ℕ) (first last : Option ℕ) (len capacity : ℕ) → IsOrder P (a ++ key ∷ b) first last len capacity → ((other : ℕ) → eqb other key ≡ false → P1 other ≡ P other) → is_linked (P1 key) ≡ false → ((other : ℕ) → Q other ≡ moved (moved P1 (last_or a None) (with_next (first_or b None))) (first_or b None) (with_previous (last_or a None)) other) → IsOrder Q (a ++ b) (end_after (last_or a None) (first_or b None) first) (end_after (first_or b None) (last_or a None) last) (len - 1) capacity
+unlinked_mid : (P P1 Q : LinkStates) (a b : List ℕ) (key : ℕ) (first last : Option ℕ) (len capacity : ℕ) → IsOrder P (a ++ key ∷ b) first last len capacity → ((other : ℕ) → eqb other key ≡ false → P1 other ≡ P other) → is_linked (P1 key) ≡ false → ((other : ℕ) → Q other ≡ moved (moved P1 (last_or a None) (with_next (first_or b None))) (first_or b None) (with_previous (last_or a None)) other) → IsOrder Q (a ++ b) (end_after (last_or a None) (first_or b None) first) (end_after (first_or b None) (last_or a None) last) (len - 1) capacity
 unlinked_mid P P1 Q a b key first last len capacity o same gone is =
     let next : Option ℕ = first_or b None in
     let previous : Option ℕ = last_or a None in
-    let P2 : Places = moved P1 previous (with_next next) in
-    let P3 : Places = moved P2 next (with_previous previous) in
+    let P2 : LinkStates = moved P1 previous (with_next next) in
+    let P3 : LinkStates = moved P2 next (with_previous previous) in
     let apart_a : Apart a = Apart-front a (key ∷ b) o.apart in
     let apart_b : Apart (key ∷ b) = Apart-back a (key ∷ b) o.apart in
     let a_lacks : has a key ≡ false = lacks_from (has a key) (λ h. not_both (has (key ∷ b) key) (has-first key b) (Apart-cross a (key ∷ b) key o.apart h)) in
@@ -286,13 +286,13 @@ unlinked_mid P P1 Q a b key first last len capacity o same gone is =
       in_range = λ other h. o.in_range other (has-append a (key ∷ b) other ∙ or_mid (has a other) (eqb other key) (has b other) (sym (has-append a b other) ∙ h));
     }
 
-previous_of : Option Place → Option ℕ
+previous_of : Option LinkState → Option ℕ
 previous_of None = None
 previous_of (Some Outside) = None
 previous_of (Some (Linked before after)) = before
 
 -- an entry is taken out of the order: the one before it and the one after it name each other
-pub unlinked : (P P1 Q : Places) (keys : List ℕ) (key : ℕ) (first last previous next : Option ℕ) (len capacity : ℕ) → IsOrder P keys first last len capacity → P key ≡ Some (Linked previous next) → ((other : ℕ) → eqb other key ≡ false → P1 other ≡ P other) → is_linked (P1 key) ≡ false → ((other : ℕ) → Q other ≡ moved (moved P1 previous (with_next next)) next (with_previous previous) other) → IsOrder Q (without keys key) (end_after previous next first) (end_after next previous last) (len - 1) capacity
+pub unlinked : (P P1 Q : LinkStates) (keys : List ℕ) (key : ℕ) (first last previous next : Option ℕ) (len capacity : ℕ) → IsOrder P keys first last len capacity → P key ≡ Some (Linked previous next) → ((other : ℕ) → eqb other key ≡ false → P1 other ≡ P other) → is_linked (P1 key) ≡ false → ((other : ℕ) → Q other ≡ moved (moved P1 previous (with_next next)) next (with_previous previous) other) → IsOrder Q (without keys key) (end_after previous next first) (end_after next previous last) (len - 1) capacity
 unfolding previous_of
 unlinked P P1 Q keys key first last previous next len capacity o stands same gone is =
     let s = split_at keys key (o.all key (ap is_linked stands)) in
@@ -308,15 +308,15 @@ unlinked P P1 Q keys key first last previous next len capacity o stands same gon
     let done = unlinked_mid P P1 Q a b key first last len capacity o' same gone (λ other. is other ∙ ap (λ x. moved (moved P1 x (with_next next)) next (with_previous x) other) before ∙ ap (λ y. moved (moved P1 (last_or a None) (with_next y)) y (with_previous (last_or a None)) other) after) in
     along Q (without keys key) (a ++ b) previous (last_or a None) next (first_or b None) first last (len - 1) capacity left before after done
   where
-    along : (Q : Places) (ks ks' : List ℕ) (p p' n n' first last : Option ℕ) (len capacity : ℕ) → ks ≡ ks' → p ≡ p' → n ≡ n' → IsOrder Q ks' (end_after p' n' first) (end_after n' p' last) len capacity → IsOrder Q ks (end_after p n first) (end_after n p last) len capacity
+    along : (Q : LinkStates) (ks ks' : List ℕ) (p p' n n' first last : Option ℕ) (len capacity : ℕ) → ks ≡ ks' → p ≡ p' → n ≡ n' → IsOrder Q ks' (end_after p' n' first) (end_after n' p' last) len capacity → IsOrder Q ks (end_after p n first) (end_after n p last) len capacity
     along Q ks ks' p p' n n' first last len capacity e₁ e₂ e₃ o = rw (e₁, e₂, e₃) o
 
 -- an entry is put behind the last
-pub pushed : (P P1 Q : Places) (keys : List ℕ) (key : ℕ) (first last : Option ℕ) (len capacity : ℕ) → IsOrder P keys first last len capacity → P key ≡ None → P1 key ≡ Some (Linked last None) → ((other : ℕ) → eqb other key ≡ false → P1 other ≡ P other) → key < capacity → ((other : ℕ) → Q other ≡ moved P1 last (with_next (Some key)) other) → IsOrder Q (keys ++ key ∷ []) (end_after last (Some key) first) (Some key) (len + 1) capacity
+pub pushed : (P P1 Q : LinkStates) (keys : List ℕ) (key : ℕ) (first last : Option ℕ) (len capacity : ℕ) → IsOrder P keys first last len capacity → P key ≡ None → P1 key ≡ Some (Linked last None) → ((other : ℕ) → eqb other key ≡ false → P1 other ≡ P other) → key < capacity → ((other : ℕ) → Q other ≡ moved P1 last (with_next (Some key)) other) → IsOrder Q (keys ++ key ∷ []) (end_after last (Some key) first) (Some key) (len + 1) capacity
 pushed P P1 Q keys key first last len capacity o vacant stands same within is =
     let lacks : has keys key ≡ false = lacks_from (has keys key) (λ h. not_both (is_linked (P key)) (chained_linked P None keys None key o.chained h) (ap is_linked vacant)) in
-    let f : Place → Place = with_next (Some key) in
-    let P2 : Places = moved P1 (last_or keys None) f in
+    let f : LinkState → LinkState = with_next (Some key) in
+    let P2 : LinkStates = moved P1 (last_or keys None) f in
     let is2 : (other : ℕ) → Q other ≡ P2 other = λ other. is other ∙ ap (λ x. moved P1 x f other) o.ends in
     let a1 : IsChain P1 None keys None = IsChain-same P P1 None keys None (λ other h. same other (other_key keys other key h lacks)) o.chained in
     let a2 : IsChain P2 None keys (Some key) = relink_next P1 None keys None (Some key) o.apart a1 in
@@ -346,7 +346,7 @@ pushed P P1 Q keys key first last len capacity o vacant stands same within is =
     only_left false b x h = cc
 
 -- an entry outside the order leaves, and the order stays
-pub stayed : (P P1 : Places) (keys : List ℕ) (key : ℕ) (first last : Option ℕ) (len capacity : ℕ) → IsOrder P keys first last len capacity → is_linked (P key) ≡ false → ((other : ℕ) → eqb other key ≡ false → P1 other ≡ P other) → is_linked (P1 key) ≡ false → IsOrder P1 (without keys key) first last len capacity
+pub stayed : (P P1 : LinkStates) (keys : List ℕ) (key : ℕ) (first last : Option ℕ) (len capacity : ℕ) → IsOrder P keys first last len capacity → is_linked (P key) ≡ false → ((other : ℕ) → eqb other key ≡ false → P1 other ≡ P other) → is_linked (P1 key) ≡ false → IsOrder P1 (without keys key) first last len capacity
 stayed P P1 keys key first last len capacity o was same gone =
     let lacks : has keys key ≡ false = sym (has_is P keys first last len capacity key o) ∙ was in
     subst (λ ks. IsOrder P1 ks first last len capacity) (sym (without_fresh keys key lacks))
@@ -369,8 +369,8 @@ some_length [] key h = absurd (cc)
 some_length (first ∷ rest) key h = omega arith
 
 -- where an entry is linked the order is not empty
-pub not_empty : (P : Places) (keys : List ℕ) (first last : Option ℕ) (len capacity : ℕ) (key : ℕ) → IsOrder P keys first last len capacity → is_linked (P key) ≡ true → 0 < len
+pub not_empty : (P : LinkStates) (keys : List ℕ) (first last : Option ℕ) (len capacity : ℕ) (key : ℕ) → IsOrder P keys first last len capacity → is_linked (P key) ≡ true → 0 < len
 not_empty P keys first last len capacity key o linked = rw o.counted (some_length keys key (o.all key linked))
 
-pub len_within : (P : Places) (keys : List ℕ) (first last : Option ℕ) (len capacity : ℕ) → IsOrder P keys first last len capacity → len ≤ capacity
+pub len_within : (P : LinkStates) (keys : List ℕ) (first last : Option ℕ) (len capacity : ℕ) → IsOrder P keys first last len capacity → len ≤ capacity
 len_within P keys first last len capacity o = rw o.counted (short keys capacity o.apart o.in_range)

@@ -2,7 +2,7 @@
 use Rattle.std.proofs.Common.{◌≡◌, false, List, [], ◌∷◌, ◌++◌, Result, subst, refl, rules}
 use Rattle.futures.specs.declared.task.Poll.{Poll}
 use Rattle.tower_base.specs.declared.service.Service.{Ghosts as ServiceOf}
-use Rattle.tower_base.specs.Drive.{State, Step, Run, opening}
+use Rattle.tower_base.specs.Drive.{State, Step, Run, initial}
 use Rattle.tower_base.specs.Driver.{state_of, Sound}
 use Rattle.tower_base.specs.declared.drive.Driver.{Driver}
 use Rattle.futures.specs.Task.{Keeps}
@@ -26,7 +26,7 @@ module _ {S Q A E F T U O : Type 0} (s : ServiceOf S Q A E F)
 pub record Going {S Q A E F T U O : Type 0} (s : ServiceOf S Q A E F)
     (stepped : F → Poll (Result A E) → F → Type 0) (turned : O → T → U → O → Type 0) (can_poll : F → Type 0) (callable : O → Type 0)
     (service : S) (outside : O) (first now : Context) (events : List (Event Q T)) (entries : List (Entry A E U)) (driver : Driver S F O) : Type 0 where
-  pub run : Run s stepped turned (opening service outside) events entries (state_of driver)
+  pub run : Run s stepped turned (initial service outside) events entries (state_of driver)
   pub sound : Sound s.sound s.ready can_poll callable driver
   pub kept : Keeps first now
 
@@ -47,7 +47,7 @@ module _ {S Q A E F T U O : Type 0} (s : ServiceOf S Q A E F)
       → Step s stepped turned (state_of driver) event entry (state_of left) → Sound s.sound s.ready can_poll callable left → Keeps now after
       → Going s stepped turned can_poll callable service outside first after (events ++ event ∷ []) (entries ++ entry ∷ []) left
   Going-step now after events entries driver left event entry going step sound kept = record {
-    run = Run-append s stepped turned (opening service outside) (state_of driver) (state_of left) events entries event entry going.run step;
+    run = Run-append s stepped turned (initial service outside) (state_of driver) (state_of left) events entries event entry going.run step;
     sound = sound;
     kept = λ fact h. kept fact (going.kept fact h);
   }

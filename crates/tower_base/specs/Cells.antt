@@ -2,15 +2,15 @@
 use Rattle.std.specs.Prelude.{ℕ, map, Option, Some, None}
 use Rattle.tower_base.specs.Order.{with_next, with_previous}
 use Rattle.slab.specs.Slab.{Slab, get, with_value}
-use Rattle.tower_base.specs.declared.links.cells.Place.{Place}
+use Rattle.tower_base.specs.declared.links.cells.LinkState.{LinkState}
 use Rattle.tower_base.specs.declared.links.cells.Entry.{Entry}
 
 module _ {T : Type 0} where
-  abbrev pub entry : T → Place → Entry T
+  abbrev pub entry : T → LinkState → Entry T
   entry value place = record { value = value; place = place }
 
   -- the place of the entry, if there is one
-  abbrev pub place_of : Option (Entry T) → Option Place
+  abbrev pub place_of : Option (Entry T) → Option LinkState
   place_of None = None
   place_of (Some e) = Some e.place
 
@@ -19,21 +19,21 @@ module _ {T : Type 0} where
   value_of None = None
   value_of (Some e) = Some e.value
 
-  abbrev pub place_at : Slab (Entry T) → ℕ → Option Place
+  abbrev pub place_at : Slab (Entry T) → ℕ → Option LinkState
   place_at s key = place_of (get s key)
 
   abbrev pub value_at : Slab (Entry T) → ℕ → Option T
   value_at s key = value_of (get s key)
 
   -- the slab in which the place of this entry, if there is one, is changed by f
-  abbrev pub with_place_if : Slab (Entry T) → ℕ → (Place → Place) → Option (Entry T) → Slab (Entry T)
+  abbrev pub with_place_if : Slab (Entry T) → ℕ → (LinkState → LinkState) → Option (Entry T) → Slab (Entry T)
   with_place_if s key f None = s
   with_place_if s key f (Some e) = with_value s key (entry e.value (f e.place))
 
-  abbrev pub with_place : Slab (Entry T) → ℕ → (Place → Place) → Slab (Entry T)
+  abbrev pub with_place : Slab (Entry T) → ℕ → (LinkState → LinkState) → Slab (Entry T)
   with_place s key f = with_place_if s key f (get s key)
 
-  abbrev pub with_place_at : Slab (Entry T) → Option ℕ → (Place → Place) → Slab (Entry T)
+  abbrev pub with_place_at : Slab (Entry T) → Option ℕ → (LinkState → LinkState) → Slab (Entry T)
   with_place_at s None f = s
   with_place_at s (Some key) f = with_place s key f
 

@@ -18,8 +18,8 @@ pub record State (S F O : Type 0) : Type 0 where
   pub outside : O
 
 -- the state before the first event
-abbrev pub opening : {S F O : Type 0} → S → O → State S F O
-opening service outside = record { service = service; futures = []; may_call = false; outside = outside }
+abbrev pub initial : {S F O : Type 0} → S → O → State S F O
+initial service outside = record { service = service; futures = []; may_call = false; outside = outside }
 
 -- whether the answer allows a call
 abbrev pub allows : {E : Type 0} → Poll (Result (Unit {0}) E) → Bool

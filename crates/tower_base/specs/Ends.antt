@@ -1,14 +1,14 @@
 -- The ends of the order, and how a call changes them and the entries.
 use Rattle.std.specs.Prelude.{ℕ, ◌+◌, ◌-◌, List, Option, Some, None}
 use Rattle.slab.specs.Slab.{Slab}
-use Rattle.tower_base.specs.declared.links.cells.Place.{Place}
-use Rattle.tower_base.specs.declared.links.cells.Place.TheVariants.{Linked, Outside}
+use Rattle.tower_base.specs.declared.links.cells.LinkState.{LinkState}
+use Rattle.tower_base.specs.declared.links.cells.LinkState.TheVariants.{Linked, Outside}
 use Rattle.tower_base.specs.declared.links.cells.Entry.{Entry}
 use Rattle.tower_base.specs.declared.links.Ends.{Ends}
 use Rattle.tower_base.specs.Cells.{place_at, with_place_at, bypassed}
 use Rattle.tower_base.specs.Order.{chain, IsOrder, end_after, with_next}
 
-abbrev pub left_ends : Option Place → Ends → Ends
+abbrev pub left_ends : Option LinkState → Ends → Ends
 left_ends None e = e
 left_ends (Some Outside) e = e
 left_ends (Some (Linked previous next)) e =
@@ -25,7 +25,7 @@ module _ {T : Type 0} where
   abbrev pub IsSound : Slab (Entry T) → Ends → Type 0
   IsSound s e = (keys : List ℕ) × IsOrder (place_at s) keys e.first e.last e.len s.capacity
 
-  abbrev pub left_slab : Slab (Entry T) → Option Place → Slab (Entry T)
+  abbrev pub left_slab : Slab (Entry T) → Option LinkState → Slab (Entry T)
   left_slab s None = s
   left_slab s (Some Outside) = s
   left_slab s (Some (Linked previous next)) = bypassed s previous next

@@ -8,13 +8,13 @@ pub mod Driver
 pub mod Ends
 pub mod Gives
 pub mod GivesLemmas
-pub mod LastPass
+pub mod LastIteration
 pub mod Links
 pub mod LinksLends
 pub mod Monotonic
 pub mod Order
-pub mod Passes
-pub mod PassesLemmas
+pub mod Iterations
+pub mod IterationsLemmas
 pub mod Projection
 pub mod ProjectionLemmas
 pub mod Rng

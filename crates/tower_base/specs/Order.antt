@@ -1,12 +1,12 @@
 -- What it means that the entries of a slab are linked in one order.
 use Rattle.std.specs.Prelude.{◌≡◌, ℕ, zero, suc, ◌<◌, Bool, true, false, eqb, not, if◌then◌else◌, List, [], ◌∷◌, length, Option, Some, None}
 use Rattle.std.specs.List.{list_any, filter}
-use Rattle.tower_base.specs.declared.links.cells.Place.{Place}
-use Rattle.tower_base.specs.declared.links.cells.Place.TheVariants.{Linked, Outside}
+use Rattle.tower_base.specs.declared.links.cells.LinkState.{LinkState}
+use Rattle.tower_base.specs.declared.links.cells.LinkState.TheVariants.{Linked, Outside}
 
 -- the place of each key's entry
-abbrev pub Places : Type 0
-Places = ℕ → Option Place
+abbrev pub LinkStates : Type 0
+LinkStates = ℕ → Option LinkState
 
 -- whether the list has this key
 abbrev pub has : List ℕ → ℕ → Bool
@@ -21,35 +21,35 @@ abbrev pub Apart : List ℕ → Type 0
 Apart [] = Unit {0}
 Apart (key ∷ rest) = (has rest key ≡ false) × Apart rest
 
-abbrev pub with_next : Option ℕ → Place → Place
+abbrev pub with_next : Option ℕ → LinkState → LinkState
 with_next next (Linked before after) = Linked before next
 with_next next Outside = Outside
 
-abbrev pub with_previous : Option ℕ → Place → Place
+abbrev pub with_previous : Option ℕ → LinkState → LinkState
 with_previous previous (Linked before after) = Linked previous after
 with_previous previous Outside = Outside
 
-abbrev pub place_map : (Place → Place) → Option Place → Option Place
+abbrev pub place_map : (LinkState → LinkState) → Option LinkState → Option LinkState
 place_map f None = None
 place_map f (Some place) = Some (f place)
 
 -- the places, with the one at this key changed by f if there is a key
-abbrev pub moved : Places → Option ℕ → (Place → Place) → Places
+abbrev pub moved : LinkStates → Option ℕ → (LinkState → LinkState) → LinkStates
 moved places None f key = places key
 moved places (Some at) f key = if eqb key at then place_map f (places key) else places key
 
-abbrev pub is_linked : Option Place → Bool
+abbrev pub is_linked : Option LinkState → Bool
 is_linked None = false
 is_linked (Some Outside) = false
 is_linked (Some (Linked before after)) = true
 
-abbrev pub next_of : Option Place → Option ℕ
+abbrev pub next_of : Option LinkState → Option ℕ
 next_of None = None
 next_of (Some Outside) = None
 next_of (Some (Linked before after)) = after
 
 -- the keys from this one on, at most the given number of them
-abbrev pub chain : Places → ℕ → Option ℕ → List ℕ
+abbrev pub chain : LinkStates → ℕ → Option ℕ → List ℕ
 chain places zero at = []
 chain places (suc count) None = []
 chain places (suc count) (Some key) = key ∷ chain places count (next_of (places key))
@@ -65,13 +65,13 @@ last_or [] before = before
 last_or (key ∷ rest) before = last_or rest (Some key)
 
 -- Each key's entry has the keys before and after it.
-abbrev pub IsChain : Places → Option ℕ → List ℕ → Option ℕ → Type 0
+abbrev pub IsChain : LinkStates → Option ℕ → List ℕ → Option ℕ → Type 0
 IsChain places before [] after = Unit {0}
 IsChain places before (key ∷ rest) after =
     (places key ≡ Some (Linked before (first_or rest after))) × IsChain places (Some key) rest after
 
 -- The keys are those of the linked entries, in their order.
-pub record IsOrder (places : Places) (keys : List ℕ) (first last : Option ℕ) (len capacity : ℕ) : Type 0 where
+pub record IsOrder (places : LinkStates) (keys : List ℕ) (first last : Option ℕ) (len capacity : ℕ) : Type 0 where
   pub starts : first ≡ first_or keys None
   pub ends : last ≡ last_or keys None
   pub counted : len ≡ length keys

@@ -1,7 +1,7 @@
 //! Whole runs of a service, driven by a list of events. The Rust has no such function.
 ghost use Rattle.std.specs.Prelude.{◌≡◌, [], ◌+◌, ◌<◌, true, false, All, IfOk, OnErr, Some, slice_get, slice_set, Result, IfSome, IfNone, IsOk};
 ghost use Rattle.futures.specs.Task.{Keeps};
-ghost use Rattle.tower_base.specs.Drive.{Step, Run, Calls, Polls, opening, allows, slot_after, IsLive, IsKept};
+ghost use Rattle.tower_base.specs.Drive.{Step, Run, Calls, Polls, initial, allows, slot_after, IsLive, IsKept};
 ghost use Rattle.tower_base.specs.Driver.{state_of, Sound, CanStep};
 ghost use Rattle.std.specs.Vec.{vec_len, vec_capacity};
 
@@ -93,7 +93,8 @@ where
     requires sound { S.sound service }
     requires outside { O.IsAlwaysCallable outside }
     ensures run { IfOk result (λ transcript. (last : _)
-        × Run S.Service S.Future.stepped O.step (opening service outside) events.items transcript.entries.items last) }
+        × Run S.Service S.Future.stepped O.step (initial service outside)
+        events.items transcript.entries.items last) }
     ensures kept { Keeps cx.old cx.new }
 {
     let (transcript, _left) = drive_with_state(alloc, cx, service, events, outside)?;
@@ -123,7 +124,8 @@ where
     O: FnMut(T) -> U + Drop,
     requires sound { S.sound service }
     requires outside { O.IsAlwaysCallable outside }
-    ensures run { IfOk result (λ done. Run S.Service S.Future.stepped O.step (opening service outside) events.items done.0.entries.items (state_of done.1)) }
+    ensures run { IfOk result (λ done. Run S.Service S.Future.stepped O.step
+        (initial service outside) events.items done.0.entries.items (state_of done.1)) }
     ensures kept { Keeps cx.old cx.new }
 {
     let mut driver: Driver<S, S::Future, O> = Driver::new(alloc, service, outside);
@@ -138,7 +140,8 @@ where
 
 impl<S, F, O> Driver<S, F, O> {
     fn new(alloc: Global, service: S, outside: O) -> Driver<S, F, O>
-        ensures { (result.service ≡ service) × (result.futures.items ≡ []) × (result.may_call ≡ false) × (result.outside ≡ outside) }
+        ensures { (result.service ≡ service) × (result.futures.items ≡ [])
+            × (result.may_call ≡ false) × (result.outside ≡ outside) }
     {
         Driver {
             service,
@@ -175,8 +178,10 @@ where
     S: Service<Request>,
     O: FnMut(T) -> U,
     requires { Sound S.sound S.ready S.Future.can_poll O.IsAlwaysCallable driver.old }
-    ensures step { IfOk result (λ entry. Step S.Service S.Future.stepped O.step (state_of driver.old) event entry (state_of driver.new)) }
-    ensures sound { IfOk result (λ _. Sound S.sound S.ready S.Future.can_poll O.IsAlwaysCallable driver.new) }
+    ensures step { IfOk result (λ entry. Step S.Service S.Future.stepped O.step
+        (state_of driver.old) event entry (state_of driver.new)) }
+    ensures sound { IfOk result
+        (λ _. Sound S.sound S.ready S.Future.can_poll O.IsAlwaysCallable driver.new) }
     ensures refused { OnErr result (state_of driver.new ≡ state_of driver.old) }
     ensures kept { Keeps cx.old cx.new }
 {
@@ -209,7 +214,8 @@ fn ask<Request, S: Service<Request>, F, O>(
     requires { S.sound driver.old.service }
     ensures sound { S.sound driver.new.service }
     ensures polled { S.polled driver.old.service result driver.new.service }
-    ensures rest { driver.new ≡ record driver.old { service = driver.new.service; may_call = allows result } }
+    ensures rest { driver.new
+        ≡ record driver.old { service = driver.new.service; may_call = allows result } }
     ensures ready { driver.new.may_call ≡ true → S.ready driver.new.service }
     ensures kept { Keeps cx.old cx.new }
 {
@@ -237,8 +243,10 @@ fn call<Request: Drop, S: Service<Request>, O>(
     requires sound { S.sound driver.old.service }
     requires ready { driver.old.may_call ≡ true → S.ready driver.old.service }
     requires live { All (CanStep S.Future.can_poll) driver.old.futures.items }
-    ensures called { IfOk result (λ made. IfSome made (λ index. Calls S.Service (state_of driver.old) request index (state_of driver.new))) }
-    ensures skipped { IfOk result (λ made. IfNone made ((driver.old.may_call ≡ false) × (driver.new ≡ driver.old))) }
+    ensures called { IfOk result (λ made. IfSome made
+        (λ index. Calls S.Service (state_of driver.old) request index (state_of driver.new))) }
+    ensures skipped { IfOk result
+        (λ made. IfNone made ((driver.old.may_call ≡ false) × (driver.new ≡ driver.old))) }
     ensures refused { OnErr result (state_of driver.new ≡ state_of driver.old) }
     ensures live { All (CanStep S.Future.can_poll) driver.new.futures.items }
     ensures sound { S.sound driver.new.service }
@@ -262,8 +270,10 @@ fn poll_at<F: Steps>(
     cx: &mut Context<'_>,
 ) -> Option<Poll<F::Output>>
     requires { All (CanStep F.can_poll) slots.old.items }
-    ensures polled { IfSome result (λ answer. Polls F.stepped slots.old.items index answer slots.new.items) }
-    ensures skipped { IfNone result (¬ IsLive (slice_get slots.old.items index) × (slots.new.items ≡ slots.old.items)) }
+    ensures polled { IfSome result
+        (λ answer. Polls F.stepped slots.old.items index answer slots.new.items) }
+    ensures skipped { IfNone result
+        (¬ IsLive (slice_get slots.old.items index) × (slots.new.items ≡ slots.old.items)) }
     ensures live { All (CanStep F.can_poll) slots.new.items }
     ensures kept { Keeps cx.old cx.new }
 {
@@ -273,8 +283,10 @@ fn poll_at<F: Steps>(
 
 // Drops the future at this index. Returns whether there was one.
 fn drop_at<F: Drop>(slots: &mut Vec<Slot<F>>, index: usize) -> bool
-    ensures dropped { result ≡ true → IsKept (slice_get slots.old.items index) × (slots.new.items ≡ slice_set slots.old.items index Slot.Dropped) }
-    ensures skipped { result ≡ false → ¬ IsKept (slice_get slots.old.items index) × (slots.new.items ≡ slots.old.items) }
+    ensures dropped { result ≡ true → IsKept (slice_get slots.old.items index)
+        × (slots.new.items ≡ slice_set slots.old.items index Slot.Dropped) }
+    ensures skipped { result ≡ false
+        → ¬ IsKept (slice_get slots.old.items index) × (slots.new.items ≡ slots.old.items) }
 {
     let Some(slot) = slots.get_mut(index) else {
         return false;
@@ -289,7 +301,8 @@ fn drop_at<F: Drop>(slots: &mut Vec<Slot<F>>, index: usize) -> bool
 // Polls the future, if it is live.
 fn poll_slot<F: Steps>(slot: &mut Slot<F>, cx: &mut Context<'_>) -> Option<Poll<F::Output>>
     requires { CanStep F.can_poll slot.old }
-    ensures polled { IfSome result (λ answer. (f : _) × (g : _) × (slot.old ≡ Slot.Live f) × F.stepped f answer g × (slot.new ≡ slot_after g answer)) }
+    ensures polled { IfSome result (λ answer. (f : _) × (g : _) × (slot.old ≡ Slot.Live f)
+        × F.stepped f answer g × (slot.new ≡ slot_after g answer)) }
     ensures skipped { IfNone result (¬ IsLive (Some slot.old) × (slot.new ≡ slot.old)) }
     ensures sound { CanStep F.can_poll slot.new }
     ensures kept { Keeps cx.old cx.new }

@@ -7,7 +7,7 @@ ghost use Rattle.tower_base.specs.Ends.{left_slab, left_ends, pushed_slab, pushe
 
 mod cells;
 
-use cells::{Cells, Entry, Place};
+use cells::{Cells, Entry, LinkState};
 use std::alloc::{AllocError, Global};
 use std::marker::Model;
 
@@ -63,15 +63,16 @@ fn arrive<T>(cells: &mut Cells<T>, ends: &mut Ends, key: usize)
 
 // Closes the gap that an entry at `place` left: the entries on both sides link to each other. Returns
 // whether `place` was in the order.
-fn leave<T>(cells: &mut Cells<T>, ends: &mut Ends, place: Option<Place>) -> bool
+fn leave<T>(cells: &mut Cells<T>, ends: &mut Ends, place: Option<LinkState>) -> bool
     requires { is_linked place ≡ true → 0 < ends.old.len }
     ensures linked { result ≡ is_linked place }
     ensures slab { cells.new.slab ≡ left_slab cells.old.slab place }
     ensures ends { ends.new ≡ left_ends place ends.old }
     ensures touches { cells.new.touches.count ≤ cells.old.touches.count + 2 }
-    ensures first { (next : Option ℕ) → place ≡ Some (Place.Linked None next) → cells.new.touches.count ≤ cells.old.touches.count + 1 }
+    ensures first { (next : Option ℕ) → place ≡ Some (LinkState.Linked None next)
+        → cells.new.touches.count ≤ cells.old.touches.count + 1 }
 {
-    let Some(Place::Linked(previous, next)) = place else {
+    let Some(LinkState::Linked(previous, next)) = place else {
         return false;
     };
     match previous {
@@ -110,11 +111,14 @@ impl<T> Links<T> {
 
     /// Makes room for `additional` more values. Returns an error if allocation fails.
     pub fn reserve(&mut self, additional: usize) -> Result<(), AllocError>
+        // It fails only if there was no room.
         ensures room { OnOk result (HasRoomFor self.new.entries additional) }
         ensures succeeds { HasRoomFor self.old.entries additional → IsOk result }
+        // Nothing but the capacity changes, and that never falls.
         ensures order { self.new.order ≡ self.old.order }
         ensures capacity { self.old.entries.capacity ≤ self.new.entries.capacity }
-        ensures rest_kept { self.new.entries ≡ record self.old.entries { capacity = self.new.entries.capacity } }
+        ensures rest_kept { self.new.entries
+            ≡ record self.old.entries { capacity = self.new.entries.capacity } }
         ensures touches { self.new.touches ≡ self.old.touches }
     {
         self.cells.reserve(additional)
@@ -143,7 +147,7 @@ impl<T> Links<T> {
         let _capacity = self.cells.capacity();
         let key = self
             .cells
-            .insert(value, Place::Linked(self.ends.last, None));
+            .insert(value, LinkState::Linked(self.ends.last, None));
         arrive(&mut self.cells, &mut self.ends, key);
         key
     }
@@ -216,9 +220,10 @@ impl<T> Links<T> {
         ensures order { self.new.order ≡ without self.old.order key }
         ensures entries { self.new.entries ≡ self.old.entries }
         ensures touches { self.new.touches ≤ self.old.touches + 3 }
-        ensures first { first_or self.old.order None ≡ Some key → self.new.touches ≤ self.old.touches + 2 }
+        ensures first { first_or self.old.order None ≡ Some key
+            → self.new.touches ≤ self.old.touches + 2 }
     {
-        let place = self.cells.put(key, Place::Outside);
+        let place = self.cells.put(key, LinkState::Outside);
         leave(&mut self.cells, &mut self.ends, place)
     }
 
@@ -231,7 +236,8 @@ impl<T> Links<T> {
         ensures absent { IfNone result (self.new.entries ≡ self.old.entries) }
         ensures capacity { self.new.entries.capacity ≡ self.old.entries.capacity }
         ensures touches { self.new.touches ≤ self.old.touches + 3 }
-        ensures first { first_or self.old.order None ≡ Some key → self.new.touches ≤ self.old.touches + 2 }
+        ensures first { first_or self.old.order None ≡ Some key
+            → self.new.touches ≤ self.old.touches + 2 }
     {
         let (place, value) = parts(self.cells.remove(key));
         leave(&mut self.cells, &mut self.ends, place);
@@ -239,13 +245,13 @@ impl<T> Links<T> {
     }
 }
 
-fn stands_linked(place: Option<Place>) -> bool
+fn stands_linked(place: Option<LinkState>) -> bool
     ensures { result ≡ is_linked place }
 {
-    matches!(place, Some(Place::Linked(_, _)))
+    matches!(place, Some(LinkState::Linked(_, _)))
 }
 
-fn parts<T>(entry: Option<Entry<T>>) -> (Option<Place>, Option<T>)
+fn parts<T>(entry: Option<Entry<T>>) -> (Option<LinkState>, Option<T>)
     ensures place { result.0 ≡ place_of entry }
     ensures value { result.1 ≡ value_of entry }
 {

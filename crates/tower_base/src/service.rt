@@ -43,6 +43,8 @@ pub trait Steps: Drop {
     fn step(&mut self, cx: &mut Context<'_>) -> Poll<Self::Output>
         requires { can_poll self.old }
         ensures step { stepped self.old result self.new }
+        // A pending future may be polled again. Its task is registered at each source that it waits for, or
+        // asked for another poll.
         ensures again { OnPending result (can_poll self.new) }
         ensures registered { OnPending result (Covers cx.new (needs self.new)) }
         ensures kept { Keeps cx.old cx.new };
@@ -98,6 +100,8 @@ pub trait Service<Request>: Drop {
         requires { sound self.old }
         ensures polled { polled self.old result self.new }
         ensures sound { sound self.new }
+        // If it is pending, the task is registered at each source that it waits for, or asked for another
+        // poll.
         ensures armed { OnPending result (IsArmed cx.new) }
         ensures heard { OnPending result ((s : ℕ) → needs self.new s → Hears cx.new s) }
         ensures kept { Keeps cx.old cx.new };

@@ -35,7 +35,7 @@ impl<B> Paying<B> {
 impl<B: Budget> Policy<u64, u64, u64> for Paying<B> {
     type Future = Ready<()>;
 
-    ghost asked = { λ _ _ _ _ _ _ _. ⊤ };
+    ghost decided = { λ _ _ _ _ _ _ _. ⊤ };
 
     ghost cloned = { λ _ _ _ _. ⊤ };
 

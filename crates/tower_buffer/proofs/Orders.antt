@@ -1,12 +1,12 @@
--- Each pass of a worker keeps to the order, and so do all of them.
+-- Each iteration of a worker keeps to the order, and so do all of them.
 use Rattle.std.specs.Prelude.{◌≡◌, ◌⊎◌, ℕ, Bool, true, false, Option, None, Some, Result, Ok, Err}
 use Rattle.std.proofs.Common.{refl, subst, sym, inl, inr}
 use Rattle.futures.specs.declared.task.Poll.{Poll}
 use Rattle.futures.specs.declared.task.Poll.TheVariants.{Ready, Pending}
-use Rattle.tower_base.specs.PassesLemmas.{passes_map}
+use Rattle.tower_base.specs.IterationsLemmas.{iterations_map}
 use Rattle.tower_base.specs.declared.service.Service.{Ghosts as ServiceOf}
-use Rattle.tower_buffer.specs.Worker.{WorkerView, Pass, PassAt, HandsOn, AfterTake, AfterMessage, AfterLive, AfterPoll, Stepped}
-use Rattle.tower_buffer.specs.WorkerOrder.{Book, Debt, Orderly, OrderlyPass, Works, book_of, debt_of}
+use Rattle.tower_buffer.specs.Worker.{WorkerView, Iteration, IterationAt, HandsOn, AfterTake, AfterMessage, AfterLive, AfterPoll, Stepped}
+use Rattle.tower_buffer.specs.WorkerOrder.{Book, Debt, Orderly, OrderlyIteration, WorkerSteps, book_of, debt_of}
 use Rattle.tower_buffer.specs.declared.buffer.mail.MailStep.{MailStep}
 use Rattle.tower_buffer.specs.declared.buffer.mail.MailStep.TheVariants.{Take, Live, Answer, Fail, FailStored}
 use Rattle.tower_buffer.specs.declared.buffer.mail.MailReply.{MailReply}
@@ -15,10 +15,10 @@ use Rattle.tower_buffer.specs.declared.buffer.mail.MailReply.TheVariants.{Messag
 module _ {L S Q A E F : Type 0} (gave : L → MailStep Q F E → MailReply Q F E → Type 0) (s : ServiceOf S Q A E F) where
   -- one step in that order, or two, lead to this worker
   abbrev Reach : L → Book → WorkerView L S Q → Type 0
-  Reach latch start new = (new.latch ≡ latch) × ((n : ℕ) × Works gave latch n start (book_of new) × ((n ≡ 1) ⊎ (n ≡ 2)))
+  Reach latch start new = (new.latch ≡ latch) × ((n : ℕ) × WorkerSteps gave latch n start (book_of new) × ((n ≡ 1) ⊎ (n ≡ 2)))
 
   asked : (latch : L) (service : S) (failed : Bool) (id : ℕ) (request : Q) (answer : Option (Poll (Unit {0}))) (new : WorkerView L S Q) (start : Book)
-      → Works gave latch 1 start (record { failed = failed; debt = Debt.outcome id }) → (inner : Poll (Result (Unit {0}) E))
+      → WorkerSteps gave latch 1 start (record { failed = failed; debt = Debt.outcome id }) → (inner : Poll (Result (Unit {0}) E))
       → AfterPoll gave s (record { latch = latch; service = service; message = None; has_failed = failed }) id request inner answer new → Reach latch start new
   asked latch service failed id request answer new start w Pending p = subst (Reach latch start) (sym p.1) (refl, (1, w, inl refl))
   asked latch service failed id request answer new start w (Ready (Err e)) p =
@@ -73,17 +73,17 @@ module _ {L S Q A E F : Type 0} (gave : L → MailStep Q F E → MailReply Q F E
   lived latch service failed id request answer new _ g p = absurd p
 
   passed : (latch : L) (service : S) (failed : Bool) (message : Option (ℕ × Q)) (answer : Option (Poll (Unit {0}))) (new : WorkerView L S Q)
-      → PassAt gave s message (record { latch = latch; service = service; message = message; has_failed = failed }) answer new
+      → IterationAt gave s message (record { latch = latch; service = service; message = message; has_failed = failed }) answer new
       → Reach latch (record { failed = failed; debt = debt_of message }) new
   passed latch service failed None answer new p = taken latch service failed answer new p.0 p.1 p.2
   passed latch service failed (Some message) answer new p = lived latch service failed message.0 message.1 answer new p.0 p.1 p.2
 
   pass_orderly : (old : WorkerView L S Q) (answer : Option (Poll (Unit {0}))) (new : WorkerView L S Q)
-      → Pass gave s old answer new → OrderlyPass gave old answer new
+      → Iteration gave s old answer new → OrderlyIteration gave old answer new
   pass_orderly old answer new p =
       let r = passed old.latch old.service old.has_failed old.message answer new p in
       record { same = r.0; steps = r.1.0; some = r.1.2; works = r.1.1 }
 
   -- all polls of a worker keep to it
   pub poll_orderly : (old : WorkerView L S Q) (answer : Poll (Unit {0})) (new : WorkerView L S Q) → Stepped gave s old answer new → Orderly gave old answer new
-  poll_orderly old answer new p = passes_map (Pass gave s) (OrderlyPass gave) pass_orderly Pending old answer new p
+  poll_orderly old answer new p = iterations_map (Iteration gave s) (OrderlyIteration gave) pass_orderly Pending old answer new p

@@ -3,7 +3,7 @@ use Rattle.std.proofs.Common.{◌≡◌, inl, inr, ℕ, zero, suc, true, false, 
 use Rattle.std.proofs.lemmas.List.{append_assoc, append-nil}
 use Rattle.tower_latch.specs.Latch.{Serves}
 use Rattle.tower_latch.specs.HistoryLemmas.{plain_run, serves_first}
-use Rattle.tower_buffer.specs.Mail.{At, Clears, Entry, SentMessage, Mail, MailSteps, OldestAt, Settles, abandoned, blank, left_by}
+use Rattle.tower_buffer.specs.Mail.{At, Clears, Entry, SentMessage, Mail, MailSteps, OldestAt, Settles, abandoned, initial, left_by}
 use Rattle.tower_buffer.specs.MailHistory.{TakenAsSent, Within, sent, sent_by, taken, taken_by}
 use Rattle.tower_buffer.specs.Mailbox.{Opens, StandsFor}
 use Rattle.tower_buffer.specs.declared.buffer.message.Fate.{Fate}
@@ -221,6 +221,6 @@ module _ {Q F E : Type 0} where
 
   pub taken_as_sent : TakenAsSent Q F E
   taken_as_sent bound box opening history held is legal n =
-      let whole = plain_run Opens StandsFor MailSteps box (blank bound) opening history held is legal in
-      let first = serves_first MailSteps (blank bound) whole.0 history n whole.1 in
-      served (blank bound) first.0 (take n history) first.1
+      let whole = plain_run Opens StandsFor MailSteps box (initial bound) opening history held is legal in
+      let first = serves_first MailSteps (initial bound) whole.0 history n whole.1 in
+      served (initial bound) first.0 (take n history) first.1

@@ -5,23 +5,23 @@ use Rattle.futures.specs.declared.task.Poll.{Poll}
 use Rattle.futures.specs.declared.task.Poll.TheVariants.{Ready, Pending}
 use Rattle.tower_buffer.specs.declared.buffer.error.Error.{Error}
 use Rattle.tower_buffer.specs.declared.buffer.error.Error.TheVariants.{Inner, Service as HasFailed, Closed as IsClosed, Memory as NoMemory}
-use Rattle.tower_buffer.specs.declared.buffer.seat.Seat.{Seat}
-use Rattle.tower_buffer.specs.declared.buffer.seat.Seat.TheVariants.{Away, Asking, Reserved}
-use Rattle.tower_buffer.specs.declared.buffer.seat.ResponseState.{ResponseState}
-use Rattle.tower_buffer.specs.declared.buffer.seat.ResponseState.TheVariants.{Told, Sent as IsSent, Polls}
+use Rattle.tower_buffer.specs.declared.buffer.reservation.Reservation.{Reservation}
+use Rattle.tower_buffer.specs.declared.buffer.reservation.Reservation.TheVariants.{Away, Asking, Reserved}
+use Rattle.tower_buffer.specs.declared.buffer.reservation.ResponseState.{ResponseState}
+use Rattle.tower_buffer.specs.declared.buffer.reservation.ResponseState.TheVariants.{Told, Sent as IsSent, Polls}
 use Rattle.tower_buffer.specs.declared.buffer.mail.MailStep.{MailStep}
 use Rattle.tower_buffer.specs.declared.buffer.mail.MailStep.TheVariants.{Join, Reserve, Look, Cancel, Unreserve, Send, Outcome, Forget}
 use Rattle.tower_buffer.specs.declared.buffer.mail.MailReply.{MailReply}
 use Rattle.tower_buffer.specs.declared.buffer.mail.MailReply.TheVariants.{Done, Place, Waiting, Memory, Failed, Closed, Sent, Future, Lost, Unknown}
 
--- a `Buffer`: its share of the mail, its seat there, and the share that it keeps for a response
+-- a `Buffer`: its share of the mail, its reservation there, and the share that it keeps for a response
 pub record BufferView (L : Type 0) : Type 0 where
   pub latch : L
-  pub seat : Seat
+  pub reservation : Reservation
   pub share : Option L
 
 -- the step that requests a place
-abbrev pub step_of : {Q F E : Type 0} → Seat → MailStep Q F E
+abbrev pub step_of : {Q F E : Type 0} → Reservation → MailStep Q F E
 step_of (Asking key) = Look key
 step_of _ = Reserve
 
@@ -30,8 +30,8 @@ abbrev pub failed : {E : Type 0} → E → Error E
 failed e = HasFailed (record { error = e })
 
 module _ {L Q F E : Type 0} (gave : L → MailStep Q F E → MailReply Q F E → Type 0) (shares : L → Result L AllocError → Type 0) where
-  -- what a poll of readiness returns after the reply, and the seat that it leaves
-  abbrev pub Replies : Seat → MailReply Q F E → Poll (Result (Unit {0}) (Error E)) → Seat → Type 0
+  -- what a poll of readiness returns after the reply, and the reservation that it leaves
+  abbrev pub Replies : Reservation → MailReply Q F E → Poll (Result (Unit {0}) (Error E)) → Reservation → Type 0
   Replies old Place answer new = (answer ≡ Ready (Ok tt)) × (new ≡ Reserved)
   Replies old (Waiting key) answer new = (answer ≡ Pending) × (new ≡ Asking key)
   Replies old Memory answer new = (answer ≡ Ready (Err NoMemory)) × (new ≡ old)
@@ -49,31 +49,31 @@ module _ {L Q F E : Type 0} (gave : L → MailStep Q F E → MailReply Q F E →
     pub share : L
     pub has : (old.share ≡ Some share) ⊎ ((old.share ≡ None) × shares old.latch (Ok share))
     pub reply : MailReply Q F E
-    pub gave_reply : gave old.latch (step_of old.seat) reply
-    pub replies : Replies old.seat reply answer new.seat
+    pub gave_reply : gave old.latch (step_of old.reservation) reply
+    pub replies : Replies old.reservation reply answer new.reservation
     pub kept : new.share ≡ Some share
     pub same : new.latch ≡ old.latch
 
-  abbrev pub PolledAt : Seat → BufferView L → Poll (Result (Unit {0}) (Error E)) → BufferView L → Type 0
+  abbrev pub PolledAt : Reservation → BufferView L → Poll (Result (Unit {0}) (Error E)) → BufferView L → Type 0
   PolledAt Reserved old answer new = (answer ≡ Ready (Ok tt)) × (new ≡ old)
   PolledAt _ old answer new = Refused old answer new ⊎ Asked old answer new
 
   -- a poll of readiness: if a place is reserved, it returns `Ok` without a step
   abbrev pub Polled : BufferView L → Poll (Result (Unit {0}) (Error E)) → BufferView L → Type 0
-  Polled old answer new = PolledAt old.seat old answer new
+  Polled old answer new = PolledAt old.reservation old answer new
 
   -- what a call returns after the reply: a message that was sent takes the share along
   abbrev pub Sends : BufferView L → L → MailReply Q F E → ResponseState L F (Error E) → BufferView L → Type 0
-  Sends old share (Sent id) future new = (future ≡ IsSent share id) × (new ≡ record { latch = old.latch; seat = Away; share = None })
-  Sends old share (Failed e) future new = (future ≡ Told (Some (failed e))) × (new ≡ record old { seat = Away })
-  Sends old share Closed future new = (future ≡ Told (Some IsClosed)) × (new ≡ record old { seat = Away })
-  Sends old share Unknown future new = (future ≡ Told (Some IsClosed)) × (new ≡ record old { seat = Away })
+  Sends old share (Sent id) future new = (future ≡ IsSent share id) × (new ≡ record { latch = old.latch; reservation = Away; share = None })
+  Sends old share (Failed e) future new = (future ≡ Told (Some (failed e))) × (new ≡ record old { reservation = Away })
+  Sends old share Closed future new = (future ≡ Told (Some IsClosed)) × (new ≡ record old { reservation = Away })
+  Sends old share Unknown future new = (future ≡ Told (Some IsClosed)) × (new ≡ record old { reservation = Away })
   Sends old share Memory future new = (future ≡ Told (Some NoMemory)) × (new ≡ old)
   Sends old share _ future new = ⊥
 
   -- a call: one step, which sends into the reserved place
   pub record Called (old : BufferView L) (request : Q) (future : ResponseState L F (Error E)) (new : BufferView L) : Type 0 where
-    pub reserved : old.seat ≡ Reserved
+    pub reserved : old.reservation ≡ Reserved
     pub share : L
     pub has : old.share ≡ Some share
     pub reply : MailReply Q F E
@@ -122,7 +122,7 @@ Needs source needs (Polls future) = needs future
 Needs source needs (Told error) = λ source. ⊥
 
 -- A `Buffer` that is dropped cancels its wait or gives its place back, by one step.
-abbrev pub GivesUp : {L Q F E : Type 0} → (L → MailStep Q F E → MailReply Q F E → Type 0) → L → Seat → Type 0
+abbrev pub GivesUp : {L Q F E : Type 0} → (L → MailStep Q F E → MailReply Q F E → Type 0) → L → Reservation → Type 0
 GivesUp gave latch Away = Unit {0}
 GivesUp {Q = Q} {F = F} {E = E} gave latch (Asking key) = (reply : MailReply Q F E) × gave latch (Cancel key) reply
 GivesUp {Q = Q} {F = F} {E = E} gave latch Reserved = (reply : MailReply Q F E) × gave latch Unreserve reply
@@ -137,7 +137,7 @@ pub record IsClone {L Q F E : Type 0} (gave : L → MailStep Q F E → MailReply
   pub shared : shares old.latch (Ok copy.latch)
   pub latch : (step : MailStep Q F E) (reply : MailReply Q F E) → gave copy.latch step reply → gave old.latch step reply
   pub joined : gave old.latch Join Done
-  pub away : copy ≡ record { latch = copy.latch; seat = Away; share = None }
+  pub away : copy ≡ record { latch = copy.latch; reservation = Away; share = None }
 
 -- a clone that fails: the latch refuses the share; or the mail, which is unchanged, can't count another `Buffer`
 abbrev pub CloneRefused : {L Q F E : Type 0} → (L → MailStep Q F E → MailReply Q F E → Type 0) → (L → Result L AllocError → Type 0) → BufferView L → AllocError → Type 0

@@ -33,8 +33,8 @@ pub record Mail (Q F E : Type 0) : Type 0 where
   pub has_worker : Bool
 
 -- mail of one `Buffer` and its worker, before any step
-abbrev pub blank : {Q F E : Type 0} → ℕ → Mail Q F E
-blank bound = record { bound = bound; messages = []; line = []; reserved = 0; stored = None; is_closed = false; buffers = 1; has_worker = true }
+abbrev pub initial : {Q F E : Type 0} → ℕ → Mail Q F E
+initial bound = record { bound = bound; messages = []; line = []; reserved = 0; stored = None; is_closed = false; buffers = 1; has_worker = true }
 
 -- the line once nobody waits
 abbrev pub holding : List Ticket → List Ticket

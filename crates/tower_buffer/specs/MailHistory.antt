@@ -2,7 +2,7 @@
 use Rattle.std.specs.Prelude.{◌≡◌, ◌⊎◌, ℕ, List, [], ◌∷◌, ◌++◌, take, Option, Some}
 use Rattle.tower_latch.specs.Latch.{StepsAs}
 use Rattle.tower_latch.specs.History.{IsLegal}
-use Rattle.tower_buffer.specs.Mail.{MailSteps, blank}
+use Rattle.tower_buffer.specs.Mail.{MailSteps, initial}
 use Rattle.tower_buffer.specs.Mailbox.{Opens, StandsFor}
 use Rattle.tower_buffer.specs.declared.buffer.mail.MailStep.{MailStep}
 use Rattle.tower_buffer.specs.declared.buffer.mail.MailStep.TheVariants.{Send, Take}
@@ -34,9 +34,9 @@ module _ {Q F E : Type 0} where
   taken [] = []
   taken (step ∷ steps) = taken_by step.0 step.1 ++ taken steps
 
--- If the log opened with blank mail, the messages that were taken are some of those that were sent, in the order of sending and each at most once,
+-- If the log opened with initial mail, the messages that were taken are some of those that were sent, in the order of sending and each at most once,
 -- in each prefix of the history.
 abbrev pub TakenAsSent : (Q F E : Type 0) → Type 0
 TakenAsSent Q F E =
-    (bound : ℕ) (box : Mailbox Q F E) (opening : Option (Mailbox Q F E)) (history : List (MailStep Q F E × MailReply Q F E)) → StandsFor box (blank bound)
+    (bound : ℕ) (box : Mailbox Q F E) (opening : Option (Mailbox Q F E)) (history : List (MailStep Q F E × MailReply Q F E)) → StandsFor box (initial bound)
     → opening ≡ Some box → IsLegal Opens (StepsAs StandsFor MailSteps) opening history → (n : ℕ) → Within (taken (take n history)) (sent (take n history))

@@ -3,7 +3,7 @@ use Rattle.std.specs.Prelude.{◌≡◌, ◌<◌, ◌≤◌, ◌+◌, ◌*◌, �
 use Rattle.tower_limit.specs.Line.{Ticket}
 use Rattle.tower_limit.specs.LineCore.{StandsAt}
 use Rattle.tower_latch.specs.WaitQueue.{room, size, touches as queue_touches}
-use Rattle.tower_buffer.specs.Mail.{Entry, Mail, MailSteps, blank}
+use Rattle.tower_buffer.specs.Mail.{Entry, Mail, MailSteps, initial}
 use Rattle.tower_buffer.specs.MessageSteps.{Holds, capacity, len, queued, touches as messages_touches}
 use Rattle.tower_buffer.specs.declared.buffer.mail.MailStep.{MailStep}
 use Rattle.tower_buffer.specs.declared.buffer.mail.MailStep.TheVariants.{Take, WorkerGone}
@@ -47,9 +47,9 @@ module _ {Q F E : Type 0} where
   abbrev pub StandsFor : Mailbox Q F E → Mail Q F E → Type 0
   StandsFor box mail = Holds box.messages.links mail.messages × HasLine box mail.line × (mail ≡ plain_of box mail.messages mail.line)
 
-  -- a new box: it stands for blank mail
+  -- a new box: it stands for initial mail
   abbrev pub Opens : Mailbox Q F E → Type 0
-  Opens box = (bound : ℕ) × (0 < bound) × StandsFor box (blank bound)
+  Opens box = (bound : ℕ) × (0 < bound) × StandsFor box (initial bound)
 
   -- Each mail that the old box stands for is changed in this way, to one that the new box stands for.
   abbrev pub Changes : (Mail Q F E → Mail Q F E → Type 0) → Mailbox Q F E → Mailbox Q F E → Type 0

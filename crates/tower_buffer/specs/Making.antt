@@ -5,20 +5,20 @@ use Rattle.tower_buffer.specs.Buffer.{BufferView}
 use Rattle.tower_buffer.specs.Worker.{WorkerView}
 use Rattle.tower_buffer.specs.declared.buffer.error.Error.{Error}
 use Rattle.tower_buffer.specs.declared.buffer.error.Error.TheVariants.{Memory as NoMemory, NotSpawned}
-use Rattle.tower_buffer.specs.declared.buffer.seat.Seat.TheVariants.{Away}
+use Rattle.tower_buffer.specs.declared.buffer.reservation.Reservation.TheVariants.{Away}
 
 -- A `Buffer` that has no place and waits for none. It keeps no share of the latch for a response either.
-abbrev pub away : {L : Type 0} → L → BufferView L
-away latch = record { latch = latch; seat = Away; share = None }
+abbrev pub initial_buffer : {L : Type 0} → L → BufferView L
+initial_buffer latch = record { latch = latch; reservation = Away; share = None }
 
 -- a worker that has taken no message
-abbrev pub idle : {L S Q : Type 0} → L → S → WorkerView L S Q
-idle latch service = record { latch = latch; service = service; message = None; has_failed = false }
+abbrev pub initial_worker : {L S Q : Type 0} → L → S → WorkerView L S Q
+initial_worker latch service = record { latch = latch; service = service; message = None; has_failed = false }
 
 -- a `Buffer` and a worker of the service, whose latch is a share of the `Buffer`'s
 pub record Paired {L S Q : Type 0} (shares : L → Result L AllocError → Type 0) (service : S) (buffer : BufferView L) (worker : WorkerView L S Q) : Type 0 where
-  pub seat : buffer ≡ away buffer.latch
-  pub work : worker ≡ idle worker.latch service
+  pub reservation : buffer ≡ initial_buffer buffer.latch
+  pub work : worker ≡ initial_worker worker.latch service
   pub shared : shares buffer.latch (Ok worker.latch)
 
 -- such a pair over this latch

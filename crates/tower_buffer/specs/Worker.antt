@@ -4,7 +4,7 @@
 use Rattle.std.specs.Prelude.{◌≡◌, ℕ, Bool, true, false, Option, None, Some, Result, Ok, Err}
 use Rattle.futures.specs.declared.task.Poll.{Poll}
 use Rattle.futures.specs.declared.task.Poll.TheVariants.{Ready, Pending}
-use Rattle.tower_base.specs.Passes.{Passes}
+use Rattle.tower_base.specs.Iterations.{Iterations}
 use Rattle.tower_base.specs.declared.service.Service.{Ghosts as ServiceOf}
 use Rattle.tower_buffer.specs.declared.buffer.mail.MailStep.{MailStep}
 use Rattle.tower_buffer.specs.declared.buffer.mail.MailStep.TheVariants.{Take, Live, Answer, Fail, FailStored}
@@ -67,16 +67,16 @@ module _ {L S Q A E F : Type 0} (gave : L → MailStep Q F E → MailReply Q F E
   AfterLive old id request Unknown answer new = (answer ≡ None) × (new ≡ old)
   AfterLive old id request _ answer new = ⊥
 
-  -- one pass, by whether a message is kept
-  abbrev pub PassAt : Option (ℕ × Q) → WorkerView L S Q → Option (Poll (Unit {0})) → WorkerView L S Q → Type 0
-  PassAt None old answer new = (reply : MailReply Q F E) × gave old.latch Take reply × AfterTake old reply answer new
-  PassAt (Some message) old answer new = (reply : MailReply Q F E) × gave old.latch (Live message.0) reply
+  -- one iteration, by whether a message is kept
+  abbrev pub IterationAt : Option (ℕ × Q) → WorkerView L S Q → Option (Poll (Unit {0})) → WorkerView L S Q → Type 0
+  IterationAt None old answer new = (reply : MailReply Q F E) × gave old.latch Take reply × AfterTake old reply answer new
+  IterationAt (Some message) old answer new = (reply : MailReply Q F E) × gave old.latch (Live message.0) reply
       × AfterLive (record old { message = None }) message.0 message.1 reply answer new
 
-  -- one pass: the kept message is served if somebody still waits for it; if none is kept, the next one is taken
-  abbrev pub Pass : WorkerView L S Q → Option (Poll (Unit {0})) → WorkerView L S Q → Type 0
-  Pass old answer new = PassAt old.message old answer new
+  -- one iteration: the kept message is served if somebody still waits for it; if none is kept, the next one is taken
+  abbrev pub Iteration : WorkerView L S Q → Option (Poll (Unit {0})) → WorkerView L S Q → Type 0
+  Iteration old answer new = IterationAt old.message old answer new
 
-  -- a poll of the worker: passes until one returns a result, or 64 without one, and then it is pending
+  -- a poll of the worker: iterations until one returns a result, or 64 without one, and then it is pending
   abbrev pub Stepped : WorkerView L S Q → Poll (Unit {0}) → WorkerView L S Q → Type 0
-  Stepped old answer new = Passes Pass Pending old answer new
+  Stepped old answer new = Iterations Iteration Pending old answer new

@@ -11,7 +11,7 @@ mod mailbox;
 mod make;
 mod message;
 mod messages;
-mod seat;
+mod reservation;
 mod service;
 mod worker;
 
@@ -21,6 +21,6 @@ pub use layer::{BufferLayer, Guard};
 pub use mail::{MailReply, MailStep};
 pub use mail_core::MailCore;
 pub use message::{Fate, Message};
-pub use seat::{ResponseState, Seat};
+pub use reservation::{Reservation, ResponseState};
 pub use service::Buffer;
 pub use worker::Worker;

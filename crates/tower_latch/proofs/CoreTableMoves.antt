@@ -8,7 +8,7 @@ use Rattle.atomic_table.specs.Table.{Me, Act, step, Valid, stepped, rest, homes_
 use Rattle.atomic_table.proofs.Lists.{at_set, at_snoc, set_again}
 use Rattle.tower_latch.specs.declared.guarded.table.View.{View}
 use Rattle.tower_latch.specs.BadgeViews.{out_by}
-use Rattle.tower_latch.specs.CoreTable.{fresh, with_those, one_if, has_of, out_of, Agree, Holds, HoldsBadge, Taken, left, Freed, HasCore, MayFree, LeavesBadge}
+use Rattle.tower_latch.specs.CoreTable.{initial, with_those, one_if, has_of, out_of, Agree, Holds, HoldsBadge, Taken, left, Freed, HasCore, MayFree, LeavesBadge}
 
 sum_set : (f : View → ℕ) (xs : List View) (i : ℕ) (a b : View) → get_elem? xs i ≡ some a → sum_by f (set xs i b) + f a ≡ sum_by f xs + f b
 sum_set f [] i a b e = absurd (some-ne-none a (sym e))
@@ -22,8 +22,8 @@ sum_set f (x ∷ xs) (suc i) a b e = there _ _ _ _ _ _ _ (sum_by-cons f x (set x
     there y z s t x a b p q r = omega (arith, p, q, r)
 
 -- one view counts no more than all together
-within : (f : View → ℕ) → f fresh ≡ 0 → (xs : List View) (i : ℕ) (a : View) → get_elem? xs i ≡ some a → f a ≤ sum_by f xs
-within f none_there xs i a e = lemma _ _ _ _ (sum_set f xs i a fresh e) none_there
+within : (f : View → ℕ) → f initial ≡ 0 → (xs : List View) (i : ℕ) (a : View) → get_elem? xs i ≡ some a → f a ≤ sum_by f xs
+within f none_there xs i a e = lemma _ _ _ _ (sum_set f xs i a initial e) none_there
   where
     lemma : (x a s z : ℕ) → x + a ≡ s + z → z ≡ 0 → a ≤ s
     lemma x a s z h o = omega (arith, h, o)
@@ -71,27 +71,27 @@ module _ {K : Type 0} (is : K → Type 0) (out : K → ℕ) where
   abbrev At : ℕ → Option K → List View → Type 0
   At w h views = (w ≡ 0 → (sum_by has_of views ≡ 0) × ((k : K) × (h ≡ some k) × is k × (out k ≡ sum_by out_of views)))
 
-  pub begins : (k : K) → is k → out k ≡ 0 → Agree is out (opening (0 ∷ []) (k ∷ []) fresh)
+  pub begins : (k : K) → is k → out k ≡ 0 → Agree is out (opening (0 ∷ []) (k ∷ []) initial)
   begins k its nothing = (
     0,
     some k,
     refl,
     refl,
-    (λ e. (lemma _ (sum_by-cons has_of fresh []), (k, refl, its, nothing ∙ sym (lemma _ (sum_by-cons out_of fresh []))))),
+    (λ e. (lemma _ (sum_by-cons has_of initial []), (k, refl, its, nothing ∙ sym (lemma _ (sum_by-cons out_of initial []))))),
     (λ no. absurd (no refl)),
-    nobody _ (fresh ∷ []) (lemma _ (sum_by-cons has_of fresh [])),
+    nobody _ (initial ∷ []) (lemma _ (sum_by-cons has_of initial [])),
   )
     where
       lemma : (x : ℕ) → x ≡ 0 + 0 → x ≡ 0
       lemma x e = omega (arith, e)
 
-  pub arrives : (told : K → Type 0) → ((k : K) → is k → told k) → Arrives (Agree is out) 1 0 (λ n. 1) (Taken told out (step 1 0 1 0 none) (fresh, []))
+  pub arrives : (told : K → Type 0) → ((k : K) → is k → told k) → Arrives (Agree is out) 1 0 (λ n. 1) (Taken told out (step 1 0 1 0 none) (initial, []))
   arrives told tells s h len small = at h.0 h.1 h.2 h.3 h.4 h.5
     where
       Goal : Type 0
       Goal = (w : View) × (a : Act K) × Valid s.homes [] a
           × Agree is out record { words = slice_set s.words 0 1; homes = homes_after s.homes [] a; views = s.views ++ w ∷ [] }
-          × Taken told out (step 1 0 1 0 none) (fresh, []) (slice_index s.words 0) (w, carried_after [] a)
+          × Taken told out (step 1 0 1 0 none) (initial, []) (slice_index s.words 0) (w, carried_after [] a)
 
       zeros : (x y : ℕ) → x ≡ y + 0 → x ≡ y
       zeros x y a = omega (arith, a)
@@ -100,7 +100,7 @@ module _ {K : Type 0} (is : K → Type 0) (out : K → ℕ) where
       at zero o words homes free taken =
           let it = free refl in
           let k : K = it.1.0 in
-          let u : View = record fresh { has = true; held = out k } in
+          let u : View = record initial { has = true; held = out k } in
           let sums : sum_by out_of (s.views ++ u ∷ []) ≡ sum_by out_of s.views = zeros _ _ (sum_by_push out_of s.views u) in (
             u,
             takes 0 k,
@@ -123,8 +123,8 @@ module _ {K : Type 0} (is : K → Type 0) (out : K → ℕ) where
           one_not : ◌≡◌ {A = ℕ} 1 0 → ⊥
           one_not e = omega (arith, e)
       at (suc w) o words homes free taken =
-          let sums : sum_by out_of (s.views ++ fresh ∷ []) ≡ sum_by out_of s.views = zeros _ _ (sum_by_push out_of s.views fresh) in (
-            fresh,
+          let sums : sum_by out_of (s.views ++ initial ∷ []) ≡ sum_by out_of s.views = zeros _ _ (sum_by_push out_of s.views initial) in (
+            initial,
             keeps,
             tt,
             (
@@ -133,8 +133,8 @@ module _ {K : Type 0} (is : K → Type 0) (out : K → ℕ) where
               words_set s.words (suc w) 1 words,
               homes,
               (λ e. absurd (one_not e)),
-              (λ no. zeros _ _ (sum_by_push has_of s.views fresh) ∙ taken (λ e. some_word _ e)),
-              know_push _ _ s.views fresh h.6 sums (λ e. absurd (off e)),
+              (λ no. zeros _ _ (sum_by_push has_of s.views initial) ∙ taken (λ e. some_word _ e)),
+              know_push _ _ s.views initial h.6 sums (λ e. absurd (off e)),
             ),
             ((λ e. absurd (apart _ _ e (word_is s.words (suc w) words))), (λ no. refl)),
           )
@@ -235,11 +235,11 @@ module _ {K : Type 0} (is : K → Type 0) (out : K → ℕ) where
           total : (x s o k h : ℕ) → x + o ≡ s + ((o + k) - h) → h ≡ s → h ≤ o + k → k ≡ x
           total x s o k h a b c = omega (arith, a, b, c)
 
-  pub gathers : (id other : ℕ) (v u : View) → u.has ≡ false → Joins (Agree is out) id v other u (with_those v u) fresh
+  pub gathers : (id other : ℕ) (v u : View) → u.has ≡ false → Joins (Agree is out) id v other u (with_those v u) initial
   gathers id other v u without s h mine apart there =
       let mid : List View = set s.views id (with_those v u) in
-      let has_sums = same _ _ _ _ _ (sum_set has_of s.views id v (with_those v u) mine) (sum_set has_of mid other u fresh there) (ap one_if without) in
-      let out_sums = moved _ _ _ _ _ (sum_set out_of s.views id v (with_those v u) mine) (sum_set out_of mid other u fresh there) in
+      let has_sums = same _ _ _ _ _ (sum_set has_of s.views id v (with_those v u) mine) (sum_set has_of mid other u initial there) (ap one_if without) in
+      let out_sums = moved _ _ _ _ _ (sum_set out_of s.views id v (with_those v u) mine) (sum_set out_of mid other u initial there) in
       let know_mid : Knows (sum_by out_of s.views) mid = know_set (sum_by out_of s.views) _ s.views id (with_those v u) h.6 refl (λ has. h.6 id v mine has) in (
         h.0,
         h.1,
@@ -247,7 +247,7 @@ module _ {K : Type 0} (is : K → Type 0) (out : K → ℕ) where
         h.3,
         (λ e. let it = h.4 e in (has_sums ∙ it.0, (it.1.0, it.1.1, it.1.2, it.1.3 ∙ sym out_sums))),
         (λ no. has_sums ∙ h.5 no),
-        know_set (sum_by out_of s.views) _ mid other fresh know_mid out_sums (λ e. absurd (off e)),
+        know_set (sum_by out_of s.views) _ mid other initial know_mid out_sums (λ e. absurd (off e)),
       )
     where
       same : (new mid old a z : ℕ) → mid + a ≡ old + a → new + z ≡ mid + 0 → z ≡ 0 → new ≡ old

@@ -3,7 +3,7 @@ use Rattle.std.proofs.Common.{◌≡◌, ◌⊎◌, ℕ, [], Option, None, inl, 
 use Rattle.std.proofs.Math.Logic.{∥∥₁_map}
 use Rattle.futures.specs.declared.task.context.Context.{Context}
 use Rattle.tower_latch.specs.Guarded.{IsAlone, Settled, Takes, at}
-use Rattle.tower_latch.specs.LatchMachine.{Crowds, LeavesNoneAsleep, Turns, Waits, WakesNoneInVain}
+use Rattle.tower_latch.specs.LatchMachine.{Crowds, LeavesNoneAsleep, StepsAndWakes, Waits, WakesNoneInVain}
 use Rattle.tower_latch.specs.Wakes.{IsNamed, IsSpared, NamesAll}
 use Rattle.tower_latch.specs.declared.Core.{Ghosts as CoreOf}
 use Rattle.tower_latch.specs.declared.Wakes.{Wakes}
@@ -54,13 +54,13 @@ module _ {C : Type 0} (stalls : C → ℕ → Type 0) where
 
 module _ {C S R T : Type 0} (c : CoreOf C S R T) where
   pub settled_turn : (old new : C) (had have : Crowds) (step : S) (reply : R) (woken : Option Crowds)
-      → Settled c.stalls old had → Turns c old had step reply woken new have → Settled c.stalls new have
+      → Settled c.stalls old had → StepsAndWakes c old had step reply woken new have → Settled c.stalls new have
   settled_turn old new had have step reply woken settled t = taken c.stalls old new t.wakes had have woken settled t.names t.takes
 
   pub settled_wait : (share : ℕ) (cx after : Context) (old new : C) (had have : Crowds) (step : S) (reply : R) (woken : Option Crowds)
       → Settled c.stalls old had → Waits c share cx old had step reply woken after new have → Settled c.stalls new have
   settled_wait share cx after old new had have step reply woken settled w =
-      kept c.stalls new w.turns.wakes w.mid have (settled_turn old new had w.mid step reply woken settled w.turns) w.turns.names.1 w.others
+      kept c.stalls new w.stepped.wakes w.mid have (settled_turn old new had w.mid step reply woken settled w.stepped) w.stepped.names.1 w.others
 
   pub leaves_none_asleep : LeavesNoneAsleep c
   leaves_none_asleep = record { step = settled_turn; wait = settled_wait }
@@ -73,7 +73,7 @@ module _ {C S R T : Type 0} (c : CoreOf C S R T) where
   ]
 
   pub settled_by_turn : (old new : C) (had have : Crowds) (step : S) (reply : R) (woken : Option Crowds)
-      → ∥ Settled c.stalls old had ∥₁ → Turns c old had step reply woken new have → ∥ Settled c.stalls new have ∥₁
+      → ∥ Settled c.stalls old had ∥₁ → StepsAndWakes c old had step reply woken new have → ∥ Settled c.stalls new have ∥₁
   settled_by_turn old new had have step reply woken settled t = ∥∥₁_map settled (λ s. settled_turn old new had have step reply woken s t)
 
   pub settled_by_wait : (share : ℕ) (cx after : Context) (old new : C) (had have : Crowds) (step : S) (reply : R) (woken : Option Crowds)

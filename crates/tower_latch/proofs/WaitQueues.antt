@@ -5,10 +5,10 @@ use Rattle.std.proofs.lemmas.Bool.{cases_order}
 use Rattle.slab.specs.Slab.{get, Updates}
 use Rattle.tower_base.specs.Links.{LinksView}
 use Rattle.tower_base.specs.Order.{has, without, first_or, Apart}
-use Rattle.tower_latch.specs.Turns.{Turns, Admits, Enters, Leaves, Looks, empty}
+use Rattle.tower_latch.specs.WaitList.{WaitList, Admits, Enters, Leaves, Looks, empty}
 use Rattle.tower_latch.specs.WaitQueue.{Follows, StandsAs, StandsFor, granted, size, waiting}
 use Rattle.tower_latch.specs.Waiters.{IsPresent, Waits, are_apart, outside}
-use Rattle.tower_latch.specs.declared.wait_queue.Turn.TheVariants.{Granted, Waiting, Unknown}
+use Rattle.tower_latch.specs.declared.wait_queue.WaitState.TheVariants.{Granted, Waiting, Unknown}
 use Rattle.tower_latch.specs.declared.wait_queue.WaitQueue.{WaitQueue}
 use Rattle.tower_latch.proofs.KeysLemmas.{append_assoc, apart_front, apart_is, at_has, behind, has_append, in_front, is_apart, length_without, or_right, without_append, without_at, without_lacks}
 use Rattle.tower_latch.proofs.Waiters.{admitted, granted_has, grown, pushed, removed, outside_waits, waits_apart, waits_count, waits_present}
@@ -128,17 +128,17 @@ module _ (count : ℕ) (old new : LinksView (Unit {0})) (k : Kept count old) whe
 -- ---- plain queues
 
 -- some plain queue is what the queue stands for: those outside the order first
-pub some_queue : (queue : WaitQueue) → (plain : Turns) × StandsFor queue plain
+pub some_queue : (queue : WaitQueue) → (plain : WaitList) × StandsFor queue plain
 some_queue queue = (
   record { keys = outside queue.waiters ++ queue.waiters.order; granted = queue.granted },
   (outside queue.waiters, outside_waits queue.waiters (apart_is queue.waiters.order queue.apart) queue.present, queue.count, refl, refl),
 )
 
 -- how many wait
-pub keys_count : (count : ℕ) (waiters : LinksView (Unit {0})) (plain : Turns) → StandsAs count waiters plain → length plain.keys ≡ count + length waiters.order
+pub keys_count : (count : ℕ) (waiters : LinksView (Unit {0})) (plain : WaitList) → StandsAs count waiters plain → length plain.keys ≡ count + length waiters.order
 keys_count count waiters plain s = omega (arith, ap length s.3, length-append s.0 waiters.order, s.2)
 
-module _ (count : ℕ) (old : LinksView (Unit {0})) (plain : Turns) (s : StandsAs count old plain) where
+module _ (count : ℕ) (old : LinksView (Unit {0})) (plain : WaitList) (s : StandsAs count old plain) where
   abbrev kept_at : Kept count old
   kept_at = record { front = s.0; waits = s.1; size = s.2 }
 
@@ -150,7 +150,7 @@ module _ (count : ℕ) (old : LinksView (Unit {0})) (plain : Turns) (s : StandsA
   lacks_key key none = ap (λ l. has l key) s.3 ∙ s.1.present key ∙ ap is_some none
 
   pub enters : (new : LinksView (Unit {0})) (key : ℕ) → get old.entries key ≡ None → Updates old.entries new.entries key (Some tt) → new.order ≡ old.order ++ key ∷ []
-      → (next : Turns) × Enters plain (Ok key) next × StandsAs count new next
+      → (next : WaitList) × Enters plain (Ok key) next × StandsAs count new next
   enters new key vacant updates order = (
     record plain { keys = plain.keys ++ key ∷ [] },
     (lacks_key key vacant, refl),
@@ -194,7 +194,7 @@ module _ (count : ℕ) (old : LinksView (Unit {0})) (plain : Turns) (s : StandsA
         (a.0, rw s.3 a.1, omega (arith, s.2, s.4, early), (k.front, k.waits, k.size, keys_left a.0 a.1, ap (λ n. n - 1) s.4))
 
     -- a key without a grant leaves
-    pub linked_leaves : has old.order key ≡ true → (next : Turns) × Leaves plain key true next × StandsAs count new next
+    pub linked_leaves : has old.order key ≡ true → (next : WaitList) × Leaves plain key true next × StandsAs count new next
     unfolding kept_left
     linked_leaves h =
         let k = kept_left count old new kept_at key updates order h in
@@ -206,7 +206,7 @@ module _ (count : ℕ) (old : LinksView (Unit {0})) (plain : Turns) (s : StandsA
         )
 
   pub admits_first : (new : LinksView (Unit {0})) (key : ℕ) (rest : List ℕ) → old.order ≡ key ∷ rest → new.order ≡ without old.order key → new.entries ≡ old.entries
-      → (next : Turns) × Admits plain next × StandsAs (count + 1) new next
+      → (next : WaitList) × Admits plain next × StandsAs (count + 1) new next
   admits_first new key rest is order entries =
       let r = admitted s.0 old new s.1 key rest is order entries in (
         record plain { granted = plain.granted + 1 },
@@ -220,17 +220,17 @@ module _ (count : ℕ) (old : LinksView (Unit {0})) (plain : Turns) (s : StandsA
 abbrev pub OneGranted : ℕ → ℕ → ℕ → ℕ → Type 0
 OneGranted held waits now_held now_wait = ((waits ≡ 0) × (now_wait ≡ 0) × (now_held ≡ held)) ⊎ ((waits ≡ now_wait + 1) × (now_held ≡ held + 1))
 
-granted_by : (old new : Turns) (held waits now_held now_wait : ℕ) → Admits old new → old.granted ≡ held → length old.keys ≡ held + waits → new.granted ≡ now_held
+granted_by : (old new : WaitList) (held waits now_held now_wait : ℕ) → Admits old new → old.granted ≡ held → length old.keys ≡ held + waits → new.granted ≡ now_held
     → length new.keys ≡ now_held + now_wait → OneGranted held waits now_held now_wait
 granted_by old new held waits now_held now_wait admits was all is left = elim admits [
   | inl h ↦ inl (
     omega (arith, h.0, was, all),
-    omega (arith, h.0, was, all, is, left, ap (λ (q : Turns). q.granted) h.1, ap (λ (q : Turns). length q.keys) h.1),
-    omega (arith, was, is, ap (λ (q : Turns). q.granted) h.1),
+    omega (arith, h.0, was, all, is, left, ap (λ (q : WaitList). q.granted) h.1, ap (λ (q : WaitList). length q.keys) h.1),
+    omega (arith, was, is, ap (λ (q : WaitList). q.granted) h.1),
   )
   | inr h ↦ inr (
-    omega (arith, h.0, was, all, is, left, ap (λ (q : Turns). q.granted) h.1, ap (λ (q : Turns). length q.keys) h.1),
-    omega (arith, was, is, ap (λ (q : Turns). q.granted) h.1),
+    omega (arith, h.0, was, all, is, left, ap (λ (q : WaitList). q.granted) h.1, ap (λ (q : WaitList). length q.keys) h.1),
+    omega (arith, was, is, ap (λ (q : WaitList). q.granted) h.1),
   )
 ]
 
@@ -257,8 +257,8 @@ module _ (old new : WaitQueue) where
   same_sizes f =
       let p = some_queue old in
       let r = f p.0 p.1 in
-      let is = ap (λ (q : Turns). q.granted) r.1 in
-      let left = ap (λ (q : Turns). length q.keys) r.1 in (
+      let is = ap (λ (q : WaitList). q.granted) r.1 in
+      let left = ap (λ (q : WaitList). length q.keys) r.1 in (
         omega (arith, is, p.1.4, r.2.4),
         omega (arith, is, left, p.1.4, r.2.4, keys_count old.granted old.waiters p.0 p.1, keys_count new.granted new.waiters r.0 r.2),
       )
@@ -267,8 +267,8 @@ module _ (old new : WaitQueue) where
   entered_one key f =
       let p = some_queue old in
       let r = f p.0 p.1 in
-      let is = ap (λ (q : Turns). q.granted) r.1.1 in
-      let more = ap (λ (q : Turns). length q.keys) r.1.1 in
+      let is = ap (λ (q : WaitList). q.granted) r.1.1 in
+      let more = ap (λ (q : WaitList). length q.keys) r.1.1 in
       let one = length-append p.0.keys (key ∷ []) in (
         omega (arith, is, p.1.4, r.2.4),
         omega (arith, is, more, one, p.1.4, r.2.4, keys_count old.granted old.waiters p.0 p.1, keys_count new.granted new.waiters r.0 r.2),
@@ -282,8 +282,8 @@ module _ (old new : WaitQueue) where
   saw_one key f =
       let p = some_queue old in
       let r = f p.0 p.1 in
-      let is = ap (λ (q : Turns). q.granted) r.1.3 in
-      let less = ap (λ (q : Turns). length q.keys) r.1.3 in
+      let is = ap (λ (q : WaitList). q.granted) r.1.3 in
+      let less = ap (λ (q : WaitList). length q.keys) r.1.3 in
       let one = one_shorter p.0.keys r.1.0 key r.1.1 in (
         omega (arith, r.1.2, is, p.1.4, r.2.4),
         omega (arith, r.1.2, is, less, one, p.1.4, r.2.4, keys_count old.granted old.waiters p.0 p.1, keys_count new.granted new.waiters r.0 r.2),
@@ -301,7 +301,7 @@ module _ (old new : WaitQueue) where
       within (x ∷ keys) zero key at = omega arith
       within (x ∷ keys) (suc place) key at = omega (arith, within keys place key at)
 
-      some : (p : Turns) (place key : ℕ) → slice_get p.keys place ≡ Some key → granted old ≤ place → length p.keys ≡ granted old + waiting old → 0 < waiting old
+      some : (p : WaitList) (place key : ℕ) → slice_get p.keys place ≡ Some key → granted old ≤ place → length p.keys ≡ granted old + waiting old → 0 < waiting old
       some p place key at late all = omega (arith, within p.keys place key at, late, all)
 
   pub saw_nobody : (key : ℕ) → Follows old (λ p q. Looks p key Unknown q) new → SameSizes
@@ -321,8 +321,8 @@ module _ (old new : WaitQueue) where
       let left = keys_count new.granted new.waiters r.0 r.2 in
       elim r.1.2 [
         | inl h ↦ inl (
-          omega (arith, ap (λ (q : Turns). q.granted) h.1, p.1.4, r.2.4),
-          omega (arith, ap (λ (q : Turns). q.granted) h.1, ap (λ (q : Turns). length q.keys) h.1, one, all, left, p.1.4, r.2.4),
+          omega (arith, ap (λ (q : WaitList). q.granted) h.1, p.1.4, r.2.4),
+          omega (arith, ap (λ (q : WaitList). q.granted) h.1, ap (λ (q : WaitList). length q.keys) h.1, one, all, left, p.1.4, r.2.4),
         )
         | inr h ↦ elim (granted_by (record { keys = remove p.0.keys r.1.0; granted = p.0.granted - 1 }) r.0 (granted old - 1) (waiting old) (granted new) (waiting new) h.1
             (ap (λ n. n - 1) p.1.4) (omega (arith, h.0, p.1.4, one, all)) r.2.4 left) [

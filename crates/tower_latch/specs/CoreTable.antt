@@ -9,8 +9,8 @@ use Rattle.tower_latch.specs.declared.guarded.table.View.{View}
 use Rattle.tower_latch.specs.declared.guarded.token.Token.{Token}
 
 -- a seat with no place and without the core
-abbrev pub fresh : View
-fresh = record { out = 0; has = false; held = 0 }
+abbrev pub initial : View
+initial = record { out = 0; has = false; held = 0 }
 
 abbrev pub with_those : View → View → View
 with_those v w = record v { out = v.out + w.out }

@@ -15,7 +15,7 @@ Crowds = List (List Waiter)
 module _ {C S R T : Type 0} (c : CoreOf C S R T) where
   -- One step at the latch. The core makes it, has this reply and names some. Those are taken out to be woken, except whoever still stalls after
   -- a step that names `Unstalled`. Whoever else waits still waits.
-  pub record Turns (old : C) (had : Crowds) (step : S) (reply : R) (woken : Option Crowds) (new : C) (have : Crowds) : Type 0 where
+  pub record StepsAndWakes (old : C) (had : Crowds) (step : S) (reply : R) (woken : Option Crowds) (new : C) (have : Crowds) : Type 0 where
     pub wakes : Wakes
     pub steps : c.steps old step reply new
     pub waits : c.is_wait reply ≡ true → wakes ≡ Wait (c.key_of step reply)
@@ -26,18 +26,18 @@ module _ {C S R T : Type 0} (c : CoreOf C S R T) where
   -- another key stays as the step left it.
   pub record Waits (share : ℕ) (cx : Context) (old : C) (had : Crowds) (step : S) (reply : R) (woken : Option Crowds) (after : Context) (new : C) (have : Crowds) : Type 0 where
     pub mid : Crowds
-    pub turns : Turns old had step reply woken new mid
+    pub stepped : StepsAndWakes old had step reply woken new mid
     pub kept : c.is_wait reply ≡ true → IsKept share cx after (at have (c.key_of step reply))
-    pub others : (key : ℕ) → (at have key ≡ at mid key) ⊎ (turns.wakes ≡ Wait key)
+    pub others : (key : ℕ) → (at have key ≡ at mid key) ⊎ (stepped.wakes ≡ Wait key)
 
   -- Nobody who could go on is left asleep: if each key at which somebody waits stalls, the same holds after each step of the latch.
   pub record LeavesNoneAsleep : Type 0 where
     pub step : (old new : C) (had have : Crowds) (step : S) (reply : R) (woken : Option Crowds)
-        → Settled c.stalls old had → Turns old had step reply woken new have → Settled c.stalls new have
+        → Settled c.stalls old had → StepsAndWakes old had step reply woken new have → Settled c.stalls new have
     pub wait : (share : ℕ) (cx after : Context) (old new : C) (had have : Crowds) (step : S) (reply : R) (woken : Option Crowds)
         → Settled c.stalls old had → Waits share cx old had step reply woken after new have → Settled c.stalls new have
 
   -- A step that names one, who no longer stalls, wakes nobody in vain: at each key that stalls after it, the same wait as before.
   abbrev pub WakesNoneInVain : Type 0
-  WakesNoneInVain = (old new : C) (had have : Crowds) (step : S) (reply : R) (woken : Option Crowds) (turn : Turns old had step reply woken new have)
-      (named : ℕ) → turn.wakes ≡ One named → ¬ (c.stalls new named) → (key : ℕ) → c.stalls new key → at have key ≡ at had key
+  WakesNoneInVain = (old new : C) (had have : Crowds) (step : S) (reply : R) (woken : Option Crowds) (stepped : StepsAndWakes old had step reply woken new have)
+      (named : ℕ) → stepped.wakes ≡ One named → ¬ (c.stalls new named) → (key : ℕ) → c.stalls new key → at have key ≡ at had key

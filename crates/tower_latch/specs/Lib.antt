@@ -7,7 +7,7 @@ pub mod HistoryLemmas
 pub mod Latch
 pub mod LatchLemmas
 pub mod Tokens
-pub mod Turns
+pub mod WaitList
 pub mod WaitQueue
 pub mod Waiters
 pub mod Wakes

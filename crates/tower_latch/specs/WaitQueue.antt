@@ -2,7 +2,7 @@
 use Rattle.std.specs.Prelude.{◌≡◌, ◌+◌, ℕ, true, List, ◌++◌, length}
 use Rattle.tower_base.specs.Links.{LinksView}
 use Rattle.tower_base.specs.Order.{has}
-use Rattle.tower_latch.specs.Turns.{Turns}
+use Rattle.tower_latch.specs.WaitList.{WaitList}
 use Rattle.tower_latch.specs.Waiters.{Waits}
 use Rattle.tower_latch.specs.declared.wait_queue.WaitQueue.{WaitQueue}
 
@@ -25,15 +25,15 @@ abbrev pub touches : WaitQueue → ℕ
 touches queue = queue.waiters.touches
 
 -- The plain keys are `count` granted ones, in the order of asking, which the queue doesn't keep, and behind them those that are linked.
-abbrev pub StandsAs : ℕ → LinksView (Unit {0}) → Turns → Type 0
+abbrev pub StandsAs : ℕ → LinksView (Unit {0}) → WaitList → Type 0
 StandsAs count waiters plain = (front : List ℕ) × Waits front waiters × (length front ≡ count) × (plain.keys ≡ front ++ waiters.order) × (plain.granted ≡ count)
 
-abbrev pub StandsFor : WaitQueue → Turns → Type 0
+abbrev pub StandsFor : WaitQueue → WaitList → Type 0
 StandsFor queue = StandsAs queue.granted queue.waiters
 
 -- From each plain queue that the old one stands for, the change leads to one that the new one stands for.
-abbrev pub Follows : WaitQueue → (Turns → Turns → Type 0) → WaitQueue → Type 0
-Follows old change new = (plain : Turns) → StandsFor old plain → (next : Turns) × change plain next × StandsFor new next
+abbrev pub Follows : WaitQueue → (WaitList → WaitList → Type 0) → WaitQueue → Type 0
+Follows old change new = (plain : WaitList) → StandsFor old plain → (next : WaitList) × change plain next × StandsFor new next
 
 -- Whoever looks with this key is told to wait.
 abbrev pub stalls : WaitQueue → ℕ → Type 0

@@ -4,8 +4,8 @@ ghost use Rattle.std.specs.Arc.{arc_value};
 ghost use Rattle.futures.specs.Task.{Hears, IsArmed, Keeps};
 ghost use Rattle.tower_latch.specs.Latch.{Reached, Came};
 ghost use Rattle.tower_latch.specs.Guarded.{GuardedView, Settled, IsAlone, Counted};
-ghost use Rattle.tower_latch.specs.LatchMachine.{Turns, Waits};
-ghost use Rattle.tower_latch.specs.CoreTable.{fresh, Holds, HoldsBadge, HasCore, MayFree, LeavesBadge, places};
+ghost use Rattle.tower_latch.specs.LatchMachine.{StepsAndWakes, Waits};
+ghost use Rattle.tower_latch.specs.CoreTable.{initial, Holds, HoldsBadge, HasCore, MayFree, LeavesBadge, places};
 
 mod crowd;
 mod table;
@@ -16,6 +16,7 @@ use crate::guarded::table::{CoreTable, Frees, Gathers, Known, Seat, Takes};
 use crate::{Core, Latch, Wakes};
 use futures::task::{Context, Source};
 use std::alloc::{AllocError, Global};
+use std::hint;
 use std::marker::{Brand, Model};
 use std::sync::atomic::{AtomicU64, Ordering};
 use std::sync::{Arc, Wait};
@@ -38,7 +39,12 @@ pub struct Guarded<C: Core, R> {
 impl<C: Core, R> Model for Guarded<C, R> {
     ghost Value = { GuardedView C.Terms };
 
-    ghost view = { λ g. record { share = g.share; source = (arc_value g.shared).source.id; table = (arc_value g.shared).table.shared.table_id; terms = (arc_value g.shared).table.shared.key } };
+    ghost view = { λ g. record {
+      share = g.share;
+      source = (arc_value g.shared).source.id;
+      table = (arc_value g.shared).table.shared.table_id;
+      terms = (arc_value g.shared).table.shared.key;
+    } };
 }
 
 #[derive(Drop)]
@@ -66,7 +72,8 @@ impl<C: Core, R: Wait + Copy> Guarded<C, R> {
     pub fn new(rt: R, alloc: Global, core: C) -> Result<Guarded<C, R>, AllocError>
         requires { C.opens core }
         ensures first { IfOk result (λ latch. ⟦<Guarded<C, R> as Latch<C>>⟧.is_first latch) }
-        ensures terms { IfOk result (λ latch. ⟦<Guarded<C, R> as Latch<C>>⟧.terms latch ≡ C.terms core) }
+        ensures terms { IfOk result
+            (λ latch. ⟦<Guarded<C, R> as Latch<C>>⟧.terms latch ≡ C.terms core) }
     {
         let terms = core.terms();
         let mut slots = Vec::new(alloc);
@@ -90,12 +97,12 @@ impl<C: Core, R: Wait + Copy> Guarded<C, R> {
     #[inline(always)]
     fn lock<K: Known<C::Terms>>(&self) -> Seat<C>
         requires { K.are self.now.terms }
-        ensures has { Holds (λ k. K.are (C.terms k.core)) (λ k. C.out k.core) fresh result.me }
+        ensures has { Holds (λ k. K.are (C.terms k.core)) (λ k. C.out k.core) initial result.me }
         ensures its { result.table_id ≡ self.now.table }
     {
         let (found, mut seat) = self.shared.table.shared.swap_new_seat::<Takes<K>>(0, 1);
         if found != 0 {
-            self.shared.lock_late::<R, K>(self.rt, &mut seat);
+            self.shared.lock_late::<R, K>(self.rt, found, &mut seat);
         }
         seat
     }
@@ -105,12 +112,14 @@ impl<C: Core, R: Wait + Copy> Guarded<C, R> {
     fn lock_with<K: Known<C::Terms>>(&self, token: Token) -> Seat<C>
         requires known { K.are self.now.terms }
         requires its { token.badge.table_id ≡ self.now.table }
-        ensures has { HoldsBadge (λ k. K.are (C.terms k.core)) (λ k. C.out k.core) token.badge.views result.me }
+        ensures has { HoldsBadge (λ k. K.are (C.terms k.core)) (λ k. C.out k.core)
+            token.badge.views result.me }
         ensures its { result.table_id ≡ self.now.table }
     {
         let mut seat = token.into_seat::<C>();
-        if self.shared.table.shared.swap::<Takes<K>>(&mut seat, 0, 1) != 0 {
-            self.shared.lock_late::<R, K>(self.rt, &mut seat);
+        let found = self.shared.table.shared.swap::<Takes<K>>(&mut seat, 0, 1);
+        if found != 0 {
+            self.shared.lock_late::<R, K>(self.rt, found, &mut seat);
         }
         seat
     }
@@ -126,8 +135,10 @@ impl<C: Core, R: Wait + Copy> Guarded<C, R> {
         requires core { HasCore (λ k. C.terms k.core ≡ self.now.terms) (λ k. C.out k.core) seat.me }
         ensures came { Came C.opens C.steps C.terms self.now.terms step result.0 }
         ensures its { result.1.badge.table_id ≡ self.now.table }
-        ensures places { places result.1 + C.paid step result.0 ≡ seat.me.0.out + C.gained result.0 }
-        ensures held { (old : C) × (new : C) × C.steps old step result.0 new × (seat.me.0.out ≤ C.out old) }
+        ensures places { places result.1 + C.paid step result.0
+            ≡ seat.me.0.out + C.gained result.0 }
+        ensures held { (old : C) × (new : C) × C.steps old step result.0 new
+            × (seat.me.0.out ≤ C.out old) }
     {
         let kept = seat.slot_mut(&self.shared.table.shared, 0);
         let mut woken = Woken::nobody();
@@ -155,7 +166,8 @@ impl<C: Core, R: Wait + Copy> Guarded<C, R> {
         ensures heard { C.is_wait result.0 ≡ true → Hears cx.new self.now.source }
         ensures keeps { Keeps cx.old cx.new }
         ensures its { result.1.badge.table_id ≡ self.now.table }
-        ensures places { places result.1 + C.paid step result.0 ≡ seat.me.0.out + C.gained result.0 }
+        ensures places { places result.1 + C.paid step result.0
+            ≡ seat.me.0.out + C.gained result.0 }
     {
         let kept = seat.slot_mut(&self.shared.table.shared, 0);
         let mut woken = Woken::nobody();
@@ -178,20 +190,28 @@ impl<C: Core, R: Wait + Copy> Guarded<C, R> {
     }
 }
 
+// How often a thread looks whether the core is there before it parks.
+const LOOKS: u32 = 1_000;
+
 // What may wait or wake takes the shared part alone: a reference to the `Guarded` itself would keep the
 // value that has it in memory.
 impl<C: Core> Shared<C> {
-    // Waits for the core, which another holder has.
+    // Waits for the core, which another holder has. Whoever found a mark of a thread that parks, which its
+    // own step overwrote, leaves a mark at once.
     #[cold]
     #[inline(never)]
-    fn lock_late<R: Wait + Copy, K: Known<C::Terms>>(&self, rt: R, seat: &mut Seat<C>)
+    fn lock_late<R: Wait + Copy, K: Known<C::Terms>>(&self, rt: R, found: u64, seat: &mut Seat<C>)
         requires known { K.are self.now.table.shared.key }
         requires free { seat.old.me ≡ (seat.old.me.0, []) }
         requires without { seat.old.me.0.has ≡ false }
         requires its { seat.old.table_id ≡ self.now.table.shared.table_id }
-        ensures has { Holds (λ k. K.are (C.terms k.core)) (λ k. C.out k.core) seat.old.me.0 seat.new.me }
+        ensures has { Holds (λ k. K.are (C.terms k.core)) (λ k. C.out k.core)
+            seat.old.me.0 seat.new.me }
         ensures its { seat.new.table_id ≡ seat.old.table_id }
     {
+        if found == 1 && self.looks_home() && self.table.shared.swap::<Takes<K>>(seat, 0, 1) == 0 {
+            return;
+        }
         for _ in rt.forever() {
             if self.table.shared.swap::<Takes<K>>(seat, 0, 2) == 0 {
                 return;
@@ -199,6 +219,17 @@ impl<C: Core> Shared<C> {
             self.table.shared.park(&rt, 0, 2);
         }
         unreachable!()
+    }
+
+    // Looks at most `LOOKS` times whether the core is there, and returns whether it was.
+    fn looks_home(&self) -> bool {
+        for _ in 0..LOOKS {
+            if self.table.shared.peek(0) == 0 {
+                return true;
+            }
+            hint::spin_loop();
+        }
+        false
     }
 
     // Makes the step of a token's holder, with wakers beside the core. It is a call, so that whoever drops
@@ -210,11 +241,14 @@ impl<C: Core> Shared<C> {
         requires paid { (reply : C.Reply) → C.paid step reply ≤ seat.me.0.out }
         requires its { seat.table_id ≡ self.now.table.shared.table_id }
         requires has { seat.me.0.has ≡ true }
-        requires core { HasCore (λ k. C.terms k.core ≡ self.now.table.shared.key) (λ k. C.out k.core) seat.me }
+        requires core { HasCore (λ k. C.terms k.core ≡ self.now.table.shared.key)
+            (λ k. C.out k.core) seat.me }
         ensures came { Came C.opens C.steps C.terms self.now.table.shared.key step result.0 }
         ensures its { result.1.badge.table_id ≡ self.now.table.shared.table_id }
-        ensures places { places result.1 + C.paid step result.0 ≡ seat.me.0.out + C.gained result.0 }
-        ensures held { (old : C) × (new : C) × C.steps old step result.0 new × (seat.me.0.out ≤ C.out old) }
+        ensures places { places result.1 + C.paid step result.0
+            ≡ seat.me.0.out + C.gained result.0 }
+        ensures held { (old : C) × (new : C) × C.steps old step result.0 new
+            × (seat.me.0.out ≤ C.out old) }
     {
         let mut woken = Woken::nobody();
         let reply = seat.slot_mut(&self.table.shared, 0).step(step, &mut woken);
@@ -228,7 +262,8 @@ impl<C: Core> Shared<C> {
     fn free(&self, mut seat: Seat<C>) -> Token
         requires its { seat.table_id ≡ self.now.table.shared.table_id }
         requires has { seat.me.0.has ≡ true }
-        requires core { MayFree (λ k. C.terms k.core ≡ self.now.table.shared.key) (λ k. C.out k.core) seat.me }
+        requires core { MayFree (λ k. C.terms k.core ≡ self.now.table.shared.key)
+            (λ k. C.out k.core) seat.me }
         ensures its { result.badge.table_id ≡ self.now.table.shared.table_id }
         ensures left { LeavesBadge (λ k. C.out k.core) seat.me result.badge.views }
     {
@@ -271,22 +306,16 @@ impl<C: Core> Kept<C> {
         self.waiters.is_empty()
     }
 
-    // Shows that no more places are held than there are.
-    #[inline(always)]
-    fn looked_at(&self)
-        ensures { C.out self.now.core ≤ C.size (C.terms self.now.core) }
-    {
-        let _kept = self;
-    }
-
     // Makes one step, with no waker beside the core.
     #[inline(always)]
     fn step_alone(&mut self, step: C::Step) -> C::Reply
         requires admitted { C.admits step }
         requires alone { IsAlone self.old.waiters }
         ensures came { Came C.opens C.steps C.terms (C.terms self.old.core) step result }
-        ensures counted { Counted C.terms C.out C.paid C.gained self.old.core step result self.new.core }
-        ensures machine { Turns C.Core self.old.core self.old.waiters step result None self.new.core self.new.waiters }
+        ensures counted { Counted C.terms C.out C.paid C.gained self.old.core step result
+            self.new.core }
+        ensures machine { StepsAndWakes C.Core self.old.core self.old.waiters step result None
+            self.new.core self.new.waiters }
     {
         let (reply, _) = self.core.step(step);
         reply
@@ -305,11 +334,13 @@ impl<C: Core> Kept<C> {
         requires admitted { C.admits step }
         requires alone { IsAlone self.old.waiters }
         ensures came { Came C.opens C.steps C.terms (C.terms self.old.core) step result }
-        ensures counted { Counted C.terms C.out C.paid C.gained self.old.core step result self.new.core }
+        ensures counted { Counted C.terms C.out C.paid C.gained self.old.core step result
+            self.new.core }
         ensures armed { C.is_wait result ≡ true → IsArmed cx.new }
         ensures heard { C.is_wait result ≡ true → Hears cx.new source.now.id }
         ensures keeps { Keeps cx.old cx.new }
-        ensures machine { Waits C.Core share cx.old self.old.core self.old.waiters step result None cx.new self.new.core self.new.waiters }
+        ensures machine { Waits C.Core share cx.old self.old.core self.old.waiters step result None
+            cx.new self.new.core self.new.waiters }
     {
         let (reply, wakes) = self.core.step(step);
         let Wakes::Wait(key) = wakes else {
@@ -325,8 +356,10 @@ impl<C: Core> Kept<C> {
         requires admitted { C.admits step }
         requires nobody { woken.old ≡ None }
         ensures came { Came C.opens C.steps C.terms (C.terms self.old.core) step result }
-        ensures counted { Counted C.terms C.out C.paid C.gained self.old.core step result self.new.core }
-        ensures machine { Turns C.Core self.old.core self.old.waiters step result woken.new self.new.core self.new.waiters }
+        ensures counted { Counted C.terms C.out C.paid C.gained self.old.core step result
+            self.new.core }
+        ensures machine { StepsAndWakes C.Core self.old.core self.old.waiters step result woken.new
+            self.new.core self.new.waiters }
     {
         let (reply, named) = self.core.step(step);
         self.waiters.take(named, &self.core, woken);
@@ -347,11 +380,13 @@ impl<C: Core> Kept<C> {
         requires admitted { C.admits step }
         requires nobody { woken.old ≡ None }
         ensures came { Came C.opens C.steps C.terms (C.terms self.old.core) step result }
-        ensures counted { Counted C.terms C.out C.paid C.gained self.old.core step result self.new.core }
+        ensures counted { Counted C.terms C.out C.paid C.gained self.old.core step result
+            self.new.core }
         ensures armed { C.is_wait result ≡ true → IsArmed cx.new }
         ensures heard { C.is_wait result ≡ true → Hears cx.new source.now.id }
         ensures keeps { Keeps cx.old cx.new }
-        ensures machine { Waits C.Core share cx.old self.old.core self.old.waiters step result woken.new cx.new self.new.core self.new.waiters }
+        ensures machine { Waits C.Core share cx.old self.old.core self.old.waiters step result
+            woken.new cx.new self.new.core self.new.waiters }
     {
         let (reply, wakes) = self.core.step(step);
         self.waiters.take(wakes, &self.core, woken);
@@ -370,7 +405,8 @@ impl<C: Core, R: Wait + Copy> Latch<C> for Guarded<C, R> {
     ghost is_first = { λ latch. latch.share ≡ 0 };
 
     // Both latches share one core, since they have the same table.
-    ghost shares = { λ latch made. IfOk made (λ other. (other.table ≡ latch.table) × (other.terms ≡ latch.terms) × (other.source ≡ latch.source)) };
+    ghost shares = { λ latch made. IfOk made (λ other. (other.table ≡ latch.table)
+        × (other.terms ≡ latch.terms) × (other.source ≡ latch.source)) };
 
     ghost terms = { λ latch. latch.terms };
 
@@ -423,7 +459,6 @@ impl<C: Core, R: Wait + Copy> Latch<C> for Guarded<C, R> {
 
     fn merge(&self, token: Token, other: Token) -> Token {
         let mut seat = self.lock_with::<Brand>(token);
-        seat.slot_mut(&self.shared.table.shared, 0).looked_at();
         self.shared
             .table
             .shared

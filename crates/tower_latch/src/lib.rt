@@ -40,8 +40,10 @@ impl Wakes {
     /// who no longer stall.
     pub fn and(self, other: Wakes) -> Wakes
         ensures named { (key : ℕ) → IsNamed self key ⊎ IsNamed other key → IsNamed result key }
-        ensures waits { (key : ℕ) → result ≡ Wakes.Wait key → ((self ≡ Wakes.Wait key) × (other ≡ Wakes.Nobody)) ⊎ ((other ≡ Wakes.Wait key) × (self ≡ Wakes.Nobody)) }
-        ensures one { (key : ℕ) → result ≡ Wakes.One key → ((self ≡ Wakes.One key) × (other ≡ Wakes.Nobody)) ⊎ ((other ≡ Wakes.One key) × (self ≡ Wakes.Nobody)) }
+        ensures waits { (key : ℕ) → result ≡ Wakes.Wait key → ((self ≡ Wakes.Wait key)
+            × (other ≡ Wakes.Nobody)) ⊎ ((other ≡ Wakes.Wait key) × (self ≡ Wakes.Nobody)) }
+        ensures one { (key : ℕ) → result ≡ Wakes.One key → ((self ≡ Wakes.One key)
+            × (other ≡ Wakes.Nobody)) ⊎ ((other ≡ Wakes.One key) × (self ≡ Wakes.Nobody)) }
         ensures all { (self ≡ Wakes.All) ⊎ (other ≡ Wakes.All) → result ≡ Wakes.All }
     {
         match (self, other) {
@@ -127,8 +129,10 @@ pub trait Core: Drop {
     ghost starts: { (core : Self) → opens core → out core ≡ 0 };
 
     // Each step keeps the terms, and counts the places that go back and those that are handed out.
-    ghost counts: { (old : Self) (step : Self.Step) (reply : Self.Reply) (new : Self) → steps old step reply new
-        → (terms new ≡ terms old) × (out new + paid step reply ≡ out old + gained reply) × (out new ≤ size (terms new)) };
+    ghost counts: { (old : Self) (step : Self.Step) (reply : Self.Reply) (new : Self)
+        → steps old step reply new
+        → (terms new ≡ terms old) × (out new + paid step reply ≡ out old + gained reply)
+        × (out new ≤ size (terms new)) };
 }
 
 /// A share of one core. Only a latch gives replies of the core.
@@ -157,7 +161,8 @@ pub trait Latch<C: Core>: Sized + Drop {
     fn step(&self, step: C::Step) -> C::Reply
         requires admitted { C.admits step }
         requires unpaid { (reply : C.Reply) → C.paid step reply ≡ 0 }
-        requires ungained { (old : C) (reply : C.Reply) (new : C) → C.steps old step reply new → C.gained reply ≡ 0 }
+        requires ungained { (old : C) (reply : C.Reply) (new : C) → C.steps old step reply new
+            → C.gained reply ≡ 0 }
         ensures { gave self.now step result };
 
     /// Makes one step of the core, and returns its reply and a token of the places that the reply hands
@@ -165,9 +170,11 @@ pub trait Latch<C: Core>: Sized + Drop {
     fn wait(&self, step: C::Step, cx: &mut Context<'_>) -> (C::Reply, Token)
         requires admitted { C.admits step }
         requires unpaid { (reply : C.Reply) → C.paid step reply ≡ 0 }
+        // The reply is the core's, and the token has the places that it hands out.
         ensures gave { gave self.now step result.0 }
         ensures its { its self.now result.1 }
         ensures places { places result.1 ≡ C.gained result.0 }
+        // If the reply waits, the task is registered at each source of the latch, or asked for another poll.
         ensures armed { C.is_wait result.0 ≡ true → IsArmed cx.new }
         ensures heard { C.is_wait result.0 ≡ true → (s : ℕ) → source self.now s → Hears cx.new s }
         ensures kept { Keeps cx.old cx.new };
@@ -177,13 +184,17 @@ pub trait Latch<C: Core>: Sized + Drop {
     /// core's count of places that are held has those of `token`.
     fn give(&self, step: C::Step, token: Token) -> (C::Reply, Token)
         requires admitted { C.admits step }
+        // The step gives back no more places than the token has, and hands none out.
         requires paid { (reply : C.Reply) → C.paid step reply ≤ places token }
-        requires ungained { (old : C) (reply : C.Reply) (new : C) → C.steps old step reply new → C.gained reply ≡ 0 }
+        requires ungained { (old : C) (reply : C.Reply) (new : C) → C.steps old step reply new
+            → C.gained reply ≡ 0 }
         requires its { its self.now token }
+        // The reply is the core's, and the new token has the places that are left.
         ensures gave { gave self.now step result.0 }
         ensures its { its self.now result.1 }
         ensures places { places result.1 + C.paid step result.0 ≡ places token + C.gained result.0 }
-        ensures held { (old : C) × (new : C) × C.steps old step result.0 new × (places token ≤ C.out old) };
+        ensures held { (old : C) × (new : C) × C.steps old step result.0 new
+            × (places token ≤ C.out old) };
 
     /// Returns a token of no places.
     fn empty(&self) -> Token
@@ -202,9 +213,13 @@ pub trait Latch<C: Core>: Sized + Drop {
     /// latch. Returns an error if allocation fails.
     fn share(&self) -> Result<Self, AllocError>
         ensures shares { shares self.now result }
-        ensures same { IfOk result (λ other. (step : _) (reply : _) → gave other step reply → gave self.now step reply) }
-        ensures tokens { IfOk result (λ other. (terms other ≡ terms self.now) × ((token : TokenValue) → its other token → its self.now token) × ((token : TokenValue) → its self.now token → its other token)) };
+        ensures same { IfOk result
+            (λ other. (step : _) (reply : _) → gave other step reply → gave self.now step reply) }
+        ensures tokens { IfOk result (λ other. (terms other ≡ terms self.now)
+            × ((token : TokenValue) → its other token → its self.now token)
+            × ((token : TokenValue) → its self.now token → its other token)) };
 
     // Each reply belongs to a run of a core with these terms from an opening value.
-    ghost honest: { (latch : Self) (s : C.Step) (r : C.Reply) → gave latch s r → Came C.opens C.steps C.terms (terms latch) s r };
+    ghost honest: { (latch : Self) (s : C.Step) (r : C.Reply) → gave latch s r
+        → Came C.opens C.steps C.terms (terms latch) s r };
 }

@@ -85,7 +85,8 @@ where
         requires opening { K.opening ≡ Some core }
         requires opens { C.opens core }
         requires table { table ≡ K.table }
-        ensures { IfOk result (λ r. (vec_len r.1 ≡ count) × AllByRecursion (λ p. p ≡ []) r.1.items) }
+        ensures { IfOk result
+            (λ r. (vec_len r.1 ≡ count) × AllByRecursion (λ p. p ≡ []) r.1.items) }
     {
         let (cell, keeper) = table.into_parts();
         let (held, passes) = Held::open(alloc, blank, &cell, keeper, core, count)?;

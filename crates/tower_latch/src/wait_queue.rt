@@ -10,7 +10,7 @@ use tower_base::links::Links;
 
 /// The state of a waiter.
 #[derive(Clone, Copy, Debug, PartialEq, Eq)]
-pub enum Turn {
+pub enum WaitState {
     /// The waiter got its grant and left the queue. Its key has ended.
     Granted,
     /// The waiter still waits.
@@ -35,7 +35,7 @@ pub struct WaitQueue {
 }
 
 impl WaitQueue {
-    ghost use Rattle.tower_latch.specs.Turns.{Admits, Enters, Leaves, Looks, empty};
+    ghost use Rattle.tower_latch.specs.WaitList.{Admits, Enters, Leaves, Looks, empty};
     ghost use Rattle.tower_latch.specs.WaitQueue.{Follows, StandsFor, granted, room, size, stalls, touches, waiting};
     ghost use Rattle.tower_latch.specs.Wakes.{NamesAll, OneGoesOn, StallsOn};
 
@@ -93,22 +93,22 @@ impl WaitQueue {
     /// Returns the state of the waiter with this key. If it is granted, it leaves the queue, and its key
     /// ends.
     #[inline(always)]
-    pub fn look(&mut self, key: u64) -> Turn
+    pub fn look(&mut self, key: u64) -> WaitState
         ensures follows { Follows self.old (λ old new. Looks old key result new) self.new }
-        ensures stalls { result ≡ Turn.Waiting → stalls self.new key }
-        ensures told { stalls self.old key → result ≡ Turn.Waiting }
+        ensures stalls { result ≡ WaitState.Waiting → stalls self.new key }
+        ensures told { stalls self.old key → result ≡ WaitState.Waiting }
         ensures names { StallsOn stalls self.old self.new }
         ensures room { room self.new ≡ room self.old }
         ensures touches { touches self.new ≤ touches self.old + 4 }
     {
         if self.waiters.is_linked(key as usize) {
-            return Turn::Waiting;
+            return WaitState::Waiting;
         }
         let Some(()) = self.waiters.remove(key as usize) else {
-            return Turn::Unknown;
+            return WaitState::Unknown;
         };
         self.granted -= 1;
-        Turn::Granted
+        WaitState::Granted
     }
 
     /// Removes the waiter with this key, granted or not. If it had a grant, that goes to the next

@@ -18,7 +18,7 @@ use Rattle.futures.specs.declared.task.Poll.TheVariants.{Ready, Pending}
 use Rattle.indexmap.proofs.MapLemmas.{Missing-position, swap_remove-default}
 use Rattle.indexmap.proofs.SetLemmas.{map-swap_remove}
 use Rattle.indexmap.specs.IndexMap.{insert_entry, set_value_at, swap_remove_entry}
-use Rattle.tower_base.specs.Passes.{Goes, Passes}
+use Rattle.tower_base.specs.Iterations.{Iterates, Iterations}
 use Rattle.tower_base.specs.Projection.{RunInside}
 use Rattle.tower_base.specs.ProjectionLemmas.{joined, no_action, one_poll, one_call}
 use Rattle.tower_base.specs.ServiceRun.{Relations, relations, Action, Transition, Takes, ServiceRun}
@@ -30,15 +30,15 @@ use Rattle.tower_limit.specs.declared.discover.Change.{Change}
 use Rattle.tower_limit.specs.declared.discover.Change.TheVariants.{Insert, Remove}
 use Rattle.tower_pool.proofs.PendingLemmas.{apart_back, apart_cancel, apart_new, left_false, none_after, right_false}
 use Rattle.tower_pool.proofs.PlaceLemmas.{All-swap_remove}
-use Rattle.tower_pool.specs.Balance.{AfterChanges, AfterCheck, AfterFound, AfterPromotion, BalanceView, Called, ChangedAt, Chooses, CountedPass, IsReady, PassAt, PickedOf, Polled, PromotesAfter, Reads, ReadsAll, answer_of, evicted, pushed}
-use Rattle.tower_pool.specs.ReadyCache.{Apart, Called as CacheCalled, Checked, PendingView, ReadyCacheView, Settles, awaited, cancel, put_back, waiting, waits}
-use Rattle.tower_pool.specs.ReadyCachePoll.{ByAnswer, ByTest, EachAsked, PendingPolled}
+use Rattle.tower_pool.specs.Balance.{AfterChanges, AfterCheck, AfterFound, AfterPromotion, BalanceView, Called, ChangedAt, Chooses, CountedIteration, IsReady, IterationAt, PickedOf, Polled, PromotesAfter, Reads, ReadsAll, answer_of, evicted, pushed}
+use Rattle.tower_pool.specs.ReadyCache.{Apart, Called as CacheCalled, Checked, PendingView, ReadyCacheView, Settles, is_pending, cancel, put_back, pending_entry, is_entry_of}
+use Rattle.tower_pool.specs.ReadyCachePoll.{PollCases, IfThenElse, EachPolled, PendingPolled}
 use Rattle.tower_pool.specs.declared.balance.error.Error.{Error}
 use Rattle.tower_pool.specs.declared.ready_cache.error.Failed.{Failed}
 use Rattle.tower_pool.specs.declared.ready_cache.error.Error.{Error as CacheError}
 use Rattle.tower_pool.specs.declared.ready_cache.error.Error.TheVariants.{Failed as EndpointFailed, Memory as NoRoom}
 
--- an answer that ends no pass
+-- an answer that ends no iteration
 goes_on : {E X : Type 0} → (index : Option ℕ) (answer : Poll (Result (Unit {0}) (Error E X))) → answer_of {A = Result (Unit {0}) (Error E X)} index ≡ Some answer
     → (index ≡ None) × (answer ≡ Pending)
 goes_on None answer e = (refl, cc (e))
@@ -116,8 +116,8 @@ module _ {D R K S Q A E G M : Type 0} (X : Type 0) (eq : K → K → Bool) (s : 
     before : S
     ready : s.polled before (Ready (Ok tt)) service
 
-  -- the last pass of a poll that returns `Ok`
-  passed_ok : (kept : Option ℕ) (old new : BalanceView D R K S) → old.kept ≡ kept → PassAt {X = X} eq s loaded cmp drew kept old (Some (Ready (Ok tt))) new → Found_ready new
+  -- the last iteration of a poll that returns `Ok`
+  passed_ok : (kept : Option ℕ) (old new : BalanceView D R K S) → old.kept ≡ kept → IterationAt {X = X} eq s loaded cmp drew kept old (Some (Ready (Ok tt))) new → Found_ready new
   passed_ok None old new is h = absurd (let no = goes_on {E = E} {X = X} h.0 (Ready (Ok tt)) (sym h.3) in let f = no.1 in cc)
   passed_ok (Some i) old new is h = by h.0 h.2 h.3
     where
@@ -164,8 +164,8 @@ module _ {D R K S Q A E G M : Type 0} (X : Type 0) (eq : K → K → Bool) (s : 
       let index : h.0 ≡ Some i = sym (ap (λ (v : BalanceView D R K S). v.kept) h.4) ∙ kept in
       subst (λ (v : BalanceView D R K S). IsChosen loaded cmp drew v.services.ready v.rng i) (sym h.4) (picked loaded cmp drew old.services.ready old.services.ready old.rng h.0 h.1 i refl h.2 index)
 
-  -- a pass that is not the last
-  passes_on : (kept : Option ℕ) (old new : BalanceView D R K S) (i : ℕ) → PassAt {X = X} eq s loaded cmp drew kept old None new → new.kept ≡ Some i → IsChosen loaded cmp drew new.services.ready new.rng i
+  -- an iteration that is not the last
+  passes_on : (kept : Option ℕ) (old new : BalanceView D R K S) (i : ℕ) → IterationAt {X = X} eq s loaded cmp drew kept old None new → new.kept ≡ Some i → IsChosen loaded cmp drew new.services.ready new.rng i
   passes_on None old new i h at = chooses old new None i h at
   passes_on (Some j) old new i h at = by h.0 h.3
     where
@@ -178,8 +178,8 @@ module _ {D R K S Q A E G M : Type 0} (X : Type 0) (eq : K → K → Bool) (s : 
   abbrev Kept_from : BalanceView D R K S → BalanceView D R K S → ℕ → Type 0
   Kept_from old new i = (old.kept ≡ Some i) ⊎ IsChosen loaded cmp drew new.services.ready new.rng i
 
-  went : (n : ℕ) (old new : BalanceView D R K S × List (K × S)) (i : ℕ) → Goes (CountedPass {X = X} eq s loaded cmp drew) n old new → new.0.kept ≡ Some i → Kept_from old.0 new.0 i
-  unfolding Goes
+  went : (n : ℕ) (old new : BalanceView D R K S × List (K × S)) (i : ℕ) → Iterates (CountedIteration {X = X} eq s loaded cmp drew) n old new → new.0.kept ≡ Some i → Kept_from old.0 new.0 i
+  unfolding Iterates
   went zero old new i h at = inl (sym (ap (λ (v : BalanceView D R K S × List (K × S)). v.0.kept) h) ∙ at)
   went (suc n) old new i h at = inr (passes_on h.0.0.kept h.0.0 new.0 i h.2.0 at)
 
@@ -187,7 +187,7 @@ module _ {D R K S Q A E G M : Type 0} (X : Type 0) (eq : K → K → Bool) (s : 
   Keeps old new i = (old.kept ≡ Some i) ⊎ ((ready : List (K × S)) × (left : S) × (new.services.ready ≡ set_value_at ready i left) × IsChosen loaded cmp drew ready new.rng i)
 
   last_pass : (first : BalanceView D R K S) (kept : Option ℕ) (old new : BalanceView D R K S) (answer : Poll (Result (Unit {0}) (Error E X))) (i : ℕ) → old.kept ≡ kept
-      → ((j : ℕ) → old.kept ≡ Some j → Kept_from first old j) → PassAt {X = X} eq s loaded cmp drew kept old (Some answer) new → new.kept ≡ Some i → Keeps first new i
+      → ((j : ℕ) → old.kept ≡ Some j → Kept_from first old j) → IterationAt {X = X} eq s loaded cmp drew kept old (Some answer) new → new.kept ≡ Some i → Keeps first new i
   last_pass first None old new answer i is from h at =
       absurd (let no = goes_on {E = E} {X = X} h.0 answer (sym h.3) in let f : h.0 ≡ Some i = sym (ap (λ (v : BalanceView D R K S). v.kept) h.4) ∙ at in let g = no.0 in cc)
   last_pass first (Some j) old new answer i is from h at = by h.0 h.2 h.3
@@ -228,15 +228,15 @@ module _ {D R K S X : Type 0} (discovered : D → Found K S X → D → Type 0) 
   read_kept : (old : BalanceView D R K S) (answer : Option (Result (Unit {0}) (Error E X))) (new : BalanceView D R K S) → Reads discovered eq old answer new → new.kept ≡ old.kept
   read_kept old answer new h = found_kept (record old { discover = h.1 }) h.0 answer new h.3
 
-  went_kept : (n : ℕ) (old new : BalanceView D R K S) → Goes (Reads discovered eq {E = E}) n old new → new.kept ≡ old.kept
-  unfolding Goes
+  went_kept : (n : ℕ) (old new : BalanceView D R K S) → Iterates (Reads discovered eq {E = E}) n old new → new.kept ≡ old.kept
+  unfolding Iterates
   went_kept zero old new h = ap (λ (v : BalanceView D R K S). v.kept) h
   went_kept (suc n) old new h = read_kept h.0 None new h.2 ∙ went_kept n old h.0 h.1
 
   all_kept : (old : BalanceView D R K S) (answer : Result (Unit {0}) (Error E X)) (new : BalanceView D R K S) → ReadsAll discovered eq old answer new → new.kept ≡ old.kept
   all_kept old answer new h = by old.is_over h
     where
-      by : (over : Bool) → ByTest over ((answer ≡ Ok tt) × (new ≡ old)) (Passes (Reads discovered eq) (Ok tt) old answer new) → new.kept ≡ old.kept
+      by : (over : Bool) → IfThenElse over ((answer ≡ Ok tt) × (new ≡ old)) (Iterations (Reads discovered eq) (Ok tt) old answer new) → new.kept ≡ old.kept
       by true h = ap (λ (v : BalanceView D R K S). v.kept) h.1
       by false h = ⊎_elim (λ ends. read_kept h.last (Some answer) new ends.1 ∙ went_kept h.count old h.last h.went)
           (λ tired. ap (λ (v : BalanceView D R K S). v.kept) tired.2 ∙ went_kept h.count old h.last h.went) h.ends
@@ -328,15 +328,15 @@ module _ {K S : Type 0} (eq : K → K → Bool) (laws : IsEquivalence eq) (P : K
 
   -- the pending ones
   back : (ps : List (PendingView K S)) (k : K) (v : S) → P k v → All Asked ps → All Asked (put_back eq k v ps)
-  back ps k v here h = by (awaited eq k ps)
+  back ps k v here h = by (is_pending eq k ps)
     where
-      by : (b : Bool) → All Asked (if b then ps else ps ++ waiting k v ∷ [])
+      by : (b : Bool) → All Asked (if b then ps else ps ++ pending_entry k v ∷ [])
       by true = h
-      by false = All-append Asked ps (waiting k v ∷ []) h (All-cons Asked (waiting k v) [] (λ e. here) (All-nil Asked))
+      by false = All-append Asked ps (pending_entry k v ∷ []) h (All-cons Asked (pending_entry k v) [] (λ e. here) (All-nil Asked))
 
   marked : (k : K) (ps : List (PendingView K S)) → All Asked ps → All Asked (cancel eq k ps)
   marked k [] h = h
-  marked k (p ∷ ps) h = by (marked k ps (All-tail Asked p ps h)) (waits eq k p)
+  marked k (p ∷ ps) h = by (marked k ps (All-tail Asked p ps h)) (is_entry_of eq k p)
     where
       by : All Asked (cancel eq k ps) → (b : Bool) → All Asked (if b then (record p { cancelled = true }) ∷ ps else p ∷ cancel eq k ps)
       by rest true = All-cons Asked (record p { cancelled = true }) ps (λ e. absurd (true≢false e)) (All-tail Asked p ps h)
@@ -346,28 +346,28 @@ module _ {K S : Type 0} (eq : K → K → Bool) (laws : IsEquivalence eq) (P : K
   apart_without [] p rest h = h.1
   apart_without (q ∷ before) p rest h = (λ live. fewer (h.0 live), apart_without before p rest h.1)
     where
-      fewer : awaited eq q.key (before ++ p ∷ rest) ≡ false → awaited eq q.key (before ++ rest) ≡ false
+      fewer : is_pending eq q.key (before ++ p ∷ rest) ≡ false → is_pending eq q.key (before ++ rest) ≡ false
       fewer none =
-          let parts : (awaited eq q.key before || (waits eq q.key p || awaited eq q.key rest)) ≡ false = sym (list_any-append (waits eq q.key) before (p ∷ rest)) ∙ none in
-          let first = left_false (awaited eq q.key before) (waits eq q.key p || awaited eq q.key rest) parts in
-          let last = right_false (waits eq q.key p) (awaited eq q.key rest) (right_false (awaited eq q.key before) (waits eq q.key p || awaited eq q.key rest) parts) in
-          list_any-append (waits eq q.key) before rest ∙ (λ i. first i || last i)
+          let parts : (is_pending eq q.key before || (is_entry_of eq q.key p || is_pending eq q.key rest)) ≡ false = sym (list_any-append (is_entry_of eq q.key) before (p ∷ rest)) ∙ none in
+          let first = left_false (is_pending eq q.key before) (is_entry_of eq q.key p || is_pending eq q.key rest) parts in
+          let last = right_false (is_entry_of eq q.key p) (is_pending eq q.key rest) (right_false (is_pending eq q.key before) (is_entry_of eq q.key p || is_pending eq q.key rest) parts) in
+          list_any-append (is_entry_of eq q.key) before rest ∙ (λ i. first i || last i)
 
   apart_polled : (before : List (PendingView K S)) (p : PendingView K S) (left : S) (rest : List (PendingView K S)) → Apart eq (before ++ p ∷ rest)
       → Apart eq ((before ++ (record p { service = left }) ∷ []) ++ rest)
   apart_polled [] p left rest h = h
   apart_polled (q ∷ before) p left rest h = (λ live. same (h.0 live), apart_polled before p left rest h.1)
     where
-      same : awaited eq q.key (before ++ p ∷ rest) ≡ false → awaited eq q.key ((before ++ (record p { service = left }) ∷ []) ++ rest) ≡ false
+      same : is_pending eq q.key (before ++ p ∷ rest) ≡ false → is_pending eq q.key ((before ++ (record p { service = left }) ∷ []) ++ rest) ≡ false
       same none =
-          ap (awaited eq q.key) (append_assoc before ((record p { service = left }) ∷ []) rest)
-          ∙ list_any-append (waits eq q.key) before ((record p { service = left }) ∷ rest)
-          ∙ sym (list_any-append (waits eq q.key) before (p ∷ rest)) ∙ none
+          ap (is_pending eq q.key) (append_assoc before ((record p { service = left }) ∷ []) rest)
+          ∙ list_any-append (is_entry_of eq q.key) before ((record p { service = left }) ∷ rest)
+          ∙ sym (list_any-append (is_entry_of eq q.key) before (p ∷ rest)) ∙ none
 
   pushes : (old : ReadyCacheView K S) (k : K) (v : S) → P k v → Holds old → Holds (pushed eq old k v)
   pushes old k v here h = record {
     ready = h.ready;
-    pending = All-append Asked (cancel eq k old.pending) (waiting k v ∷ []) (marked k old.pending h.pending) (All-cons Asked (waiting k v) [] (λ e. here) (All-nil Asked));
+    pending = All-append Asked (cancel eq k old.pending) (pending_entry k v ∷ []) (marked k old.pending h.pending) (All-cons Asked (pending_entry k v) [] (λ e. here) (All-nil Asked));
     distinct = h.distinct;
     apart = apart_new eq laws k v old.pending h.apart;
   }
@@ -383,14 +383,14 @@ module _ {K S : Type 0} (eq : K → K → Bool) (laws : IsEquivalence eq) (P : K
 
   module _ {Q A E G : Type 0} (s : ServiceOf S Q A E G) (closed : (k : K) (old : S) (answer : Poll (Result (Unit {0}) E)) (new : S) → P k old → s.polled old answer new → P k new) where
     module _ (q : PendingView K S) (rest : List (PendingView K S)) (answer : Poll (Result (Unit {0}) (CacheError K E))) (new : ReadyCacheView K S)
-        (more : (before : List (PendingView K S)) (ready : List (K × S)) → EachAsked eq s before rest ready answer new → All Asked before → Each ready → IsDistinct eq (keys_of ready)
+        (more : (before : List (PendingView K S)) (ready : List (K × S)) → EachPolled eq s before rest ready answer new → All Asked before → Each ready → IsDistinct eq (keys_of ready)
         → Apart eq (before ++ rest) → Holds new)
         (before : List (PendingView K S)) (ready : List (K × S)) (b : All Asked before) (p : All Asked (q ∷ rest)) (r : Each ready) (d : IsDistinct eq (keys_of ready))
         (a : Apart eq (before ++ q ∷ rest)) where
-      answered : (inner : Poll (Result (Unit {0}) E)) (left : S) → P q.key left → ByAnswer inner
-          (EachAsked eq s before rest (insert_entry eq ready q.key left) answer new)
+      answered : (inner : Poll (Result (Unit {0}) E)) (left : S) → P q.key left → PollCases inner
+          (EachPolled eq s before rest (insert_entry eq ready q.key left) answer new)
           (λ e. (answer ≡ Ready (Err (EndpointFailed q.key e))) × (new ≡ record { ready = ready; pending = before ++ rest }))
-          (EachAsked eq s (before ++ (record q { service = left }) ∷ []) rest ready answer new) → Holds new
+          (EachPolled eq s (before ++ (record q { service = left }) ∷ []) rest ready answer new) → Holds new
       answered (Ready (Ok u)) left here h =
           more before (insert_entry eq ready q.key left) h b (inserted ready q.key left here r) (distinct_inserted ready q.key left d) (apart_without before q rest a)
       answered (Ready (Err e)) left here h = subst Holds (sym h.1) (record {
@@ -402,19 +402,19 @@ module _ {K S : Type 0} (eq : K → K → Bool) (laws : IsEquivalence eq) (P : K
       answered Pending left here h = more (before ++ (record q { service = left }) ∷ []) ready h
           (All-append Asked before ((record q { service = left }) ∷ []) b (All-cons Asked (record q { service = left }) [] (λ e. here) (All-nil Asked))) r d (apart_polled before q left rest a)
 
-      first_asked : (cancelled : Bool) → q.cancelled ≡ cancelled → ByTest cancelled (EachAsked eq s before rest ready answer new)
+      first_asked : (cancelled : Bool) → q.cancelled ≡ cancelled → IfThenElse cancelled (EachPolled eq s before rest ready answer new)
           (((answer ≡ Ready (Err NoRoom)) × (new ≡ record { ready = ready; pending = before ++ q ∷ rest }))
-          ⊎ ((inner : Poll (Result (Unit {0}) E)) × (left : S) × s.polled q.service inner left × ByAnswer inner
-          (EachAsked eq s before rest (insert_entry eq ready q.key left) answer new)
+          ⊎ ((inner : Poll (Result (Unit {0}) E)) × (left : S) × s.polled q.service inner left × PollCases inner
+          (EachPolled eq s before rest (insert_entry eq ready q.key left) answer new)
           (λ e. (answer ≡ Ready (Err (EndpointFailed q.key e))) × (new ≡ record { ready = ready; pending = before ++ rest }))
-          (EachAsked eq s (before ++ (record q { service = left }) ∷ []) rest ready answer new))) → Holds new
+          (EachPolled eq s (before ++ (record q { service = left }) ∷ []) rest ready answer new))) → Holds new
       first_asked true e h = more before ready h b r d (apart_without before q rest a)
       first_asked false e h = ⊎_elim
           (λ full. subst Holds (sym full.1) (record { ready = r; pending = All-append Asked before (q ∷ rest) b p; distinct = d; apart = a }))
           (λ polled. answered polled.0 polled.1 (closed q.key q.service polled.0 polled.1 (All-head Asked q rest p e) polled.2) polled.3) h
 
     asked : (pending before : List (PendingView K S)) (ready : List (K × S)) (answer : Poll (Result (Unit {0}) (CacheError K E))) (new : ReadyCacheView K S)
-        → EachAsked eq s before pending ready answer new → All Asked before → All Asked pending → Each ready → IsDistinct eq (keys_of ready) → Apart eq (before ++ pending) → Holds new
+        → EachPolled eq s before pending ready answer new → All Asked before → All Asked pending → Each ready → IsDistinct eq (keys_of ready) → Apart eq (before ++ pending) → Holds new
     asked [] before ready answer new h b p r d a = subst Holds (sym h.1) (record { ready = r; pending = b; distinct = d; apart = subst (Apart eq) (append-nil before) a })
     asked (q ∷ rest) before ready answer new h b p r d a =
         first_asked q rest answer new (λ earlier others h c r2 d2 a2. asked rest earlier others answer new h c (All-tail Asked q rest p) r2 d2 a2) before ready b p r d a q.cancelled refl h
@@ -466,13 +466,13 @@ module _ {K S : Type 0} (eq : K → K → Bool) (laws : IsEquivalence eq) (P : K
       after_check old i (Ok false) answer new h c = chooses_kept old answer new h c
       after_check old i (Err x) answer new h c = chooses_kept old answer new h c
 
-      passed : (kept : Option ℕ) (old : BalanceView D R K S) (answer : Option (Poll (Result (Unit {0}) (Error E X)))) (new : BalanceView D R K S) → PassAt eq s loaded cmp drew kept old answer new
+      passed : (kept : Option ℕ) (old : BalanceView D R K S) (answer : Option (Poll (Result (Unit {0}) (Error E X)))) (new : BalanceView D R K S) → IterationAt eq s loaded cmp drew kept old answer new
           → Kept at old → Kept at new
       passed None old answer new h c = chooses_kept old answer new h c
       passed (Some i) old answer new h c = after_check (record old { services = h.1 }) i h.0 answer new h.3 (record { services = checked old.services i h.0 h.1 h.2 c.services; change = c.change; same = c.same })
 
-      went_choosing : (n : ℕ) (old new : BalanceView D R K S × List (K × S)) → Goes (CountedPass {X = X} eq s loaded cmp drew) n old new → Kept at old.0 → Kept at new.0
-      unfolding Goes
+      went_choosing : (n : ℕ) (old new : BalanceView D R K S × List (K × S)) → Iterates (CountedIteration {X = X} eq s loaded cmp drew) n old new → Kept at old.0 → Kept at new.0
+      unfolding Iterates
       went_choosing zero old new h c = subst (λ (v : BalanceView D R K S × List (K × S)). Kept at v.0) (sym h) c
       went_choosing (suc n) old new h c = passed h.0.0.kept h.0.0 None new.0 h.2.0 (went_choosing n old h.0 h.1 c)
 
@@ -526,11 +526,11 @@ module _ {K S : Type 0} (eq : K → K → Bool) (laws : IsEquivalence eq) (P N :
               left.1,
             )
 
-    pending_left : (ps : List (PendingView K S)) → awaited eq key ps ≡ false → All (Asked eq laws P congr) ps → All (Asked eq laws N congr_now) ps
+    pending_left : (ps : List (PendingView K S)) → is_pending eq key ps ≡ false → All (Asked eq laws P congr) ps → All (Asked eq laws N congr_now) ps
     pending_left [] none h = All-nil (Asked eq laws N congr_now)
     pending_left (p ∷ ps) none h = All-cons (Asked eq laws N congr_now) p ps
-        (λ live. on p.key p.service (differs live (left_false (waits eq key p) (awaited eq key ps) none)) (All-head (Asked eq laws P congr) p ps h live))
-        (pending_left ps (right_false (waits eq key p) (awaited eq key ps) none) (All-tail (Asked eq laws P congr) p ps h))
+        (λ live. on p.key p.service (differs live (left_false (is_entry_of eq key p) (is_pending eq key ps) none)) (All-head (Asked eq laws P congr) p ps h live))
+        (pending_left ps (right_false (is_entry_of eq key p) (is_pending eq key ps) none) (All-tail (Asked eq laws P congr) p ps h))
       where
         differs : p.cancelled ≡ false → (not p.cancelled && eq key p.key) ≡ false → eq key p.key ≡ false
         differs live h = ap (λ b. not b && eq key p.key) (sym live) ∙ h
@@ -714,8 +714,8 @@ module _ {K S Q A E G : Type 0} (eq : K → K → Bool) (laws : IsEquivalence eq
     read old answer new none h c = settle h.1 new
         (found_came old.discover h.1 (record old { discover = h.1 }) c.found none refl c.finds c.came.services h.0 answer new h.2 h.3)
 
-    went_reading : (n : ℕ) (old new : BalanceView D R K S) → old.change ≡ None → Goes (Reads discovered eq {E = E}) n old new → Since old.discover old → Since new.discover new × (new.change ≡ None)
-    unfolding Goes
+    went_reading : (n : ℕ) (old new : BalanceView D R K S) → old.change ≡ None → Iterates (Reads discovered eq {E = E}) n old new → Since old.discover old → Since new.discover new × (new.change ≡ None)
+    unfolding Iterates
     went_reading zero old new none h c =
         (subst (λ (v : BalanceView D R K S). Since v.discover v) (sym h) c, ap (λ (v : BalanceView D R K S). v.change) h ∙ none)
     went_reading (suc n) old new none h c =
@@ -726,7 +726,7 @@ module _ {K S Q A E G : Type 0} (eq : K → K → Bool) (laws : IsEquivalence eq
         → Since old.discover old → Since new.discover new
     all_read old answer new none h c = by old.is_over h
       where
-        by : (over : Bool) → ByTest over ((answer ≡ Ok tt) × (new ≡ old)) (Passes (Reads discovered eq) (Ok tt) old answer new) → Since new.discover new
+        by : (over : Bool) → IfThenElse over ((answer ≡ Ok tt) × (new ≡ old)) (Iterations (Reads discovered eq) (Ok tt) old answer new) → Since new.discover new
         by true h = subst (λ (v : BalanceView D R K S). Since v.discover v) (sym h.1) c
         by false h =
             let before = went_reading h.count old h.last none h.went c in

@@ -10,11 +10,11 @@ use Rattle.futures.specs.declared.task.Poll.TheVariants.{Pending}
 use Rattle.tower_base.specs.declared.service.Service.{Ghosts as ServiceOf}
 use Rattle.tower_buffer.proofs.Orders.{poll_orderly}
 use Rattle.tower_buffer.specs.Worker.{WorkerView, Stepped}
-use Rattle.tower_base.specs.Passes.{Goes}
-use Rattle.tower_buffer.specs.WorkerOrder.{Book, Works, Orderly, OrderlyPass, book_of}
+use Rattle.tower_base.specs.Iterations.{Iterates}
+use Rattle.tower_buffer.specs.WorkerOrder.{Book, WorkerSteps, Orderly, OrderlyIteration, book_of}
 use Rattle.tower_laws.specs.Responses.{PendingFor}
 use Rattle.tower_laws.specs.Buffer.{InOrder, WorkerSettlesEach, without, failed, lost, waits_after, given_after, error_after, waiting, given, first_error, TakesFirst, TellsWhatWasGiven, asks_place, TellsFirstError, HoldOfMail, InEachRun, InEachHistory}
-use Rattle.tower_buffer.specs.Mail.{At, Clears, Entry, SentMessage, Mail, MailSteps, NoneQueued, NoneWith, OldestAt, Settles, Tells, abandoned, blank, left_by}
+use Rattle.tower_buffer.specs.Mail.{At, Clears, Entry, SentMessage, Mail, MailSteps, NoneQueued, NoneWith, OldestAt, Settles, Tells, abandoned, initial, left_by}
 use Rattle.tower_buffer.specs.Mailbox.{Opens, StandsFor}
 use Rattle.tower_buffer.specs.declared.buffer.message.Fate.{Fate}
 use Rattle.tower_buffer.specs.declared.buffer.message.Fate.TheVariants.{Open, Answered, Failed as HasFailed, Cancelled, Lost as WasLost}
@@ -618,7 +618,7 @@ module _ {Q F E : Type 0} where
       runs_told (waits_after w step.0 step.1) (λ id. given_after id (g id) step.0 step.1) (error_after x step.0 step.1) run.0 steps new run.2
       (steps_told w g x old step.0 step.1 run.0 run.1 h)
 
-  at_first : (bound : ℕ) → Told [] (λ id. None) None (part (blank bound))
+  at_first : (bound : ℕ) → Told [] (λ id. None) None (part (initial bound))
   at_first bound = record {
     once = λ p q a b at there same. absurd (cc);
     waits = refl;
@@ -627,9 +627,9 @@ module _ {Q F E : Type 0} where
     closed = λ e k. absurd (cc);
   }
 
-  after_all : (bound : ℕ) (past : List (MailStep Q F E × MailReply Q F E)) (mail : Mail Q F E) → Serves MailSteps (blank bound) past mail
+  after_all : (bound : ℕ) (past : List (MailStep Q F E × MailReply Q F E)) (mail : Mail Q F E) → Serves MailSteps (initial bound) past mail
       → Told (waiting [] past) (λ id. given id None past) (first_error None past) (part mail)
-  after_all bound past mail run = runs_told [] (λ id. None) None (blank bound) past mail run (at_first bound)
+  after_all bound past mail run = runs_told [] (λ id. None) None (initial bound) past mail run (at_first bound)
 
   -- the three statements of one step
   takes_first : (past : List (MailStep Q F E × MailReply Q F E)) (old new : Mail Q F E) (step : MailStep Q F E) (reply : MailReply Q F E)
@@ -772,8 +772,8 @@ module _ {Q F E : Type 0} where
 
   in_each_history : (P : List (MailStep Q F E × MailReply Q F E) → MailStep Q F E → MailReply Q F E → Type 0) → InEachRun P → InEachHistory P
   in_each_history P each bound box opening history held is legal place step reply at =
-      let run = plain_run Opens StandsFor MailSteps box (blank bound) opening history held is legal in
-      let here = serves_at MailSteps (blank bound) run.0 history place step reply run.1 at in
+      let run = plain_run Opens StandsFor MailSteps box (initial bound) opening history held is legal in
+      let here = serves_at MailSteps (initial bound) run.0 history place step reply run.1 at in
       each bound (take place history) here.0 here.1 step reply here.2 here.3
 
   both : (P : List (MailStep Q F E × MailReply Q F E) → MailStep Q F E → MailReply Q F E → Type 0) → Follows P → HoldOfMail P
@@ -790,20 +790,20 @@ module _ {Q F E : Type 0} where
 
 -- The worker keeps to its order over all its polls.
 module _ {L S Q A E F : Type 0} (gave : L → MailStep Q F E → MailReply Q F E → Type 0) (s : ServiceOf S Q A E F) where
-  further : (latch : L) (n m : ℕ) (old mid new : Book) → Works gave latch n old mid → Works gave latch m mid new → (k : ℕ) × Works gave latch k old new
-  further latch n zero old mid new v w = (n, subst (Works gave latch n old) (sym w) v)
+  further : (latch : L) (n m : ℕ) (old mid new : Book) → WorkerSteps gave latch n old mid → WorkerSteps gave latch m mid new → (k : ℕ) × WorkerSteps gave latch k old new
+  further latch n zero old mid new v w = (n, subst (WorkerSteps gave latch n old) (sym w) v)
   further latch n (suc m) old mid new v w = let r = further latch n m old mid w.0 v w.1 in (suc r.0, (w.0, r.1, w.2))
 
   joined : (old mid new : WorkerView L S Q) → InOrder gave old mid → InOrder gave mid new → InOrder gave old new
   joined old mid new a b =
-      let c = subst (λ (l : L). (n : ℕ) × Works gave l n (book_of mid) (book_of new)) a.0 b.1 in
+      let c = subst (λ (l : L). (n : ℕ) × WorkerSteps gave l n (book_of mid) (book_of new)) a.0 b.1 in
       (b.0 ∙ a.0, further old.latch a.1.0 c.0 _ _ _ a.1.1 c.1)
 
-  passed : (old : WorkerView L S Q) (answer : Option (Poll (Unit {0}))) (new : WorkerView L S Q) → OrderlyPass gave old answer new → InOrder gave old new
+  passed : (old : WorkerView L S Q) (answer : Option (Poll (Unit {0}))) (new : WorkerView L S Q) → OrderlyIteration gave old answer new → InOrder gave old new
   passed old answer new p = (p.same, (p.steps, p.works))
 
-  went : (n : ℕ) (old new : WorkerView L S Q) → Goes (OrderlyPass gave) n old new → InOrder gave old new
-  unfolding Goes
+  went : (n : ℕ) (old new : WorkerView L S Q) → Iterates (OrderlyIteration gave) n old new → InOrder gave old new
+  unfolding Iterates
   went zero old new here = subst (InOrder gave old) (sym here) (refl, (zero, refl))
   went (suc n) old new (mid, before, pass) = joined old mid new (went n old mid before) (passed mid None new pass)
 

@@ -9,7 +9,7 @@ use Rattle.tower_laws.specs.ConcurrencyLimit.{Holds, PollsKeep, ResponsesHold}
 use Rattle.tower_laws.specs.Limited.{IsOver}
 use Rattle.tower_laws.specs.LimitedLemmas.{calls, polls}
 use Rattle.tower_laws.specs.Runs.{futures}
-use Rattle.tower_limit.specs.Concurrency.{Called, ConcurrencyLimitView, IsOf, PermitView, Polled, ResponseFutureView, SemaphoreView, idle}
+use Rattle.tower_limit.specs.Concurrency.{Called, ConcurrencyLimitView, IsOf, PermitView, Polled, ResponseFutureView, SemaphoreView, initial}
 use Rattle.tower_limit.specs.declared.limit.concurrency.error.Error.{Error}
 use Rattle.tower_limit.specs.declared.limit.concurrency.line_core.LineCore.{LineCore}
 use Rattle.tower_limit.specs.declared.limit.concurrency.line_core.LineStep.{LineStep}
@@ -34,7 +34,7 @@ module _ {L : Type 0} (l : LatchOf L LineCore LineStep LineReply ℕ) (semaphore
 
 module _ {L : Type 0} (l : LatchOf L LineCore LineStep LineReply ℕ) {S Q A E F : Type 0} (s : ServiceOf S Q A E F) where
   pub responses_hold : ResponsesHold l (limit_of l s)
-  responses_hold semaphore inner last run runs = each l semaphore s (idle inner semaphore) last run runs (record { asks = λ token its. its; permit = tt })
+  responses_hold semaphore inner last run runs = each l semaphore s (initial inner semaphore) last run runs (record { asks = λ token its. its; permit = tt })
 
 module _ {L : Type 0} (l : LatchOf L LineCore LineStep LineReply ℕ) {A E F : Type 0} (f : StepsOf F (Result A E)) where
   pub polls_keep : PollsKeep l f

@@ -24,13 +24,13 @@ use Rattle.tower_limit.specs.declared.hedge.rotating_histogram.steps.HistoReply.
 use Rattle.tower_retry.specs.Delay.{DelayView, Called as DelayCalled, Stepped as DelayStepped}
 use Rattle.tower_retry.specs.Hedge.{HedgeView, RecordedView, Checked as PolicyChecked, Stepped as HedgeStepped, flat}
 use Rattle.tower_retry.specs.HedgeCheck.{CheckStepped}
-use Rattle.tower_retry.specs.HedgePolicies.{AfterCopy, Copied, Delayed, DelayPolicyView, SelectPolicyView}
+use Rattle.tower_retry.specs.HedgePolicies.{AfterCopy, Copied, DelayComputed, DelayPolicyView, SelectPolicyView}
 use Rattle.tower_retry.specs.Latency.{ResponseFutureView as LatencyFuture}
 use Rattle.tower_retry.specs.Select.{ResponseFutureView as SelectFuture, SecondCalled, Called as SelectCalled, Stepped as SelectStepped}
 use Rattle.tower_retry.specs.declared.hedge.check.CheckState.{CheckState}
 use Rattle.tower_retry.specs.declared.hedge.check.CheckState.TheVariants.{Passed, Given, Waiting}
 use Rattle.tower_retry.specs.declared.hedge.delay.error.Error.{Error as DelayError}
-use Rattle.tower_retry.specs.declared.hedge.delay.error.Error.TheVariants.{Inner as DelayedError, Memory as NoDelayed}
+use Rattle.tower_retry.specs.declared.hedge.delay.error.Error.TheVariants.{Inner as DelayInner, Memory as DelayMemory}
 use Rattle.tower_retry.specs.declared.hedge.delay.policy.Policy.{Ghosts as DelayPolicyOf}
 use Rattle.tower_retry.specs.declared.hedge.delay.state.State.{State as DelayState}
 use Rattle.tower_retry.specs.declared.hedge.error.Error.{Error}
@@ -94,7 +94,7 @@ module _ {S P L C Q A E F : Type 0} (N : Type 0) (s : ServiceOf S Q A E F) (step
         → s.ready old.service × s.called old.service request future.inner new.service
     pub rec_stepped : (old : RecordedFuture) (answer : Poll (Result A E)) (new : RecordedFuture) → rec_steps.stepped old answer new → stepped old.inner answer new.inner
     pub rec_cloned : (old new : Recorded) → rec_clone.is_clone old new → service_clone old.service new.service
-    pub asked : (old : P) (request : Q) (future : CheckState Q N) (new : P) → u.asked old request future new → PolicyChecked p old request future new
+    pub check_made : (old : P) (request : Q) (future : CheckState Q N) (new : P) → u.checked old request future new → PolicyChecked p old request future new
     pub checked : (old : CheckState Q N) (answer : Poll (Result Q Infallible)) (new : CheckState Q N) → check.stepped old answer new → CheckStepped old answer new
     pub fil_polled : (old : Filtered) (answer : Poll (Result (Unit {0}) Fails)) (new : Filtered) → fil.polled old answer new → FilterPolled rec old answer new
     pub fil_called : (old : Filtered) (request : Q) (future : FilteredFuture) (new : Filtered) → fil.called old request future new
@@ -102,7 +102,7 @@ module _ {S P L C Q A E F : Type 0} (N : Type 0) (s : ServiceOf S Q A E F) (step
     pub fil_steps : (old : FilteredFuture) (answer : Poll (Result A Fails)) (new : FilteredFuture) → fil_stepped old answer new
         → AsyncResponseFutureStepped rec rec_steps check old answer new
     pub fil_cloned : (old new : Filtered) → fil_clone.is_clone old new → rec_clone.is_clone old.inner new.inner × policy_clone old.predicate new.predicate
-    pub delayed : (old : DelayPolicyView L C) (request : Q) (delay : ℕ) (new : DelayPolicyView L C) → named.delayed old request delay new → Delayed gave c old request delay new
+    pub delayed : (old : DelayPolicyView L C) (request : Q) (delay : ℕ) (new : DelayPolicyView L C) → named.delayed old request delay new → DelayComputed gave c old request delay new
     pub copied : (old : SelectPolicyView P L C) (request : Q) (copy : Option Q) (new : SelectPolicyView P L C) → copies.cloned old request copy new
         → Copied p gave c old request copy new
 
@@ -174,7 +174,7 @@ module _ {S P L C Q A E F : Type 0} (N : Type 0) (s : ServiceOf S Q A E F) (step
         let is = here.0 in
         let allowed = asked.checks.0 in
         let same = asked.checks.1 in
-        (refl, cc (is, same), subst (λ (b : Bool). p.allowed policy request b) allowed asked.asked)
+        (refl, cc (is, same), subst (λ (b : Bool). p.allowed policy request b) allowed asked.decided)
     passes (suc polls) policy request (Passed kept) left given asked (next, step, rest) =
         let here = nest.checked (Passed kept) Pending next step in absurd (let is = here.0 in cc)
     passes polls policy request Given left given asked comes = absurd asked.checks
@@ -195,7 +195,7 @@ module _ {S P L C Q A E F : Type 0} (N : Type 0) (s : ServiceOf S Q A E F) (step
     pending_check (suc polls) policy request (Passed kept) left asked (next, step, rest) =
         let here = nest.checked (Passed kept) Pending next step in absurd (let is = here.0 in cc)
     pending_check (suc polls) policy request Given left asked comes = absurd asked.checks
-    pending_check (suc polls) policy request (Waiting never) left asked comes = inr (subst (λ (b : Bool). p.allowed policy request b) asked.checks asked.asked)
+    pending_check (suc polls) policy request (Waiting never) left asked comes = inr (subst (λ (b : Bool). p.allowed policy request b) asked.checks asked.decided)
 
     -- what comes of the second side, in the errors of the delay
     abbrev Goes : HedgeView S P L C → HedgeView S P L C → Q → ℕ → Option (Result A (DelayError Fails)) → Type 0
@@ -232,7 +232,7 @@ module _ {S P L C Q A E F : Type 0} (N : Type 0) (s : ServiceOf S Q A E F) (step
 
     -- the answers of the filter, as those of the delay
     abbrev Of : Option (Result A Fails) → Option (Result A (Error E))
-    Of answer = wrapped (λ e. flat (Second e)) (wrapped DelayedError answer)
+    Of answer = wrapped (λ e. flat (Second e)) (wrapped DelayInner answer)
 
     of_none : (answer : Option (Result A Fails)) → answer ≡ None → Of answer ≡ None
     of_none answer e = ap Of e
@@ -249,7 +249,7 @@ module _ {S P L C Q A E F : Type 0} (N : Type 0) (s : ServiceOf S Q A E F) (step
     at_once_of polls answer (at, inl none) = (at, inl (of_none answer none))
     at_once_of polls answer (at, inr some) = (at, inr (ap Of some))
 
-    no_memory : (polls : ℕ) (output : Option (Result A (DelayError Fails))) → AtOnce (Err NoDelayed) polls output → AtOnce (Err Memory) polls (wrapped (λ e. flat (Second e)) output)
+    no_memory : (polls : ℕ) (output : Option (Result A (DelayError Fails))) → AtOnce (Err DelayMemory) polls output → AtOnce (Err Memory) polls (wrapped (λ e. flat (Second e)) output)
     no_memory polls output (at, inl none) = (at, inl (nothing (λ e. flat (Second e)) output none))
     no_memory polls output (at, inr some) = (at, inr (ap (λ (o : Option (Result A (DelayError Fails))). wrapped (λ e. flat (Second e)) o) some))
 
@@ -269,10 +269,10 @@ module _ {S P L C Q A E F : Type 0} (N : Type 0) (s : ServiceOf S Q A E F) (step
         (λ pends. ⊎_elim
         (λ none. inl (not_yet polls before rest clone.inner.service ready.inner.service sum none found.0, of_none answer pends.1))
         (λ not. goes (inr (inl (subst (λ (v : P). p.allowed v copy false) found.1 not, of_none answer pends.1))))
-        (pending_check rest ready.predicate copy asks.0 call.left.predicate (nest.asked ready.predicate copy asks.0 call.left.predicate asks.1) pends.0))
+        (pending_check rest ready.predicate copy asks.0 call.left.predicate (nest.check_made ready.predicate copy asks.0 call.left.predicate asks.1) pends.0))
         (λ ends. ⊎_elim (λ rejected. absurd (elim rejected.0 [ ]))
         (λ passed.
-        let at = passes passed.0 ready.predicate copy asks.0 call.left.predicate passed.3 (nest.asked ready.predicate copy asks.0 call.left.predicate asks.1) passed.4 in
+        let at = passes passed.0 ready.predicate copy asks.0 call.left.predicate passed.3 (nest.check_made ready.predicate copy asks.0 call.left.predicate asks.1) passed.4 in
         let inside = called_inside ready.inner passed.3 passed.6.response passed.6.left passed.1 passed.5 passed.6.called passed.6.comes in
         let same : rest ≡ passed.1 = only_after rest passed.0 passed.1 passed.2 at.0 in
         goes (inr (inr (

@@ -4,7 +4,7 @@ use Rattle.std.proofs.lemmas.List.Elements.{All-append, All-cons, All-head, All-
 use Rattle.std.proofs.lemmas.List.Sums.{sum_by-append}
 use Rattle.futures.specs.declared.task.Poll.{Poll}
 use Rattle.futures.specs.declared.task.Poll.TheVariants.{Ready, Pending}
-use Rattle.tower_base.specs.Drive.{State, Step, Run, Polls, slot_after, opening}
+use Rattle.tower_base.specs.Drive.{State, Step, Run, Polls, slot_after, initial}
 use Rattle.tower_base.specs.ServiceRun.{relations}
 use Rattle.tower_base.specs.declared.drive.Entry.{Entry}
 use Rattle.tower_base.specs.declared.drive.Entry.TheVariants.{Polled, Called, Answered, Dropped as DroppedEntry, Turned, Skipped}
@@ -73,9 +73,9 @@ module _ {L : Type 0} (l : LatchOf L LineCore LineStep LineReply ℕ) {S Q A E F
   runs old new (event ∷ events) [] h held = absurd h
 
   pub held_after : (service : S) (outside : O) (events : List (Event Q T)) (entries : List (Entry A E U)) (last : State S F O) → over semaphore service
-      → Run s stepped turned (opening service outside) events entries last → AllHold l inside semaphore last.futures
+      → Run s stepped turned (initial service outside) events entries last → AllHold l inside semaphore last.futures
   held_after service outside events entries last here run =
-      (runs (opening service outside) last events entries run (record { service = here; futures = All-nil SlotHolds })).futures
+      (runs (initial service outside) last events entries run (record { service = here; futures = All-nil SlotHolds })).futures
 
 module _ {L : Type 0} (l : LatchOf L LineCore LineStep LineReply ℕ) {S Q A E F G T U O : Type 0} (s : ServiceOf S Q A E F)
     (stepped : F → Poll (Result A E) → F → Type 0) (turned : O → T → U → O → Type 0) (over : SemaphoreView L → S → Type 0)

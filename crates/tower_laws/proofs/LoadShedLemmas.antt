@@ -9,7 +9,7 @@ use Rattle.tower_base.specs.declared.service.Steps.{Ghosts as StepsOf}
 use Rattle.tower_laws.proofs.Responses.{Forwards, carries, at_once}
 use Rattle.tower_laws.specs.LoadShed.{ReachIfReady, CallsReachIfReady, AnswersOrSheds}
 use Rattle.tower_laws.specs.Runs.{actions}
-use Rattle.tower_ware.specs.LoadShed.{LoadShedView, IsReady, Polled, Called, Stepped, new_of, flag_of}
+use Rattle.tower_ware.specs.LoadShed.{LoadShedView, IsReady, Polled, Called, Stepped, initial, flag_of}
 use Rattle.tower_ware.specs.declared.load_shed.error.Error.{Error}
 use Rattle.tower_ware.specs.declared.load_shed.error.Error.TheVariants.{Inner, Overloaded}
 
@@ -55,7 +55,7 @@ module _ {S Q A E F : Type 0} (s : ServiceOf S Q A E F) where
   went (first ∷ rest) old new runs = goes old first.left new.inner first.action (actions rest) runs.0 (went rest first.left new runs.1)
 
   pub calls_reach : CallsReachIfReady shed_of s
-  calls_reach inner last run runs = let inside = went run (new_of inner) last runs in (inside.transitions, inside.run, inside.reach)
+  calls_reach inner last run runs = let inside = went run (initial inner) last runs in (inside.transitions, inside.run, inside.reach)
 
 module _ {A E F : Type 0} (f : StepsOf F (Result A E)) where
   forwards : Forwards f.stepped (Stepped f) Inner (λ (response : F). Some response)

@@ -19,8 +19,8 @@ use Rattle.tower_base.specs.declared.service.Service.{Ghosts as ServiceOf}
 use Rattle.tower_laws.specs.ReadyCache.{Call, Does, Ends, NoKeyIsLost, PushedIsThere, has}
 use Rattle.tower_pool.proofs.KeptLemmas.{known_written}
 use Rattle.tower_pool.specs.Balance.{evicted, pushed}
-use Rattle.tower_pool.specs.ReadyCache.{Called, Checked, CheckedKey, PendingView, ReadyCacheView, Settles, awaited, cancel, place, put_back, waiting, waits}
-use Rattle.tower_pool.specs.ReadyCachePoll.{ByAnswer, ByTest, EachAsked, PendingPolled}
+use Rattle.tower_pool.specs.ReadyCache.{Called, Checked, CheckedKey, PendingView, ReadyCacheView, Settles, is_pending, cancel, place, put_back, pending_entry, is_entry_of}
+use Rattle.tower_pool.specs.ReadyCachePoll.{PollCases, IfThenElse, EachPolled, PendingPolled}
 use Rattle.tower_pool.specs.declared.ready_cache.error.Failed.{Failed as Failure}
 use Rattle.tower_pool.specs.declared.ready_cache.error.Error.{Error}
 use Rattle.tower_pool.specs.declared.ready_cache.error.Error.TheVariants.{Failed, Memory}
@@ -101,32 +101,32 @@ module _ {K S : Type 0} (eq : K → K → Bool) (laws : IsEquivalence eq) (k : K
 
   -- the key has a pending endpoint
   abbrev waits_in : List (PendingView K S) → Bool
-  waits_in ps = awaited eq k ps
+  waits_in ps = is_pending eq k ps
 
   back_there : (key : K) (v : S) (ps : List (PendingView K S)) → waits_in ps ≡ true → waits_in (put_back eq key v ps) ≡ true
-  back_there key v ps h = by (awaited eq key ps)
+  back_there key v ps h = by (is_pending eq key ps)
     where
-      by : (b : Bool) → waits_in (if b then ps else ps ++ waiting key v ∷ []) ≡ true
+      by : (b : Bool) → waits_in (if b then ps else ps ++ pending_entry key v ∷ []) ≡ true
       by true = h
-      by false = list_any-append (waits eq k) ps (waiting key v ∷ []) ∙ or_left (waits_in ps) (waits_in (waiting key v ∷ [])) h
+      by false = list_any-append (is_entry_of eq k) ps (pending_entry key v ∷ []) ∙ or_left (waits_in ps) (waits_in (pending_entry key v ∷ [])) h
 
-  alike : (key : K) (ps : List (PendingView K S)) → eq k key ≡ true → awaited eq key ps ≡ true → waits_in ps ≡ true
+  alike : (key : K) (ps : List (PendingView K S)) → eq k key ≡ true → is_pending eq key ps ≡ true → waits_in ps ≡ true
   alike key [] same h = h
   alike key (p ∷ ps) same h = ⊎_elim
-      (λ here. or_left (waits eq k p) (waits_in ps) (ap (λ b. not p.cancelled && b) (laws.congr k key p.key same ∙ refl) ∙ here))
-      (λ rest. or_right (waits eq k p) (waits_in ps) (alike key ps same rest)) (either (waits eq key p) (awaited eq key ps) h)
+      (λ here. or_left (is_entry_of eq k p) (waits_in ps) (ap (λ b. not p.cancelled && b) (laws.congr k key p.key same ∙ refl) ∙ here))
+      (λ rest. or_right (is_entry_of eq k p) (waits_in ps) (alike key ps same rest)) (either (is_entry_of eq key p) (is_pending eq key ps) h)
 
   back_new : (key : K) (v : S) (ps : List (PendingView K S)) → eq k key ≡ true → waits_in (put_back eq key v ps) ≡ true
-  back_new key v ps same = by (awaited eq key ps) refl
+  back_new key v ps same = by (is_pending eq key ps) refl
     where
-      by : (b : Bool) → awaited eq key ps ≡ b → waits_in (if b then ps else ps ++ waiting key v ∷ []) ≡ true
+      by : (b : Bool) → is_pending eq key ps ≡ b → waits_in (if b then ps else ps ++ pending_entry key v ∷ []) ≡ true
       by true there = alike key ps same there
-      by false none = list_any-append (waits eq k) ps (waiting key v ∷ []) ∙ or_right (waits_in ps) (waits_in (waiting key v ∷ [])) (or_left (eq k key) false same)
+      by false none = list_any-append (is_entry_of eq k) ps (pending_entry key v ∷ []) ∙ or_right (waits_in ps) (waits_in (pending_entry key v ∷ [])) (or_left (eq k key) false same)
 
   abbrev marked : K → PendingView K S → List (PendingView K S) → Bool → Bool → Type 0
   marked key p ps c b = waits_in (if not c && b then (record p { cancelled = true }) ∷ ps else p ∷ cancel eq key ps) ≡ true
 
-  not_this : (key : K) (p : PendingView K S) → eq k key ≡ false → eq key p.key ≡ true → waits eq k p ≡ false
+  not_this : (key : K) (p : PendingView K S) → eq k key ≡ false → eq key p.key ≡ true → is_entry_of eq k p ≡ false
   not_this key p other e = ap (λ b. not p.cancelled && b) no ∙ and_no p.cancelled
     where
       no : eq k p.key ≡ false
@@ -142,13 +142,13 @@ module _ {K S : Type 0} (eq : K → K → Bool) (laws : IsEquivalence eq) (k : K
   others_stay key (p ∷ ps) other h = by (others_stay key ps other) p.cancelled refl (eq key p.key) refl
     where
       kept : (waits_in ps ≡ true → waits_in (cancel eq key ps) ≡ true) → waits_in (p ∷ cancel eq key ps) ≡ true
-      kept rest = ⊎_elim (λ here. or_left (waits eq k p) (waits_in (cancel eq key ps)) here) (λ r. or_right (waits eq k p) (waits_in (cancel eq key ps)) (rest r)) (either (waits eq k p) (waits_in ps) h)
+      kept rest = ⊎_elim (λ here. or_left (is_entry_of eq k p) (waits_in (cancel eq key ps)) here) (λ r. or_right (is_entry_of eq k p) (waits_in (cancel eq key ps)) (rest r)) (either (is_entry_of eq k p) (waits_in ps) h)
 
       by : (waits_in ps ≡ true → waits_in (cancel eq key ps) ≡ true) → (c : Bool) → p.cancelled ≡ c → (b : Bool) → eq key p.key ≡ b → marked key p ps p.cancelled (eq key p.key)
       by rest true c b e = subst (λ x. marked key p ps x (eq key p.key)) (sym c) (kept rest)
       by rest false c false e = subst (λ x. marked key p ps x (eq key p.key)) (sym c) (subst (marked key p ps false) (sym e) (kept rest))
       by rest false c true e = subst (λ x. marked key p ps x (eq key p.key)) (sym c) (subst (marked key p ps false) (sym e) (⊎_elim
-          (λ here. absurd (true≢false (sym here ∙ not_this key p other e))) (λ r. r) (either (waits eq k p) (waits_in ps) h)))
+          (λ here. absurd (true≢false (sym here ∙ not_this key p other e))) (λ r. r) (either (is_entry_of eq k p) (waits_in ps) h)))
 
   -- the key has an endpoint
   abbrev Has : ReadyCacheView K S → Type 0
@@ -161,17 +161,17 @@ module _ {K S : Type 0} (eq : K → K → Bool) (laws : IsEquivalence eq) (k : K
   splits cache h = either (is_ready cache.ready) (waits_in cache.pending) h
 
   pushes : (old : ReadyCacheView K S) (key : K) (v : S) → Has old → Has (pushed eq old key v)
-  pushes old key v h = makes old.ready (cancel eq key old.pending ++ waiting key v ∷ []) (⊎_elim
+  pushes old key v h = makes old.ready (cancel eq key old.pending ++ pending_entry key v ∷ []) (⊎_elim
       (λ r. inl r)
-      (λ w. inr (list_any-append (waits eq k) (cancel eq key old.pending) (waiting key v ∷ []) ∙ ⊎_elim
-      (λ same. or_right (waits_in (cancel eq key old.pending)) (waits_in (waiting key v ∷ [])) (or_left (eq k key) false same))
-      (λ other. or_left (waits_in (cancel eq key old.pending)) (waits_in (waiting key v ∷ [])) (others_stay key old.pending other w))
+      (λ w. inr (list_any-append (is_entry_of eq k) (cancel eq key old.pending) (pending_entry key v ∷ []) ∙ ⊎_elim
+      (λ same. or_right (waits_in (cancel eq key old.pending)) (waits_in (pending_entry key v ∷ [])) (or_left (eq k key) false same))
+      (λ other. or_left (waits_in (cancel eq key old.pending)) (waits_in (pending_entry key v ∷ [])) (others_stay key old.pending other w))
       (tests (eq k key))))
       (splits old h))
 
   pub pushed_there : (old : ReadyCacheView K S) (v : S) → Has (pushed eq old k v)
-  pushed_there old v = makes old.ready (cancel eq k old.pending ++ waiting k v ∷ []) (inr (list_any-append (waits eq k) (cancel eq k old.pending) (waiting k v ∷ [])
-      ∙ or_right (waits_in (cancel eq k old.pending)) (waits_in (waiting k v ∷ [])) (or_left (eq k k) false (laws.refl k))))
+  pushed_there old v = makes old.ready (cancel eq k old.pending ++ pending_entry k v ∷ []) (inr (list_any-append (is_entry_of eq k) (cancel eq k old.pending) (pending_entry k v ∷ [])
+      ∙ or_right (waits_in (cancel eq k old.pending)) (waits_in (pending_entry k v ∷ [])) (or_left (eq k k) false (laws.refl k))))
 
   -- those of other keys stay when one is evicted
   evicts : (es : List (K × S)) (key : K) → eq k key ≡ false → is_ready es ≡ true → is_ready (swap_remove_entry (eq key) es) ≡ true
@@ -241,18 +241,18 @@ module _ {K S Q A E G : Type 0} (eq : K → K → Bool) (laws : IsEquivalence eq
     Somewhere before rest ready = (is_ready eq laws k ready ≡ true) ⊎ ((waits_in eq laws k before ≡ true) ⊎ (waits_in eq laws k rest ≡ true))
 
     ends_with : (before rest : List (PendingView K S)) (ready : List (K × S)) → Somewhere before rest ready → There (record { ready = ready; pending = before ++ rest })
-    ends_with before rest ready h = makes eq laws k ready (before ++ rest) (⊎_elim (λ r. inl r) (λ w. inr (list_any-append (waits eq k) before rest ∙ ⊎_elim
+    ends_with before rest ready h = makes eq laws k ready (before ++ rest) (⊎_elim (λ r. inl r) (λ w. inr (list_any-append (is_entry_of eq k) before rest ∙ ⊎_elim
         (λ b. or_left (waits_in eq laws k before) (waits_in eq laws k rest) b) (λ r. or_right (waits_in eq laws k before) (waits_in eq laws k rest) r) w)) h)
 
     -- the first of the rest is of the key, or it is elsewhere
-    first_of : (p : PendingView K S) (before rest : List (PendingView K S)) (ready : List (K × S)) → Somewhere before (p ∷ rest) ready → (waits eq k p ≡ true) ⊎ Somewhere before rest ready
+    first_of : (p : PendingView K S) (before rest : List (PendingView K S)) (ready : List (K × S)) → Somewhere before (p ∷ rest) ready → (is_entry_of eq k p ≡ true) ⊎ Somewhere before rest ready
     first_of p before rest ready h = ⊎_elim (λ r. inr (inl r)) (λ w. ⊎_elim (λ b. inr (inr (inl b)))
-        (λ here. ⊎_elim (λ first. inl first) (λ more. inr (inr (inr more))) (either (waits eq k p) (waits_in eq laws k rest) here)) w) h
+        (λ here. ⊎_elim (λ first. inl first) (λ more. inr (inr (inr more))) (either (is_entry_of eq k p) (waits_in eq laws k rest) here)) w) h
 
-    live : (p : PendingView K S) → waits eq k p ≡ true → p.cancelled ≡ true → ⊥
+    live : (p : PendingView K S) → is_entry_of eq k p ≡ true → p.cancelled ≡ true → ⊥
     live p w c = true≢false (sym w ∙ ap (λ b. not b && eq k p.key) c)
 
-    of_key : (p : PendingView K S) → waits eq k p ≡ true → eq k p.key ≡ true
+    of_key : (p : PendingView K S) → is_entry_of eq k p ≡ true → eq k p.key ≡ true
     of_key p w = by p.cancelled w
       where
         by : (c : Bool) → (not c && eq k p.key) ≡ true → eq k p.key ≡ true
@@ -260,34 +260,34 @@ module _ {K S Q A E G : Type 0} (eq : K → K → Bool) (laws : IsEquivalence eq
         by false h = h
 
     module _ (p : PendingView K S) (before rest : List (PendingView K S)) (ready : List (K × S)) (somewhere : Somewhere before (p ∷ rest) ready)
-        (more : (earlier : List (PendingView K S)) (others : List (K × S)) → EachAsked eq s earlier rest others answer new → Somewhere earlier rest others → There new) where
-      first : (waits eq k p ≡ true) ⊎ Somewhere before rest ready
+        (more : (earlier : List (PendingView K S)) (others : List (K × S)) → EachPolled eq s earlier rest others answer new → Somewhere earlier rest others → There new) where
+      first : (is_entry_of eq k p ≡ true) ⊎ Somewhere before rest ready
       first = first_of p before rest ready somewhere
 
-      answered : (inner : Poll (Result (Unit {0}) E)) (left : S) → ByAnswer inner (EachAsked eq s before rest (insert_entry eq ready p.key left) answer new)
+      answered : (inner : Poll (Result (Unit {0}) E)) (left : S) → PollCases inner (EachPolled eq s before rest (insert_entry eq ready p.key left) answer new)
           (λ e. (answer ≡ Ready (Err (Failed p.key e))) × (new ≡ record { ready = ready; pending = before ++ rest }))
-          (EachAsked eq s (before ++ (record p { service = left }) ∷ []) rest ready answer new) → There new
+          (EachPolled eq s (before ++ (record p { service = left }) ∷ []) rest ready answer new) → There new
       answered (Ready (Ok u)) left h = more before (insert_entry eq ready p.key left) h (⊎_elim
           (λ here. inl (inserted_new eq laws k ready p.key left (of_key p here)))
           (λ away. ⊎_elim (λ r. inl (inserted_there eq laws k ready p.key left r)) (λ w. inr w) away) first)
       answered (Ready (Err e)) left h = ⊎_elim (λ here. absurd (subst OtherPolled h.0 other (of_key p here)))
           (λ away. subst There (sym h.1) (ends_with before rest ready away)) first
       answered Pending left h = more (before ++ (record p { service = left }) ∷ []) ready h (⊎_elim
-          (λ here. inr (inl (list_any-append (waits eq k) before ((record p { service = left }) ∷ []) ∙ or_right (waits_in eq laws k before) (waits eq k p || false) (or_left (waits eq k p) false here))))
+          (λ here. inr (inl (list_any-append (is_entry_of eq k) before ((record p { service = left }) ∷ []) ∙ or_right (waits_in eq laws k before) (is_entry_of eq k p || false) (or_left (is_entry_of eq k p) false here))))
           (λ away. ⊎_elim (λ r. inl r) (λ w. ⊎_elim
-          (λ b. inr (inl (list_any-append (waits eq k) before ((record p { service = left }) ∷ []) ∙ or_left (waits_in eq laws k before) (waits eq k p || false) b)))
+          (λ b. inr (inl (list_any-append (is_entry_of eq k) before ((record p { service = left }) ∷ []) ∙ or_left (waits_in eq laws k before) (is_entry_of eq k p || false) b)))
           (λ r. inr (inr r)) w) away) first)
 
-      asks_first : (c : Bool) → p.cancelled ≡ c → ByTest c (EachAsked eq s before rest ready answer new)
+      asks_first : (c : Bool) → p.cancelled ≡ c → IfThenElse c (EachPolled eq s before rest ready answer new)
           (((answer ≡ Ready (Err Memory)) × (new ≡ record { ready = ready; pending = before ++ p ∷ rest }))
-          ⊎ ((inner : Poll (Result (Unit {0}) E)) × (left : S) × s.polled p.service inner left × ByAnswer inner
-          (EachAsked eq s before rest (insert_entry eq ready p.key left) answer new)
+          ⊎ ((inner : Poll (Result (Unit {0}) E)) × (left : S) × s.polled p.service inner left × PollCases inner
+          (EachPolled eq s before rest (insert_entry eq ready p.key left) answer new)
           (λ e. (answer ≡ Ready (Err (Failed p.key e))) × (new ≡ record { ready = ready; pending = before ++ rest }))
-          (EachAsked eq s (before ++ (record p { service = left }) ∷ []) rest ready answer new))) → There new
+          (EachPolled eq s (before ++ (record p { service = left }) ∷ []) rest ready answer new))) → There new
       asks_first true c h = more before ready h (⊎_elim (λ here. absurd (live p here c)) (λ away. away) first)
       asks_first false c h = ⊎_elim (λ full. subst There (sym full.1) (ends_with before (p ∷ rest) ready somewhere)) (λ polled. answered polled.0 polled.1 polled.3) h
 
-    asks : (rest before : List (PendingView K S)) (ready : List (K × S)) → EachAsked eq s before rest ready answer new → Somewhere before rest ready → There new
+    asks : (rest before : List (PendingView K S)) (ready : List (K × S)) → EachPolled eq s before rest ready answer new → Somewhere before rest ready → There new
     asks [] before ready h somewhere = subst There (sym h.1) (makes eq laws k ready before (⊎_elim (λ r. inl r) (λ w. ⊎_elim (λ b. inr b) (λ none. absurd (true≢false (sym none))) w) somewhere))
     asks (p ∷ rest) before ready h somewhere =
         asks_first p before rest ready somewhere (λ earlier others g there. asks rest earlier others g there) p.cancelled refl h

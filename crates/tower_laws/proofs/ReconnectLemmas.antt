@@ -3,13 +3,13 @@ use Rattle.std.proofs.Common.{◌≡◌, ◌⊎◌, ◌<◌, ℕ, zero, suc, inl
 use Rattle.std.specs.declared.clone.Clone.{Ghosts as CloneOf}
 use Rattle.futures.specs.declared.task.Poll.{Poll}
 use Rattle.futures.specs.declared.task.Poll.TheVariants.{Ready, Pending}
-use Rattle.tower_base.specs.Passes.{Goes, limit}
+use Rattle.tower_base.specs.Iterations.{Iterates, limit}
 use Rattle.tower_base.specs.ServiceRun.{Action, Transition, Takes, ServiceRun}
 use Rattle.tower_base.specs.declared.service.Service.{Ghosts as ServiceOf}
 use Rattle.tower_base.specs.declared.service.Steps.{Ghosts as StepsOf}
 use Rattle.tower_laws.proofs.Responses.{Forwards, carries, at_once}
-use Rattle.tower_laws.specs.Reconnect.{GoesThere, NextCallFails, OnlyLastFails, RepliesGive, Turn, failure_at, failure_in, newest, reconnect_of}
-use Rattle.tower_ware.specs.Reconnect.{ReconnectView, Answer, AfterMaker, AfterReadiness, PassAt, Pass, Polled, CalledAt, Stepped}
+use Rattle.tower_laws.specs.Reconnect.{GoesThere, NextCallFails, OnlyLastFails, RepliesGive, ErrorMoves, failure_at, failure_in, newest, reconnect_of}
+use Rattle.tower_ware.specs.Reconnect.{ReconnectView, Answer, AfterMaker, AfterReadiness, IterationAt, Iteration, Polled, CalledAt, Stepped}
 use Rattle.tower_ware.specs.declared.reconnect.error.Error.{Error}
 use Rattle.tower_ware.specs.declared.reconnect.error.Error.TheVariants.{Inner, Make}
 use Rattle.tower_ware.specs.declared.reconnect.state.Reply.{Reply}
@@ -37,8 +37,8 @@ module _ {M T S F ME Q A E G : Type 0} (m : ServiceOf M T S ME F) (connect : Ste
   after_readiness old left (Ready (Ok x)) answer new h = ap (λ (v : View). v.error) h.1
   after_readiness old left (Ready (Err e)) answer new h = ap (λ (v : View). v.error) h.1
 
-  -- the kept error after a pass
-  tells : (state : State F S) (old : View) (answer : Given) (new : View) (pass : PassAt m connect s clones state old answer new)
+  -- the kept error after an iteration
+  tells : (state : State F S) (old : View) (answer : Given) (new : View) (pass : IterationAt m connect s clones state old answer new)
       → new.error ≡ newest (failure_at m connect s clones state old answer new pass) old.error
   tells Idle old answer new (readiness, polled, step, after) = after_maker old polled readiness answer new after
   tells (Connecting f) old answer new (Pending, left, step, after) = ap (λ (v : View). v.error) after.1
@@ -46,7 +46,7 @@ module _ {M T S F ME Q A E G : Type 0} (m : ServiceOf M T S ME F) (connect : Ste
   tells (Connecting f) old answer new (Ready (Err e), left, step, after) = ap (λ (v : View). v.error) after.1
   tells (Connected service) old answer new (readiness, left, step, after) = after_readiness old left readiness answer new after
 
-  quiet : (state : State F S) (old new : View) (pass : PassAt m connect s clones state old None new) → failure_at m connect s clones state old None new pass ≡ None
+  quiet : (state : State F S) (old new : View) (pass : IterationAt m connect s clones state old None new) → failure_at m connect s clones state old None new pass ≡ None
   quiet Idle old new pass = refl
   quiet (Connecting f) old new (Pending, left, step, after) = refl
   quiet (Connecting f) old new (Ready (Ok service), left, step, after) = refl
@@ -56,15 +56,15 @@ module _ {M T S F ME Q A E G : Type 0} (m : ServiceOf M T S ME F) (connect : Ste
   pub only_last_fails : OnlyLastFails m connect s clones
   only_last_fails old new pass = quiet old.state old new pass
 
-  -- passes without an answer preserve the kept error
-  went : (n : ℕ) (old new : View) → Goes (Pass m connect s clones) n old new → new.error ≡ old.error
-  unfolding Goes
+  -- iterations without an answer preserve the kept error
+  went : (n : ℕ) (old new : View) → Iterates (Iteration m connect s clones) n old new → new.error ≡ old.error
+  unfolding Iterates
   went zero old new h = ap (λ (v : View). v.error) h
   went (suc n) old new (mid, before, pass) =
       (tells mid.state mid None new pass ∙ ap (λ (e : Option ME). newest e mid.error) (quiet mid.state mid new pass)) ∙ went n old mid before
 
   ended : (old last : View) (answer : Poll (Result (Unit {0}) (Error E ME))) (new : View) (count : ℕ) → last.error ≡ old.error
-      → (ends : ((count < limit) × Pass m connect s clones last (Some answer) new) ⊎ ((count ≡ limit) × (answer ≡ Pending) × (new ≡ last)))
+      → (ends : ((count < limit) × Iteration m connect s clones last (Some answer) new) ⊎ ((count ≡ limit) × (answer ≡ Pending) × (new ≡ last)))
       → new.error ≡ newest (⊎_elim (λ ends. failure_at m connect s clones last.state last (Some answer) new ends.1) (λ tired. None) ends) old.error
   ended old last answer new count same (inl (below, pass)) =
       tells last.state last (Some answer) new pass ∙ ap (λ (e : Option ME). newest (failure_at m connect s clones last.state last (Some answer) new pass) e) same
@@ -77,7 +77,7 @@ module _ {M T S F ME Q A E G : Type 0} (m : ServiceOf M T S ME F) (connect : Ste
   module _ {R : Type 0} (view : R → View) where
     abbrev Turned : R → Action Q (Error E ME) (Reply G ME) → R → Type 0
     Turned old action new = (takes : Takes (reconnect_of m connect s clones view) old action new)
-        → Turn m connect s clones view old action new takes (view old).error (view new).error
+        → ErrorMoves m connect s clones view old action new takes (view old).error (view new).error
 
     abbrev Replied : Option ME → View → Q → Reply G ME → View → Type 0
     Replied (Some e) old request reply new = (reply ≡ Failed (Some e)) × (new.error ≡ None)
@@ -108,7 +108,7 @@ module _ {M T S F ME Q A E G : Type 0} (m : ServiceOf M T S ME F) (connect : Ste
     call_turns : (old : R) (request : Q) (reply : Reply G ME) (new : R) (takes : Takes (reconnect_of m connect s clones view) old (Action.call request reply) new)
         → (error : Option ME) → (view old).error ≡ error
         → Replied error (view old) request reply (view new)
-        → Turn m connect s clones view old (Action.call request reply) new takes error (view new).error
+        → ErrorMoves m connect s clones view old (Action.call request reply) new takes error (view new).error
     call_turns old request reply new takes (Some e) is h = h
     call_turns old request reply new takes None is h = (h.0, h.1 ∙ is)
 

@@ -5,9 +5,9 @@ use Rattle.futures.specs.declared.task.Poll.{Poll}
 use Rattle.futures.specs.declared.task.Poll.TheVariants.{Ready, Pending}
 use Rattle.tower_base.specs.ServiceRun.{relations, Action, Makes, requests}
 use Rattle.tower_base.specs.declared.service.Service.{Ghosts as ServiceOf}
-use Rattle.tower_laws.specs.Retry.{AnswersCountCalls, OneMore, asked, asked_again, is_retry}
+use Rattle.tower_laws.specs.Retry.{AnswersCountCalls, OneMore, requested, requested_again, is_retry}
 use Rattle.tower_retry.proofs.RetryLemmas.{gives_answers}
-use Rattle.tower_retry.specs.RetryAttempts.{Attempt, Attempted, Ends, ReadyAfter, Retries, Word, NotKept, NoRetry, RetryAfter}
+use Rattle.tower_retry.specs.RetryAttempts.{Attempt, Attempted, Ends, ReadyAfter, Retries, Decision, NotKept, NoRetry, RetryAfter}
 use Rattle.tower_retry.specs.declared.retry.error.Error.{Error}
 use Rattle.tower_retry.specs.declared.retry.state.Attempts.{Attempts}
 use Rattle.tower_retry.specs.declared.retry.policy.Policy.{Ghosts as PolicyOf}
@@ -22,19 +22,19 @@ module _ {P S Q A E F W : Type 0} (s : ServiceOf S Q A E F) (stepped : F → Pol
   polled_last zero old new error polled = (old, polled)
   polled_last (suc polls) old new error (next, polled, rest) = polled_last polls next new error rest
 
-  ends_count : (word : Word W) (old : View) (result : Result A E) (request : Q) (output : Result A (Error E)) → Ends s stepped p waited word old result output
-      → OneMore s stepped p waited (record { request = request; result = result; word = word } ∷ []) output
+  ends_count : (decision : Decision W) (old : View) (result : Result A E) (request : Q) (output : Result A (Error E)) → Ends s stepped p waited decision old result output
+      → OneMore s stepped p waited (record { request = request; result = result; decision = decision } ∷ []) output
   ends_count NotKept old result request output ends = inl refl
   ends_count NoRetry old result request output ends = inl refl
   ends_count (RetryAfter wait) old result request output (error, left, was, is) =
       let last = polled_last was.polls old.service left.service error was.readiness in inr (refl, (error, last.0, left.service, last.1, is))
 
-  retries_count : (word : Word W) (old : View) (attempt : Attempt Q A E W) (rest : List (Attempt Q A E W)) (again : Q) (new : View) (output : Result A (Error E)) → attempt.word ≡ word
-      → Retries s stepped p waited word old attempt.result again new → OneMore s stepped p waited rest output → OneMore s stepped p waited (attempt ∷ rest) output
+  retries_count : (decision : Decision W) (old : View) (attempt : Attempt Q A E W) (rest : List (Attempt Q A E W)) (again : Q) (new : View) (output : Result A (Error E)) → attempt.decision ≡ decision
+      → Retries s stepped p waited decision old attempt.result again new → OneMore s stepped p waited rest output → OneMore s stepped p waited (attempt ∷ rest) output
   retries_count NotKept old attempt rest again new output same none more = absurd none
   retries_count NoRetry old attempt rest again new output same none more = absurd none
   retries_count (RetryAfter wait) old attempt rest again new output same retry more =
-      let one : is_retry attempt.word ≡ 1 = ap (λ (w : Word W). is_retry w) same in
+      let one : is_retry attempt.decision ≡ 1 = ap (λ (w : Decision W). is_retry w) same in
       ⊎_elim (λ count. inl (omega arith)) (λ count. inr (omega arith, count.1)) more
 
   -- polls of readiness, and then this run
@@ -46,7 +46,7 @@ module _ {P S Q A E F W : Type 0} (s : ServiceOf S Q A E F) (stepped : F → Pol
       let later = after_polls polls next mid answer made new rest more in
       record { transitions = record { action = Action.poll Pending; left = next } ∷ later.transitions; run = (polled, later.run); same = later.same }
 
-  retried : (word : Word W) (old : View) (result : Result A E) (request : Q) (new : View) (made : List Q) (last : S) → Retries s stepped p waited word old result request new
+  retried : (decision : Decision W) (old : View) (result : Result A E) (request : Q) (new : View) (made : List Q) (last : S) → Retries s stepped p waited decision old result request new
       → Makes (relations s) new.service made last → Makes (relations s) old.service (request ∷ made) last
   retried NotKept old result request new made last none more = absurd none
   retried NoRetry old result request new made last none more = absurd none
@@ -59,7 +59,7 @@ module _ {P S Q A E F W : Type 0} (s : ServiceOf S Q A E F) (stepped : F → Pol
       })
 
   abbrev Counted : List (Attempt Q A E W) → View → Result A (Error E) → Type 0
-  Counted attempts first output = OneMore s stepped p waited attempts output × ((last : S) × Makes (relations s) first.service (asked_again attempts) last)
+  Counted attempts first output = OneMore s stepped p waited attempts output × ((last : S) × Makes (relations s) first.service (requested_again attempts) last)
 
   none_again : (service : S) → Makes (relations s) service [] service
   none_again service = record { transitions = []; run = refl; same = refl }
@@ -67,15 +67,15 @@ module _ {P S Q A E F W : Type 0} (s : ServiceOf S Q A E F) (stepped : F → Pol
   counted : (attempts : List (Attempt Q A E W)) (request : Q) (first : View) (output : Result A (Error E)) → Attempted s stepped p waited attempts request first output
       → Counted attempts first output
   counted [] request first output none = absurd none
-  counted (last ∷ []) request first output (tried, ends) = (ends_count last.word first last.result last.request output ends, (first.service, none_again first.service))
+  counted (last ∷ []) request first output (tried, ends) = (ends_count last.decision first last.result last.request output ends, (first.service, none_again first.service))
   counted (attempt ∷ next ∷ rest) request first output (tried, (again, new, retry, more)) =
       let later = counted (next ∷ rest) again new output more in
       let made : next.request ≡ again = made_next rest next again new output more in (
-        retries_count attempt.word first attempt (next ∷ rest) again new output refl retry later.0,
+        retries_count attempt.decision first attempt (next ∷ rest) again new output refl retry later.0,
         (
           later.1.0,
-          subst (λ (q : Q). Makes (relations s) first.service (q ∷ asked rest) later.1.0) (sym made)
-              (retried attempt.word first attempt.result again new (asked rest) later.1.0 retry later.1.1),
+          subst (λ (q : Q). Makes (relations s) first.service (q ∷ requested rest) later.1.0) (sym made)
+              (retried attempt.decision first attempt.result again new (requested rest) later.1.0 retry later.1.1),
         ),
       )
     where

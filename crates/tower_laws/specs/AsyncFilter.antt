@@ -26,4 +26,4 @@ module _ {S Q A E F P C : Type 0} (s : ServiceOf S Q A E F) (f : StepsOf F (Resu
   ChecksFirst {U} {R} clones u = (old new : FilterView S U) (request : R) (future : AsyncState C S F) (polls : ℕ) (output : Option (Result A (Error E P)))
       → AsyncFilterCalled s clones u old request future new → Comes (AsyncResponseFutureStepped s f c) polls future output
       → ((new ≡ old) × ¬ (clones.is_infallible old.inner) × AtOnce (Err Memory) polls output)
-      ⊎ ((check : C) × u.asked old.predicate request check new.predicate × clones.is_clone old.inner new.inner × Checked old.inner check polls output)
+      ⊎ ((check : C) × u.checked old.predicate request check new.predicate × clones.is_clone old.inner new.inner × Checked old.inner check polls output)

@@ -4,7 +4,7 @@ use Rattle.std.specs.List.{AllZip}
 use Rattle.tower_base.specs.Sleep.{SleepView}
 use Rattle.tower_base.specs.declared.service.Clock.{Ghosts as ClockOf}
 use Rattle.tower_base.specs.declared.util.rng.Rng.{Ghosts as RngOf}
-use Rattle.tower_retry.specs.Backoff.{Begins, ExponentialBackoffMakerView, ExponentialBackoffView, maker_of}
+use Rattle.tower_retry.specs.Backoff.{Begins, ExponentialBackoffMakerView, ExponentialBackoffView, new_maker}
 
 -- so many waits, of which the first is given, and each other is twice the one before, at most the greatest
 abbrev pub doubling : ℕ → ℕ → ℕ → List ℕ
@@ -52,4 +52,4 @@ module _ {R C : Type 0} (r : RngOf R) (c : ClockOf C) where
 
 -- The least wait of a maker that was made isn't above the greatest.
 abbrev pub MakersFit : Type 0 → Type 0 → Type 0
-MakersFit R C = (parts made : ExponentialBackoffMakerView R C) → maker_of parts ≡ Ok made → made.least ≤ made.most
+MakersFit R C = (parts made : ExponentialBackoffMakerView R C) → new_maker parts ≡ Ok made → made.least ≤ made.most

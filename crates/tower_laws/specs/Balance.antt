@@ -12,7 +12,7 @@ use Rattle.tower_base.specs.declared.service.Service.{Ghosts as ServiceOf}
 use Rattle.tower_limit.specs.Discover.{Found}
 use Rattle.tower_limit.specs.declared.discover.Change.{Change}
 use Rattle.tower_limit.specs.declared.discover.Change.TheVariants.{Insert, Remove}
-use Rattle.tower_pool.specs.Balance.{BalanceView, fresh}
+use Rattle.tower_pool.specs.Balance.{BalanceView, initial}
 use Rattle.tower_pool.specs.ReadyCache.{At, PendingView}
 use Rattle.tower_pool.specs.declared.balance.error.Error.{Error}
 
@@ -75,7 +75,7 @@ module _ {D R K S Q A E G X M B : Type 0} (balance : Relations B Q (Error E X) (
 
   -- So came each endpoint, ready, or pending and not cancelled, by the changes that were read since the balancer was made.
   abbrev pub EndpointsCame : Type 0
-  EndpointsCame = (discover : D) (rng : R) (made last : B) (run : List (Transition B Q (Error E X) (Option G))) → view made ≡ fresh discover rng → ServiceRun balance made run last
+  EndpointsCame = (discover : D) (rng : R) (made last : B) (run : List (Transition B Q (Error E X) (Option G))) → view made ≡ initial discover rng → ServiceRun balance made run last
       → (found : List (Found K S X)) × Finds discovered discover found (view last).discover
       × All (λ (e : K × S). Came eq s (changes found) e.0 e.1) (view last).services.ready
       × All (λ (p : PendingView K S). p.cancelled ≡ false → Came eq s (changes found) p.key p.service) (view last).services.pending

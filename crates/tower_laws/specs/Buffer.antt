@@ -5,10 +5,10 @@ use Rattle.tower_latch.specs.History.{IsLegal}
 use Rattle.tower_latch.specs.Latch.{Serves, StepsAs}
 use Rattle.tower_base.specs.declared.service.Service.{Ghosts as ServiceOf}
 use Rattle.tower_laws.specs.Responses.{PendingFor}
-use Rattle.tower_buffer.specs.Mail.{Mail, MailSteps, blank}
+use Rattle.tower_buffer.specs.Mail.{Mail, MailSteps, initial}
 use Rattle.tower_buffer.specs.Mailbox.{Opens, StandsFor}
 use Rattle.tower_buffer.specs.Worker.{WorkerView, Stepped}
-use Rattle.tower_buffer.specs.WorkerOrder.{Works, book_of}
+use Rattle.tower_buffer.specs.WorkerOrder.{WorkerSteps, book_of}
 use Rattle.tower_buffer.specs.declared.buffer.message.Fate.{Fate}
 use Rattle.tower_buffer.specs.declared.buffer.message.Fate.TheVariants.{Open, Answered, Failed as HasFailed, Lost as WasLost}
 use Rattle.tower_buffer.specs.declared.buffer.mail.MailStep.{MailStep}
@@ -101,14 +101,14 @@ module _ {Q F E : Type 0} where
   TellsFirstError past step reply = ((error : E) → reply ≡ Failed error → first_error None past ≡ Some error)
       × ((error : E) → asks_place step ≡ true → first_error None past ≡ Some error → (reply ≡ Failed error) ⊎ (reply ≡ Memory))
 
-  -- P holds of each step with its reply, and of the steps before it: in each run from blank mail.
+  -- P holds of each step with its reply, and of the steps before it: in each run from initial mail.
   abbrev pub InEachRun : (List (MailStep Q F E × MailReply Q F E) → MailStep Q F E → MailReply Q F E → Type 0) → Type 0
   InEachRun P = (bound : ℕ) (past : List (MailStep Q F E × MailReply Q F E)) (mail next : Mail Q F E) (step : MailStep Q F E) (reply : MailReply Q F E)
-      → Serves MailSteps (blank bound) past mail → MailSteps mail step reply next → P past step reply
+      → Serves MailSteps (initial bound) past mail → MailSteps mail step reply next → P past step reply
 
   -- The same in each history of mail that ran under a log.
   abbrev pub InEachHistory : (List (MailStep Q F E × MailReply Q F E) → MailStep Q F E → MailReply Q F E → Type 0) → Type 0
-  InEachHistory P = (bound : ℕ) (box : Mailbox Q F E) (opening : Option (Mailbox Q F E)) (history : List (MailStep Q F E × MailReply Q F E)) → StandsFor box (blank bound)
+  InEachHistory P = (bound : ℕ) (box : Mailbox Q F E) (opening : Option (Mailbox Q F E)) (history : List (MailStep Q F E × MailReply Q F E)) → StandsFor box (initial bound)
       → opening ≡ Some box → IsLegal Opens (StepsAs StandsFor MailSteps) opening history → (place : ℕ) (step : MailStep Q F E) (reply : MailReply Q F E)
       → slice_get history place ≡ Some (step, reply) → P (take place history) step reply
 
@@ -117,7 +117,7 @@ module _ {Q F E : Type 0} where
 
 -- Some steps in a worker's order lead from one worker to the other, at one latch.
 abbrev pub InOrder : {L S Q E F : Type 0} → (L → MailStep Q F E → MailReply Q F E → Type 0) → WorkerView L S Q → WorkerView L S Q → Type 0
-InOrder gave old new = (new.latch ≡ old.latch) × ((n : ℕ) × Works gave old.latch n (book_of old) (book_of new))
+InOrder gave old new = (new.latch ≡ old.latch) × ((n : ℕ) × WorkerSteps gave old.latch n (book_of old) (book_of new))
 
 -- Over all its polls a worker takes a message only once the last one has its outcome, or nobody waits for it. After a failure of its service each
 -- message that it takes gets the stored error.

@@ -9,7 +9,7 @@ use Rattle.tower_limit.specs.RotatingHistogram.{Counted}
 use Rattle.tower_limit.specs.declared.hedge.rotating_histogram.steps.HistoStep.{HistoStep}
 use Rattle.tower_limit.specs.declared.hedge.rotating_histogram.steps.HistoReply.{HistoReply}
 use Rattle.tower_retry.specs.Hedge.{HedgeView}
-use Rattle.tower_retry.specs.HedgePolicies.{Delayed}
+use Rattle.tower_retry.specs.HedgePolicies.{DelayComputed}
 use Rattle.tower_retry.specs.declared.hedge.error.Error.{Error}
 use Rattle.tower_retry.specs.declared.hedge.error.Error.TheVariants.{Inner, Memory}
 use Rattle.tower_retry.specs.declared.hedge.policy.Policy.{Ghosts as PolicyOf}
@@ -43,7 +43,7 @@ module _ {S P L C Q A E F : Type 0} (s : ServiceOf S Q A E F) (stepped : F → P
   -- a clone was refused at the call, `Memory` comes. (Each such clone has a share of the histogram, which may be refused at any time.)
   abbrev pub SecondSide : HedgeView S P L C → HedgeView S P L C → Q → ℕ → Option (Result A (Error E)) → Type 0
   SecondSide old new request polls output = (CopiesNone old new request × (new.b ≡ old.b) × (output ≡ None))
-      ⊎ ((copy : Q) × Copies old new request copy × (delay : ℕ) × Delayed gave c old.b.policy copy delay new.b.policy
+      ⊎ ((copy : Q) × Copies old new request copy × (delay : ℕ) × DelayComputed gave c old.b.policy copy delay new.b.policy
       × (AtOnce (Err Memory) polls output ⊎ CallAfter old delay copy polls output))
 
   -- The first side makes one call. Its answer is returned, and the second side had none before. Or the second side's is, and the first has none in

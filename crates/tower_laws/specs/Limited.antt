@@ -2,7 +2,7 @@
 use Rattle.std.specs.Prelude.{ℕ, List, Option, None, Result, All, IfSome, is_some}
 use Rattle.std.specs.List.{count_by}
 use Rattle.futures.specs.declared.task.Poll.{Poll}
-use Rattle.tower_base.specs.Drive.{State, Run, opening}
+use Rattle.tower_base.specs.Drive.{State, Run, initial}
 use Rattle.tower_base.specs.ServiceRun.{Relations}
 use Rattle.tower_base.specs.declared.drive.Entry.{Entry}
 use Rattle.tower_base.specs.declared.drive.Event.{Event}
@@ -56,5 +56,5 @@ module _ {L : Type 0} (l : LatchOf L LineCore LineStep LineReply ℕ) where
   abbrev pub RunsHold : {S Q A E F G T U O : Type 0} → ServiceOf S Q A E F → (F → Poll (Result A E) → F → Type 0) → (O → T → U → O → Type 0)
       → (SemaphoreView L → S → Type 0) → (F → Option (ResponseFutureView G L)) → Type 0
   RunsHold {S} {Q} {A} {E} {F} {G} {T} {U} {O} s stepped turned over inside = (semaphore : SemaphoreView L) (service : S) (outside : O) (events : List (Event Q T))
-      (entries : List (Entry A E U)) (last : State S F O) → over semaphore service → Run s stepped turned (opening service outside) events entries last
+      (entries : List (Entry A E U)) (last : State S F O) → over semaphore service → Run s stepped turned (initial service outside) events entries last
       → AllHold inside semaphore last.futures

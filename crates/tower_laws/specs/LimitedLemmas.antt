@@ -12,7 +12,7 @@ use Rattle.tower_latch.specs.declared.Latch.{Ghosts as LatchOf}
 use Rattle.tower_latch.specs.declared.guarded.token.Token.{Token}
 use Rattle.tower_laws.specs.ConcurrencyLimit.{Holds}
 use Rattle.tower_laws.specs.Limited.{HoldsInside, IsOver, KeepsLimit}
-use Rattle.tower_limit.specs.Concurrency.{Acquired, Asked, Called, ConcurrencyLimitView, Gets, Goes, IsOf, PermitView, PollSemaphoreView, Polled, Replies, ResponseFutureView, SemaphoreView, Stepped}
+use Rattle.tower_limit.specs.Concurrency.{Acquired, Requested, Called, ConcurrencyLimitView, Acquires, AfterPermit, IsOf, PermitView, PollSemaphoreView, Polled, Replies, ResponseFutureView, SemaphoreView, Stepped}
 use Rattle.tower_limit.specs.Rate as Rate
 use Rattle.tower_limit.specs.declared.limit.concurrency.error.Error.{Error}
 use Rattle.tower_limit.specs.declared.limit.concurrency.line_core.LineCore.{LineCore}
@@ -46,7 +46,7 @@ module _ {L : Type 0} (l : LatchOf L LineCore LineStep LineReply ℕ) (semaphore
   replied old share reply (Ready (Err e)) key h of = tt
   replied old share reply Pending key h of = tt
 
-  asked_for : (old : PollSemaphoreView L) (got : Poll (Result (PermitView L) AllocError)) (new : PollSemaphoreView L) → Asks old → Asked l old got new → Got got
+  asked_for : (old : PollSemaphoreView L) (got : Poll (Result (PermitView L) AllocError)) (new : PollSemaphoreView L) → Asks old → Requested l old got new → Got got
   asked_for old got new asks asked = replied old asked.share asked.reply got new.key asked.replies (λ permit same token its.
       asks token (asked.shares.its token (subst (λ (x : L). l.its x token) same its)))
 
@@ -61,14 +61,14 @@ module _ {L : Type 0} (l : LatchOf L LineCore LineStep LineReply ℕ) (semaphore
   ran_out old Pending new a asks =
       (tt, ⊎_elim (λ refused. asks_on old new (ap (λ (v : PollSemaphoreView L). v.semaphore) refused.same) asks) (λ asked. asks_on old new asked.same asks) a)
 
-  gets : (permit : Option (PermitView L)) (old : PollSemaphoreView L) (got : Poll (Result (PermitView L) AllocError)) (new : PollSemaphoreView L) → Gets l permit old got new
+  gets : (permit : Option (PermitView L)) (old : PollSemaphoreView L) (got : Poll (Result (PermitView L) AllocError)) (new : PollSemaphoreView L) → Acquires l permit old got new
       → IfSome permit (IsOf l semaphore) → Asks old → Got got × Asks new
   gets (Some permit) old got new h of asks = (subst Got (sym h.0) of, asks_on old new (ap (λ (v : PollSemaphoreView L). v.semaphore) h.1) asks)
   gets None old got new h of asks = ran_out old got new h asks
 
   module _ {S Q A E F : Type 0} (s : ServiceOf S Q A E F) where
     goes : (got : Poll (Result (PermitView L) AllocError)) (old : ConcurrencyLimitView S L) (answer : Poll (Result (Unit {0}) (Error E))) (new : ConcurrencyLimitView S L)
-        → Goes l s got old answer new → Got got → IfSome new.permit (IsOf l semaphore)
+        → AfterPermit l s got old answer new → Got got → IfSome new.permit (IsOf l semaphore)
     goes (Ready (Ok permit)) old answer new h of = subst (λ (o : Option (PermitView L)). IfSome o (IsOf l semaphore)) (sym h.0) of
     goes (Ready (Err e)) old answer new h of = subst (λ (o : Option (PermitView L)). IfSome o (IsOf l semaphore)) (sym h.0) tt
     goes Pending old answer new h of = subst (λ (o : Option (PermitView L)). IfSome o (IsOf l semaphore)) (sym h.0) tt

@@ -6,7 +6,7 @@ use Rattle.tower_base.specs.declared.service.Service.{Ghosts as ServiceOf}
 use Rattle.tower_base.specs.declared.service.Steps.{Ghosts as StepsOf}
 use Rattle.tower_laws.specs.Responses.{AtOnce, Comes, wrapped}
 use Rattle.tower_laws.specs.Runs.{actions}
-use Rattle.tower_ware.specs.LoadShed.{LoadShedView, new_of, Stepped}
+use Rattle.tower_ware.specs.LoadShed.{LoadShedView, initial, Stepped}
 use Rattle.tower_ware.specs.declared.load_shed.error.Error.{Error}
 use Rattle.tower_ware.specs.declared.load_shed.error.Error.TheVariants.{Inner, Overloaded}
 
@@ -23,7 +23,7 @@ module _ {S Q A E F : Type 0} (shed : Relations (LoadShedView S) Q (Error E) (Op
 
   -- So it is in each run from `new` on.
   abbrev pub CallsReachIfReady : Type 0
-  CallsReachIfReady = (inner : S) (last : LoadShedView S) (run : List (Transition (LoadShedView S) Q (Error E) (Option F))) → ServiceRun shed (new_of inner) run last
+  CallsReachIfReady = (inner : S) (last : LoadShedView S) (run : List (Transition (LoadShedView S) Q (Error E) (Option F))) → ServiceRun shed (initial inner) run last
       → (inside : List (Transition S Q E F)) × ServiceRun (relations s) inner inside last.inner × ReachIfReady false (actions run) (actions inside)
 
 module _ {A E F : Type 0} (f : StepsOf F (Result A E)) where

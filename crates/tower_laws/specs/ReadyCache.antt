@@ -5,7 +5,7 @@ use Rattle.futures.specs.declared.task.Poll.{Poll}
 use Rattle.futures.specs.declared.task.Poll.TheVariants.{Ready}
 use Rattle.tower_base.specs.declared.service.Service.{Ghosts as ServiceOf}
 use Rattle.tower_pool.specs.Balance.{evicted, pushed}
-use Rattle.tower_pool.specs.ReadyCache.{AtKey, Called, Checked, CheckedKey, ReadyCacheView, awaited}
+use Rattle.tower_pool.specs.ReadyCache.{AtKey, Called, Checked, CheckedKey, ReadyCacheView, is_pending}
 use Rattle.tower_pool.specs.ReadyCachePoll.{PendingPolled}
 use Rattle.tower_pool.specs.declared.ready_cache.error.Failed.{Failed as Failure}
 use Rattle.tower_pool.specs.declared.ready_cache.error.Error.{Error}
@@ -40,7 +40,7 @@ module _ {K S Q A E G : Type 0} (eq : K → K → Bool) (s : ServiceOf S Q A E G
 
   -- The key has an endpoint: one that is ready, or one that is pending and isn't cancelled.
   abbrev pub has : K → ReadyCacheView K S → Bool
-  has key cache = is_some (lookup (eq key) cache.ready) || awaited eq key cache.pending
+  has key cache = is_some (lookup (eq key) cache.ready) || is_pending eq key cache.pending
 
   -- The call evicts the key, or returns the failure of its endpoint.
   abbrev pub Ends : K → Call K S Q E G → Type 0

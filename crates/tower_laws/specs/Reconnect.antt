@@ -8,7 +8,7 @@ use Rattle.tower_base.specs.ServiceRun.{Relations, Action, Transition, Takes, Se
 use Rattle.tower_base.specs.declared.service.Service.{Ghosts as ServiceOf}
 use Rattle.tower_base.specs.declared.service.Steps.{Ghosts as StepsOf}
 use Rattle.tower_laws.specs.Responses.{AtOnce, Comes, wrapped}
-use Rattle.tower_ware.specs.Reconnect.{ReconnectView, Answer, IsReady, PassAt, Pass, Polled, Called, Stepped}
+use Rattle.tower_ware.specs.Reconnect.{ReconnectView, Answer, IsReady, IterationAt, Iteration, Polled, Called, Stepped}
 use Rattle.tower_ware.specs.declared.reconnect.error.Error.{Error}
 use Rattle.tower_ware.specs.declared.reconnect.error.Error.TheVariants.{Inner, Make}
 use Rattle.tower_ware.specs.declared.reconnect.state.Reply.{Reply}
@@ -29,16 +29,16 @@ newest None kept = kept
 
 module _ {M T S F ME Q A E G : Type 0} (m : ServiceOf M T S ME F) (connect : StepsOf F (Result S ME)) (s : ServiceOf S Q A E G)
     (clones : CloneOf T) where
-  -- the error of the connect that was polled in the pass, if one was and failed
+  -- the error of the connect that was polled in the iteration, if one was and failed
   abbrev pub failure_at : (state : State F S) (old : ReconnectView M F S ME T) (answer : Answer m connect s clones) (new : ReconnectView M F S ME T)
-      → PassAt m connect s clones state old answer new → Option ME
+      → IterationAt m connect s clones state old answer new → Option ME
   failure_at Idle old answer new pass = None
   failure_at (Connecting f) old answer new pass = error_of pass.0
   failure_at (Connected service) old answer new pass = None
 
-  -- In a poll no connect fails but in the last pass.
+  -- In a poll no connect fails but in the last iteration.
   abbrev pub OnlyLastFails : Type 0
-  OnlyLastFails = (old new : ReconnectView M F S ME T) (pass : Pass m connect s clones old None new) → failure_at old.state old None new pass ≡ None
+  OnlyLastFails = (old new : ReconnectView M F S ME T) (pass : Iteration m connect s clones old None new) → failure_at old.state old None new pass ≡ None
 
   -- the error of the connect that failed in the poll, if one did
   abbrev pub failure_in : (old : ReconnectView M F S ME T) (answer : Poll (Result (Unit {0}) (Error E ME))) (new : ReconnectView M F S ME T)
@@ -66,14 +66,14 @@ module _ {M T S F ME Q A E G : Type 0} (m : ServiceOf M T S ME F) (connect : Ste
 
     -- The kept error is that of the latest connect that failed since the last call, before and after the action. A call returns it. If there is
     -- none, the call goes to the connection.
-    abbrev pub Turn : (old : R) (action : Action Q (Error E ME) (Reply G ME)) (new : R) → Takes reconnect_of old action new → Option ME → Option ME → Type 0
-    Turn old (Action.poll answer) new takes kept later = later ≡ newest (failure_in (view old) answer (view new) takes) kept
-    Turn old (Action.call request reply) new takes (Some error) later = (reply ≡ Failed (Some error)) × (later ≡ None)
-    Turn old (Action.call request reply) new takes None later = GoesThere (view old) request reply (view new) × (later ≡ None)
+    abbrev pub ErrorMoves : (old : R) (action : Action Q (Error E ME) (Reply G ME)) (new : R) → Takes reconnect_of old action new → Option ME → Option ME → Type 0
+    ErrorMoves old (Action.poll answer) new takes kept later = later ≡ newest (failure_in (view old) answer (view new) takes) kept
+    ErrorMoves old (Action.call request reply) new takes (Some error) later = (reply ≡ Failed (Some error)) × (later ≡ None)
+    ErrorMoves old (Action.call request reply) new takes None later = GoesThere (view old) request reply (view new) × (later ≡ None)
 
     abbrev pub NextCallFails : Option ME → (old : R) (run : List (Transition R Q (Error E ME) (Reply G ME))) (new : R) → ServiceRun reconnect_of old run new → Type 0
     NextCallFails kept old [] new runs = Unit {0}
-    NextCallFails kept old (first ∷ rest) new runs = (later : Option ME) × Turn old first.action first.left runs.0 kept later
+    NextCallFails kept old (first ∷ rest) new runs = (later : Option ME) × ErrorMoves old first.action first.left runs.0 kept later
         × NextCallFails later first.left rest new runs.1
 
 -- What comes of a call that returns an error is just that. What comes of another is what comes of the connection's response.

@@ -7,29 +7,29 @@ use Rattle.tower_base.specs.Gives.{MayGive}
 use Rattle.tower_base.specs.ServiceRun.{relations, Makes}
 use Rattle.tower_base.specs.declared.service.Service.{Ghosts as ServiceOf}
 use Rattle.tower_retry.specs.Retry.{Called, ResponseFutureView, RetryView, Stepped}
-use Rattle.tower_retry.specs.RetryAttempts.{Attempt, Attempted, Word, NotKept, NoRetry, RetryAfter}
+use Rattle.tower_retry.specs.RetryAttempts.{Attempt, Attempted, Decision, NotKept, NoRetry, RetryAfter}
 use Rattle.tower_retry.specs.declared.retry.error.Error.{Error}
 use Rattle.tower_retry.specs.declared.retry.error.Error.TheVariants.{Inner, Memory}
 use Rattle.tower_retry.specs.declared.retry.policy.Policy.{Ghosts as PolicyOf}
 
 -- how many of the decisions are to retry
-abbrev pub is_retry : {W : Type 0} → Word W → ℕ
+abbrev pub is_retry : {W : Type 0} → Decision W → ℕ
 is_retry NotKept = 0
 is_retry NoRetry = 0
 is_retry (RetryAfter wait) = 1
 
 abbrev pub retries : {Q A E W : Type 0} → List (Attempt Q A E W) → ℕ
 retries [] = 0
-retries (attempt ∷ rest) = is_retry attempt.word + retries rest
+retries (attempt ∷ rest) = is_retry attempt.decision + retries rest
 
 -- the requests of the attempts, and of those after the first
-abbrev pub asked : {Q A E W : Type 0} → List (Attempt Q A E W) → List Q
-asked [] = []
-asked (attempt ∷ rest) = attempt.request ∷ asked rest
+abbrev pub requested : {Q A E W : Type 0} → List (Attempt Q A E W) → List Q
+requested [] = []
+requested (attempt ∷ rest) = attempt.request ∷ requested rest
 
-abbrev pub asked_again : {Q A E W : Type 0} → List (Attempt Q A E W) → List Q
-asked_again [] = []
-asked_again (first ∷ rest) = asked rest
+abbrev pub requested_again : {Q A E W : Type 0} → List (Attempt Q A E W) → List Q
+requested_again [] = []
+requested_again (first ∷ rest) = requested rest
 
 module _ {P S Q A E F W : Type 0} (s : ServiceOf S Q A E F) (stepped : F → Poll (Result A E) → F → Type 0)
     (p : PolicyOf P Q A E W) (waited : W → Poll (Unit {0}) → W → Type 0) where
@@ -43,7 +43,7 @@ module _ {P S Q A E F W : Type 0} (s : ServiceOf S Q A E F) (stepped : F → Pol
     -- clone of the policy or of the service was refused, and the answer is `Memory`.
     abbrev pub CallsPerAttempt : RetryView P S → Q → ResponseFutureView P S Q F W → Result A (Error E) → Type 0
     CallsPerAttempt left request (Some first) output = (attempts : List (Attempt Q A E W)) × Attempted s stepped p waited attempts request first output × OneMore attempts output
-        × service_clone.is_clone left.service first.service × ((last : S) × Makes (relations s) first.service (asked_again attempts) last)
+        × service_clone.is_clone left.service first.service × ((last : S) × Makes (relations s) first.service (requested_again attempts) last)
     CallsPerAttempt left request None output = ¬ (policy_clone.is_infallible left.policy × service_clone.is_infallible left.service) × (output ≡ Err Memory)
 
     abbrev pub AnswersCountCalls : Type 0

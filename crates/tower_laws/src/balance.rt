@@ -24,7 +24,10 @@ where
     X: Drop,
     D: Discover<Key = K, Service = S, Error = X>,
     R: Rng,
-    ensures calls { CallsReachKept (relations ⟦<Balance<D, R, Q> as Service<Q>>⟧) view_of K.eq S.Service S.loaded S.Metric.partial_cmp R.drew D.discovered }
-    ensures chosen { KeepsChosen (relations ⟦<Balance<D, R, Q> as Service<Q>>⟧) view_of K.eq S.Service S.loaded S.Metric.partial_cmp R.drew D.discovered }
-    ensures endpoints { EndpointsCame (relations ⟦<Balance<D, R, Q> as Service<Q>>⟧) view_of K.eq S.Service S.loaded S.Metric.partial_cmp R.drew D.discovered }
+    ensures calls { CallsReachKept (relations ⟦<Balance<D, R, Q> as Service<Q>>⟧)
+        view_of K.eq S.Service S.loaded S.Metric.partial_cmp R.drew D.discovered }
+    ensures chosen { KeepsChosen (relations ⟦<Balance<D, R, Q> as Service<Q>>⟧)
+        view_of K.eq S.Service S.loaded S.Metric.partial_cmp R.drew D.discovered }
+    ensures endpoints { EndpointsCame (relations ⟦<Balance<D, R, Q> as Service<Q>>⟧)
+        view_of K.eq S.Service S.loaded S.Metric.partial_cmp R.drew D.discovered }
 {}

@@ -13,7 +13,8 @@ use tower_limit::limit::concurrency::{ConcurrencyLimit, LineCore, Semaphore};
 /// States of each run of a limit over a semaphore that the response of each call holds a permit of it,
 /// and holds it still after each of its polls. So `release_responses` takes all of them.
 pub fn law<Request, S: Service<Request>, L: Latch<LineCore>>()
-    ensures runs { ResponsesHold L.Latch (relations ⟦<ConcurrencyLimit<S, L> as Service<Request>>⟧) }
+    ensures runs { ResponsesHold L.Latch
+        (relations ⟦<ConcurrencyLimit<S, L> as Service<Request>>⟧) }
     ensures polls { PollsKeep L.Latch S.Future.Steps.own }
 {}
 

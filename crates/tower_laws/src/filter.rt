@@ -9,5 +9,6 @@ use tower_ware::filter::{Filter, Predicate};
 /// gets just what it lets through, each request once and in that order. The answer of a request that it
 /// refuses is its error.
 pub fn law<R, P, S: Service<P>, U: Predicate<R, Request = P>>()
-    ensures { RunsLetThrough (relations ⟦<Filter<S, U> as Service<R>>⟧) S.Service S.Future.Steps.own U.Predicate }
+    ensures { RunsLetThrough (relations ⟦<Filter<S, U> as Service<R>>⟧)
+        S.Service S.Future.Steps.own U.Predicate }
 {}

@@ -21,5 +21,6 @@ where
     L: Latch<HistoCore>,
     C: Clock,
     ensures { HedgesOnce S.Service S.Future.stepped P.Policy P.is_clone S.is_clone L.gave C.Clock
-        ⟦<Hedge<S, P, L, C> as Service<Request>>⟧.called ⟦<<Hedge<S, P, L, C> as Service<Request>>::Future as Steps>⟧.stepped }
+        ⟦<Hedge<S, P, L, C> as Service<Request>>⟧.called
+        ⟦<<Hedge<S, P, L, C> as Service<Request>>::Future as Steps>⟧.stepped }
 {}

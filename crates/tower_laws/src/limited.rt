@@ -1,7 +1,7 @@
 //! Concurrency limits over whole runs of the stacks that contain them. The Rust has no such module.
 ghost use Rattle.std.specs.Prelude.{◌≡◌, ◌≤◌, IfOk, Option, Some, option_and_then};
 ghost use Rattle.futures.specs.Task.{Keeps};
-ghost use Rattle.tower_base.specs.Drive.{Run, opening};
+ghost use Rattle.tower_base.specs.Drive.{Run, initial};
 ghost use Rattle.tower_base.specs.Driver.{state_of};
 ghost use Rattle.tower_base.specs.ServiceRun.{relations};
 ghost use Rattle.tower_laws.specs.Limited.{AllHold, IsOver, KeepsLimit, RunsHold, living, response_in};
@@ -68,7 +68,8 @@ where
 
     ghost inside = { λ future. S.inside future.response };
 
-    ghost keeps = { timeout_keeps L.Latch.own S.Service.own S.Future.Steps.own S.over S.inside S.keeps C.Clock.own };
+    ghost keeps = { timeout_keeps L.Latch.own S.Service.own S.Future.Steps.own S.over S.inside
+        S.keeps C.Clock.own };
 
     fn into_response(future: Self::Future) -> Option<ResponseFuture<G, L>> {
         S::into_response(future.into_inner())
@@ -88,7 +89,8 @@ where
 
     ghost inside = { option_and_then S.inside };
 
-    ghost keeps = { shed_keeps L.Latch.own S.Service.own S.Future.Steps.own S.over S.inside S.keeps };
+    ghost keeps = { shed_keeps L.Latch.own S.Service.own S.Future.Steps.own S.over
+        S.inside S.keeps };
 
     fn into_response(future: Self::Future) -> Option<ResponseFuture<G, L>> {
         S::into_response(future.into_inner()?)
@@ -107,7 +109,8 @@ where
 
     ghost inside = { S.inside };
 
-    ghost keeps = { rate_keeps L.Latch.own S.Service.own S.Future.Steps.own S.over S.inside S.keeps C.Clock.own };
+    ghost keeps = { rate_keeps L.Latch.own S.Service.own S.Future.Steps.own S.over S.inside S.keeps
+        C.Clock.own };
 
     fn into_response(future: Self::Future) -> Option<ResponseFuture<G, L>> {
         S::into_response(future)
@@ -193,7 +196,8 @@ where
     requires sound { S.sound stack }
     requires outside { O.IsAlwaysCallable outside }
     requires over { S.over semaphore.now stack }
-    ensures run { IfOk result (λ done. (last : _) × Run S.Service S.Future.stepped O.step (opening stack outside) events.items done.0.entries.items last
+    ensures run { IfOk result (λ done. (last : _) × Run S.Service S.Future.stepped O.step
+        (initial stack outside) events.items done.0.entries.items last
         × (done.1 ≡ living S.inside last.futures)) }
     ensures bound { IfOk result (λ done. done.1 ≤ L.terms semaphore.now.latch) }
     ensures kept { Keeps cx.old cx.new }

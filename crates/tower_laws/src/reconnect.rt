@@ -16,8 +16,10 @@ where
     S: Service<Request>,
     Request: Drop,
     Target: Clone + Drop,
-    ensures calls { (old new : _) (run : _) (runs : ServiceRun (relations ⟦<Reconnect<M, Target> as Service<Request>>⟧) old run new)
-        → (view_of old).error ≡ None → NextCallFails M.Service M.Future.Steps.own S.Service Target.Clone view_of None old run new runs }
+    ensures calls { (old new : _) (run : _)
+        (runs : ServiceRun (relations ⟦<Reconnect<M, Target> as Service<Request>>⟧) old run new)
+        → (view_of old).error ≡ None → NextCallFails M.Service M.Future.Steps.own S.Service
+        Target.Clone view_of None old run new runs }
     ensures polls { OnlyLastFails M.Service M.Future.Steps.own S.Service Target.Clone }
     ensures answers { RepliesGive S.Future.Steps.own M.Error }
 {}

@@ -11,5 +11,6 @@ use tower_retry::retry::Policy;
 /// requests of the later attempts. If a clone of the policy or of the service was refused at the call, there
 /// are none, and the answer is `Memory`.
 pub fn law<P: Policy<Q, S::Response, S::Error> + Clone, S: Service<Q> + Clone, Q>()
-    ensures { AnswersCountCalls S.Service S.Future.stepped P.Policy P.Future.stepped P.Clone S.Clone }
+    ensures { AnswersCountCalls S.Service S.Future.stepped P.Policy P.Future.stepped
+        P.Clone S.Clone }
 {}

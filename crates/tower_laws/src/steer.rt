@@ -8,5 +8,6 @@ use tower_ware::steer::{Picker, Steer};
 /// States of each run: the run of the service at each index has just the requests for which the picker
 /// returned that index, in their order.
 pub fn law<S: Service<Req>, F: Picker<S, Req>, Req>()
-    ensures { EachGetsWhatIsPicked (relations ⟦<Steer<S, F, Req> as Service<Req>>⟧) S.Service F.Picker }
+    ensures { EachGetsWhatIsPicked (relations ⟦<Steer<S, F, Req> as Service<Req>>⟧)
+        S.Service F.Picker }
 {}

@@ -2,13 +2,13 @@
 use Rattle.std.proofs.Common.{◌≡◌, ℕ, ◌+◌, ◌-◌, ◌<◌, ◌≤◌, zero, suc, Bool, true, false, List, [], ◌∷◌, ◌++◌, length, remove, Result, Ok, Err, slice_get, refl, sym, ap, ◌∙◌, inl, inr, arith}
 use Rattle.std.specs.declared.alloc.AllocError.{AllocError}
 use Rattle.tower_base.specs.Order.{has}
-use Rattle.tower_latch.specs.Turns.{Turns, Admits, Enters, Leaves, Looks, empty}
+use Rattle.tower_latch.specs.WaitList.{WaitList, Admits, Enters, Leaves, Looks, empty}
 use Rattle.tower_latch.specs.WaitQueue.{Follows, StandsFor, granted, waiting}
 use Rattle.tower_limit.specs.Line.{Ticket, Steps}
 use Rattle.tower_limit.specs.LineCore.{Stands, StandsAt}
 use Rattle.tower_limit.specs.declared.limit.concurrency.line_core.LineStep.TheVariants.{Join, Look, Cancel, Release, Free}
 use Rattle.tower_limit.specs.declared.limit.concurrency.line_core.LineReply.TheVariants.{Granted, Waiting, Left, Count, Unknown, Memory}
-use Rattle.tower_latch.specs.declared.wait_queue.Turn.TheVariants.{Granted as IsGranted, Waiting as IsWaiting, Unknown as HasNobody}
+use Rattle.tower_latch.specs.declared.wait_queue.WaitState.TheVariants.{Granted as IsGranted, Waiting as IsWaiting, Unknown as HasNobody}
 use Rattle.tower_latch.specs.declared.wait_queue.WaitQueue.{WaitQueue}
 use Rattle.tower_limit.proofs.Lines.{counted, held_last, waits_last, found, lacks, leaves, no_holder}
 use Rattle.tower_latch.proofs.WaitQueues.{SameSizes, admits_one, empty_sizes, entered_none, entered_one, keys_count, left_nobody, left_one, saw_nobody, saw_one, saw_waiting}
@@ -61,14 +61,14 @@ module _ (max held : ℕ) (old : WaitQueue) (line : List Ticket) (s : StandsAt m
         let w = waits_last max key line s.2.2 in (
           line ++ Ticket.waits key ∷ [],
           (omega (arith, line_length, all), lacks line key (ap (λ l. has l key) s.2.1 ∙ r.1.0), refl),
-          (r.0, r.2, (w.0 ∙ s.2.0, w.1 ∙ ap (λ l. l ++ key ∷ []) s.2.1 ∙ sym (ap (λ (q : Turns). q.keys) r.1.1), w.2)),
+          (r.0, r.2, (w.0 ∙ s.2.0, w.1 ∙ ap (λ l. l ++ key ∷ []) s.2.1 ∙ sym (ap (λ (q : WaitList). q.keys) r.1.1), w.2)),
         )
 
     pub no_memory : (error : AllocError) → Follows old (λ p q. Enters p (Err error) q) new → max ≤ held + granted old
         → (next : List Ticket) × Steps max line Join Memory next × StandsAt max held new next
     no_memory error f all =
         let r = f s.0 s.1 in
-        (line, (omega (arith, line_length, all), refl), (r.0, r.2, stays r.0.keys (ap (λ (q : Turns). q.keys) r.1)))
+        (line, (omega (arith, line_length, all), refl), (r.0, r.2, stays r.0.keys (ap (λ (q : WaitList). q.keys) r.1)))
 
     pub sees : (key : ℕ) → Follows old (λ p q. Looks p key IsGranted q) new → held + granted old ≤ max
         → (next : List Ticket) × Steps max line (Look key) Granted next × StandsAt max (held + 1) new next
@@ -77,40 +77,40 @@ module _ (max held : ℕ) (old : WaitQueue) (line : List Ticket) (s : StandsAt m
         let place = found max r.1.0 key line s.2.2 (ap (λ l. slice_get l r.1.0) s.2.1 ∙ r.1.1) in
         let low : place.place < max = place.early (omega (arith, s.2.0, s.1.4, r.1.2, fits)) in
         let g = place.granted low in
-        (_, (place.place, place.at, low, refl), (r.0, r.2, (omega (arith, g.0, s.2.0), g.1 ∙ ap (λ l. remove l r.1.0) s.2.1 ∙ sym (ap (λ (q : Turns). q.keys) r.1.3), g.2)))
+        (_, (place.place, place.at, low, refl), (r.0, r.2, (omega (arith, g.0, s.2.0), g.1 ∙ ap (λ l. remove l r.1.0) s.2.1 ∙ sym (ap (λ (q : WaitList). q.keys) r.1.3), g.2)))
 
     pub waits_on : (key : ℕ) → Follows old (λ p q. Looks p key IsWaiting q) new → max ≤ held + granted old
         → (next : List Ticket) × Steps max line (Look key) (Waiting key) next × StandsAt max held new next
     waits_on key f all =
         let r = f s.0 s.1 in
         let place = found max r.1.0 key line s.2.2 (ap (λ l. slice_get l r.1.0) s.2.1 ∙ r.1.1) in
-        (line, (place.place, place.at, place.late (omega (arith, s.2.0, s.1.4, r.1.2, all)), refl, refl), (r.0, r.2, stays r.0.keys (ap (λ (q : Turns). q.keys) r.1.3)))
+        (line, (place.place, place.at, place.late (omega (arith, s.2.0, s.1.4, r.1.2, all)), refl, refl), (r.0, r.2, stays r.0.keys (ap (λ (q : WaitList). q.keys) r.1.3)))
 
     pub nobody : (key : ℕ) → Follows old (λ p q. Looks p key HasNobody q) new → (next : List Ticket) × Steps max line (Look key) Unknown next × StandsAt max held new next
     nobody key f =
         let r = f s.0 s.1 in
-        (line, (lacks line key (ap (λ l. has l key) s.2.1 ∙ r.1.0), refl), (r.0, r.2, stays r.0.keys (ap (λ (q : Turns). q.keys) r.1.1)))
+        (line, (lacks line key (ap (λ l. has l key) s.2.1 ∙ r.1.0), refl), (r.0, r.2, stays r.0.keys (ap (λ (q : WaitList). q.keys) r.1.1)))
 
     pub leaves_line : (key : ℕ) → Follows old (λ p q. Leaves p key true q) new → (next : List Ticket) × Steps max line (Cancel key) Left next × StandsAt max held new next
     leaves_line key f =
         let r = f s.0 s.1 in
         let place = found max r.1.0 key line s.2.2 (ap (λ l. slice_get l r.1.0) s.2.1 ∙ r.1.1) in
         let keys : r.0.keys ≡ remove s.0.keys r.1.0 = elim r.1.2 [
-          | inl h ↦ ap (λ (q : Turns). q.keys) h.1
-          | inr h ↦ elim h.1 [ inl g ↦ ap (λ (q : Turns). q.keys) g.1 | inr g ↦ ap (λ (q : Turns). q.keys) g.1 ]
+          | inl h ↦ ap (λ (q : WaitList). q.keys) h.1
+          | inr h ↦ elim h.1 [ inl g ↦ ap (λ (q : WaitList). q.keys) g.1 | inr g ↦ ap (λ (q : WaitList). q.keys) g.1 ]
         ] in
         (_, (place.place, place.at, refl), (r.0, r.2, (place.gone.0 ∙ s.2.0, place.gone.1 ∙ ap (λ l. remove l r.1.0) s.2.1 ∙ sym keys, place.gone.2)))
 
     pub nobody_left : (key : ℕ) → Follows old (λ p q. Leaves p key false q) new → (next : List Ticket) × Steps max line (Cancel key) Unknown next × StandsAt max held new next
     nobody_left key f =
         let r = f s.0 s.1 in
-        (line, (lacks line key (ap (λ l. has l key) s.2.1 ∙ r.1.0), refl), (r.0, r.2, stays r.0.keys (ap (λ (q : Turns). q.keys) r.1.1)))
+        (line, (lacks line key (ap (λ l. has l key) s.2.1 ∙ r.1.0), refl), (r.0, r.2, stays r.0.keys (ap (λ (q : WaitList). q.keys) r.1.1)))
 
     -- the free permit goes to the first who waits
     pub admits : Follows old Admits new → StandsAt max held new line
     admits f =
         let r = f s.0 s.1 in
-        (r.0, r.2, stays r.0.keys (elim r.1 [ inl h ↦ ap (λ (q : Turns). q.keys) h.1 | inr h ↦ ap (λ (q : Turns). q.keys) h.1 ]))
+        (r.0, r.2, stays r.0.keys (elim r.1 [ inl h ↦ ap (λ (q : WaitList). q.keys) h.1 | inr h ↦ ap (λ (q : WaitList). q.keys) h.1 ]))
 
 -- ---- what a line keeps
 

@@ -2,7 +2,7 @@
 use Rattle.std.proofs.Common.{◌≡◌, ◌⊎◌, ℕ, ◌+◌, ◌-◌, ◌<◌, zero, suc, List, [], ◌∷◌, ◌++◌, Some, slice_set, remove, refl, ap, ◌∙◌, sym, inl, inr, arith, length-take, length, take, subst}
 use Rattle.std.proofs.lemmas.Bool.{cases_order}
 use Rattle.std.proofs.lemmas.Option.{slice_get_within}
-use Rattle.tower_limit.specs.Line.{Ticket, Line, At, Lacks, Steps, LineSteps, blank}
+use Rattle.tower_limit.specs.Line.{Ticket, Line, At, Lacks, Steps, LineSteps, initial}
 use Rattle.tower_latch.specs.Latch.{Serves}
 use Rattle.tower_limit.specs.LineCore.{holders, HoldersBelow}
 use Rattle.tower_limit.specs.LineLaws.{Sees, Ends, Always, Bounded, InOrder, Lasts, Counts, grants, returns, taken, one_if_granted, one_if_left}
@@ -105,12 +105,12 @@ run_balance old [] new r = rw r refl
 run_balance old (step ∷ steps) new r =
     omega (arith, balance old.max old.tickets step.0 step.1 r.0.tickets r.1.1, run_balance r.0 steps new r.2)
 
-from_blank : (max : ℕ) (steps : List (LineStep × LineReply)) (line : Line) → Serves LineSteps (blank max) steps line → Sound max line.tickets
+from_blank : (max : ℕ) (steps : List (LineStep × LineReply)) (line : Line) → Serves LineSteps (initial max) steps line → Sound max line.tickets
 from_blank max steps line r =
-    subst (λ (m : ℕ). Sound m line.tickets) (run_max (blank max) steps line r) (run_sound (blank max) steps line r (tt, λ p q key a b. absurd (cc a)))
+    subst (λ (m : ℕ). Sound m line.tickets) (run_max (initial max) steps line r) (run_sound (initial max) steps line r (tt, λ p q key a b. absurd (cc a)))
 
 pub bounded : Always Bounded
-bounded max steps line r = omega (arith, run_balance (blank max) steps line r, few max line.tickets (from_blank max steps line r).0)
+bounded max steps line r = omega (arith, run_balance (initial max) steps line r, few max line.tickets (from_blank max steps line r).0)
 
 pub in_order : Always InOrder
 in_order max steps line r key seen =

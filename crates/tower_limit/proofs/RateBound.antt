@@ -3,7 +3,7 @@ use Rattle.std.proofs.Common.{◌≡◌, ◌+◌, ◌-◌, ◌≤◌, ◌<◌, �
 use Rattle.std.proofs.lemmas.Bool.{leb-true, leb-false}
 use Rattle.std.proofs.lemmas.Bool.Decides.{nat_tests}
 use Rattle.std.proofs.lemmas.Option.{get_or_from_slice_get, slice_get_within}
-use Rattle.tower_limit.specs.Rate.{Calls, opening, is_limited, oldest, may_call, after_poll, after_call}
+use Rattle.tower_limit.specs.Rate.{Calls, initial, is_limited, oldest, may_call, after_poll, after_call}
 use Rattle.tower_limit.specs.RateLaws.{Step, Fair, one_within, calls_within, Bounded}
 
 -- the newest of these moments is no later
@@ -129,6 +129,6 @@ module _ (k per from : ℕ) where
 pub bounded : Bounded
 bounded zero per steps some fair from = absurd (omega arith)
 bounded (suc k) per steps some fair from =
-    let good : Good k per from (opening (suc k) per) 0 =
+    let good : Good k per from (initial (suc k) per) 0 =
     record { number = omega arith; period = refl; spaced = tt; recent = tt; pass = λ shut. absurd (cc shut) } in
-    let all = runs k per from (opening (suc k) per) 0 steps good fair in omega arith
+    let all = runs k per from (initial (suc k) per) 0 steps good fair in omega arith

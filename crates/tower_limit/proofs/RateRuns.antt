@@ -7,7 +7,7 @@ use Rattle.tower_base.specs.ProjectionLemmas.{no_action, one_poll, one_call, pro
 use Rattle.tower_base.specs.ServiceRun.{relations, Action, Transition, Takes, ServiceRun, requests}
 use Rattle.tower_base.specs.declared.service.Service.{Ghosts as ServiceOf}
 use Rattle.tower_base.specs.declared.service.Clock.{Ghosts as ClockOf}
-use Rattle.tower_limit.specs.Rate.{Calls, RateLimitView, RateCoreView, StandsFor, PollsAt, Asks, opening, is_limited, passes, may_call, after_poll, after_call}
+use Rattle.tower_limit.specs.Rate.{Calls, RateLimitView, RateCoreView, StandsFor, PollsAt, Asks, initial, is_limited, passes, may_call, after_poll, after_call}
 use Rattle.tower_limit.specs.RateLaws.{Step, Fair, one_within, calls_within}
 use Rattle.tower_limit.specs.RateRun.{rate_of, within, call_moments, Forward, RunsBounded, RunsForward, KeepsRate}
 use Rattle.tower_limit.proofs.RateBound.{bounded}
@@ -73,7 +73,7 @@ module _ {S C Q A E F : Type 0} (s : ServiceOf S Q A E F) (c : ClockOf C) where
 
   pub runs_bounded : RunsBounded s c
   runs_bounded num per first last run stands runs forward from =
-      let n = counted (opening num per) 0 first last run stands runs forward in
+      let n = counted (initial num per) 0 first last run stands runs forward in
       subst (λ (k : ℕ). k ≤ num) (n.same from per) (bounded num per n.steps stands.takes n.fair from)
 
   -- a reading that isn't before the last, or none

@@ -47,14 +47,14 @@ step_of None = Join
 step_of (Some key) = Look key
 
 -- a `ConcurrencyLimit` that doesn't wait and holds no permit
-abbrev pub idle : {S L : Type 0} → S → SemaphoreView L → ConcurrencyLimitView S L
-idle inner semaphore = record { inner = inner; asking = record { semaphore = semaphore; key = None }; permit = None }
+abbrev pub initial : {S L : Type 0} → S → SemaphoreView L → ConcurrencyLimitView S L
+initial inner semaphore = record { inner = inner; asking = record { semaphore = semaphore; key = None }; permit = None }
 
--- an idle `ConcurrencyLimit` around the service, over a semaphore of its own with `max` permits
+-- an initial `ConcurrencyLimit` around the service, over a semaphore of its own with `max` permits
 pub record New {S L : Type 0} (places : L → ℕ) (service : S) (max : ℕ) (made : ConcurrencyLimitView S L) : Type 0 where
   pub number : made.asking.semaphore.max ≡ max
   pub terms : places made.asking.semaphore.latch ≡ max
-  pub round : made ≡ idle service made.asking.semaphore
+  pub starts : made ≡ initial service made.asking.semaphore
 
 -- What a pending poll of readiness waits for: a permit, at the sources of its latch, or the inner service if a permit is held.
 abbrev pub NeedsAt : {P : Type 0} → Option P → Type 0 → Type 0 → Type 0
@@ -104,49 +104,49 @@ module _ {L : Type 0} (l : LatchOf L LineCore LineStep LineReply ℕ) where
     pub same : new ≡ old
 
   -- The permit's share is created, and one step requests the permit.
-  pub record Asked (old : PollSemaphoreView L) (answer : Poll (Result (PermitView L) AllocError)) (new : PollSemaphoreView L) : Type 0 where
+  pub record Requested (old : PollSemaphoreView L) (answer : Poll (Result (PermitView L) AllocError)) (new : PollSemaphoreView L) : Type 0 where
     pub share : L
     pub shared : l.shares old.semaphore.latch (Ok share)
     pub shares : Shares old.semaphore.latch share
     pub reply : LineReply
-    pub asked : l.gave old.semaphore.latch (step_of old.key) reply
+    pub requested : l.gave old.semaphore.latch (step_of old.key) reply
     pub replies : Replies old share reply answer new.key
     pub same : new.semaphore ≡ old.semaphore
 
   -- a poll for a permit
   abbrev pub Acquired : PollSemaphoreView L → Poll (Result (PermitView L) AllocError) → PollSemaphoreView L → Type 0
-  Acquired old answer new = Refused old answer new ⊎ Asked old answer new
+  Acquired old answer new = Refused old answer new ⊎ Requested old answer new
 
   module _ {S : Type 0} where
-    -- what the layer over a semaphore creates: an idle `ConcurrencyLimit` around the service, over a share of the permits
+    -- what the layer over a semaphore creates: an initial `ConcurrencyLimit` around the service, over a share of the permits
     pub record Made (semaphore : SemaphoreView L) (service : S) (made : ConcurrencyLimitView S L) : Type 0 where
       pub shares : SharesPermits semaphore made.asking.semaphore
-      pub round : made ≡ idle service made.asking.semaphore
+      pub starts : made ≡ initial service made.asking.semaphore
 
-    -- a clone: an idle `ConcurrencyLimit` around a clone of the inner service, over a share of the permits
+    -- a clone: an initial `ConcurrencyLimit` around a clone of the inner service, over a share of the permits
     pub record IsClone (is_clone : S → S → Type 0) (old copy : ConcurrencyLimitView S L) : Type 0 where
       pub inner : is_clone old.inner copy.inner
       pub shares : SharesPermits old.asking.semaphore copy.asking.semaphore
-      pub round : copy ≡ idle copy.inner copy.asking.semaphore
+      pub starts : copy ≡ initial copy.inner copy.asking.semaphore
 
   -- the permit that is held, or one that is requested
-  abbrev pub Gets : Option (PermitView L) → PollSemaphoreView L → Poll (Result (PermitView L) AllocError) → PollSemaphoreView L → Type 0
-  Gets (Some permit) old got new = (got ≡ Ready (Ok permit)) × (new ≡ old)
-  Gets None old got new = Acquired old got new
+  abbrev pub Acquires : Option (PermitView L) → PollSemaphoreView L → Poll (Result (PermitView L) AllocError) → PollSemaphoreView L → Type 0
+  Acquires (Some permit) old got new = (got ≡ Ready (Ok permit)) × (new ≡ old)
+  Acquires None old got new = Acquired old got new
 
   module _ {S Q A E F : Type 0} (s : ServiceOf S Q A E F) where
     -- After the result of the request for a permit: if there is a permit, the inner service is polled once, and the permit is kept.
-    abbrev pub Goes : Poll (Result (PermitView L) AllocError) → ConcurrencyLimitView S L → Poll (Result (Unit {0}) (Error E)) → ConcurrencyLimitView S L → Type 0
-    Goes (Ready (Ok permit)) old answer new =
+    abbrev pub AfterPermit : Poll (Result (PermitView L) AllocError) → ConcurrencyLimitView S L → Poll (Result (Unit {0}) (Error E)) → ConcurrencyLimitView S L → Type 0
+    AfterPermit (Ready (Ok permit)) old answer new =
         (new.permit ≡ Some permit) × ((inner : Poll (Result (Unit {0}) E)) × s.polled old.inner inner new.inner × (answer ≡ answered Inner inner))
-    Goes (Ready (Err e)) old answer new = (new.permit ≡ None) × (new.inner ≡ old.inner) × (answer ≡ Ready (Err NoMemory))
-    Goes Pending old answer new = (new.permit ≡ None) × (new.inner ≡ old.inner) × (answer ≡ Pending)
+    AfterPermit (Ready (Err e)) old answer new = (new.permit ≡ None) × (new.inner ≡ old.inner) × (answer ≡ Ready (Err NoMemory))
+    AfterPermit Pending old answer new = (new.permit ≡ None) × (new.inner ≡ old.inner) × (answer ≡ Pending)
 
     -- a poll of readiness: a permit is held or is requested, and if there is one, the inner service is polled once
     pub record Polled (old : ConcurrencyLimitView S L) (answer : Poll (Result (Unit {0}) (Error E))) (new : ConcurrencyLimitView S L) : Type 0 where
       pub got : Poll (Result (PermitView L) AllocError)
-      pub gets : Gets old.permit old.asking got new.asking
-      pub goes : Goes got old answer new
+      pub gets : Acquires old.permit old.asking got new.asking
+      pub goes : AfterPermit got old answer new
 
 module _ {L S Q A E F : Type 0} (s : ServiceOf S Q A E F) where
   -- a call: one call of the inner service, which is ready, and the permit goes into the future

@@ -3,7 +3,7 @@ use Rattle.std.specs.Prelude.{◌≡◌, ◌<◌, ℕ, zero, suc, ◌+◌, ◌�
 use Rattle.std.specs.Option.{unwrap_or}
 use Rattle.std.specs.Ordering.{nat_cmp}
 use Rattle.std.specs.BTreeMap.{get}
-use Rattle.tower_limit.specs.Histogram.{Histogram, blank, read_at, times, most}
+use Rattle.tower_limit.specs.Histogram.{Histogram, initial, read_at, times, most}
 use Rattle.tower_limit.specs.declared.hedge.rotating_histogram.histo_core.HistoCore.{HistoCore}
 use Rattle.tower_limit.specs.declared.hedge.rotating_histogram.steps.HistoReply.{HistoReply}
 use Rattle.tower_limit.specs.declared.hedge.rotating_histogram.steps.HistoReply.TheVariants.{Done, Memory, Full}
@@ -45,7 +45,7 @@ StandsFor core h = Stands core.made core.period core.present core.read core.writ
 
 -- a new core: for some moment and some positive period
 abbrev pub Opens : HistoCore → Type 0
-Opens core = (moment : ℕ) × (period : ℕ) × (period ≢ 0) × StandsFor core (blank moment period)
+Opens core = (moment : ℕ) × (period : ℕ) × (period ≢ 0) × StandsFor core (initial moment period)
 
 -- If the old core stands for a histogram, the new one stands for that histogram changed in this way.
 abbrev pub Changes : (Histogram → Histogram) → HistoCore → HistoCore → Type 0

@@ -20,8 +20,8 @@ pub record Histogram : Type 0 where
   pub points : List Point
 
 -- a histogram at the moment of its creation
-abbrev pub blank : ℕ → ℕ → Histogram
-blank made period = record { made = made; period = period; present = 0; points = [] }
+abbrev pub initial : ℕ → ℕ → Histogram
+initial made period = record { made = made; period = period; present = 0; points = [] }
 
 -- The present period is the greatest number of whole periods since the creation so far. A clock that went back doesn't change it.
 abbrev pub rotated : Histogram → ℕ → Histogram

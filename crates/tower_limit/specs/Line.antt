@@ -17,8 +17,8 @@ pub record Line : Type 0 where
   pub room : ℕ
 
 -- the line before any request
-abbrev pub blank : ℕ → Line
-blank max = record { max = max; tickets = []; room = 0 }
+abbrev pub initial : ℕ → Line
+initial max = record { max = max; tickets = []; room = 0 }
 
 -- the keys that wait, in the order of requests
 abbrev pub keys_of : List Ticket → List ℕ

@@ -1,7 +1,7 @@
 -- Which plain lines a `LineCore` stands for.
 use Rattle.std.specs.Prelude.{◌≡◌, ◌<◌, ◌≤◌, ◌+◌, ◌-◌, ℕ, suc, List, [], ◌∷◌, ⊤}
-use Rattle.tower_limit.specs.Line.{Ticket, Line, Steps, Excused, blank, keys_of}
-use Rattle.tower_latch.specs.Turns.{Turns}
+use Rattle.tower_limit.specs.Line.{Ticket, Line, Steps, Excused, initial, keys_of}
+use Rattle.tower_latch.specs.WaitList.{WaitList}
 use Rattle.tower_latch.specs.WaitQueue.{StandsFor as QueueStandsFor, room, size, touches as queue_touches}
 use Rattle.tower_limit.specs.declared.limit.concurrency.line_core.LineCore.{LineCore}
 use Rattle.tower_limit.specs.declared.limit.concurrency.line_core.LineStep.{LineStep}
@@ -26,7 +26,7 @@ Stands max held keys line = (holders line ≡ held) × (keys_of line ≡ keys) �
 
 -- The line has `held` holders below `max`, and its waiters are those of the queue.
 abbrev pub StandsAt : ℕ → ℕ → WaitQueue → List Ticket → Type 0
-StandsAt max held queue line = (plain : Turns) × QueueStandsFor queue plain × Stands max held plain.keys line
+StandsAt max held queue line = (plain : WaitList) × QueueStandsFor queue plain × Stands max held plain.keys line
 
 -- The line has the core's permits, holders and waiters, and as much room.
 abbrev pub StandsFor : LineCore → Line → Type 0
@@ -34,7 +34,7 @@ StandsFor core line = (line.max ≡ core.max) × StandsAt core.max core.held cor
 
 -- a new core: it stands for an empty line
 abbrev pub Opens : LineCore → Type 0
-Opens core = (max : ℕ) × StandsFor core (blank max)
+Opens core = (max : ℕ) × StandsFor core (initial max)
 
 -- how many entries of the wait queue were reached so far
 abbrev pub touches : LineCore → ℕ

@@ -1,7 +1,7 @@
 -- What holds of every list of steps and replies from the empty line.
 use Rattle.std.specs.Prelude.{◌≡◌, ◌⊎◌, ◌<◌, ◌≤◌, ◌+◌, ℕ, zero, suc, List, [], ◌∷◌}
 use Rattle.tower_latch.specs.Latch.{Serves}
-use Rattle.tower_limit.specs.Line.{Ticket, Line, At, Steps, LineSteps, blank}
+use Rattle.tower_limit.specs.Line.{Ticket, Line, At, Steps, LineSteps, initial}
 use Rattle.tower_limit.specs.declared.limit.concurrency.line_core.LineStep.{LineStep}
 use Rattle.tower_limit.specs.declared.limit.concurrency.line_core.LineStep.TheVariants.{Join, Look, Cancel, Release, Free}
 use Rattle.tower_limit.specs.declared.limit.concurrency.line_core.LineReply.{LineReply}
@@ -48,7 +48,7 @@ taken (suc max) (Ticket.waits key ∷ line) = suc (taken max line)
 
 -- P holds of each list of steps and replies from the empty line, and of the line that they leave.
 abbrev pub Always : (ℕ → List (LineStep × LineReply) → List Ticket → Type 0) → Type 0
-Always P = (max : ℕ) (steps : List (LineStep × LineReply)) (line : Line) → Serves LineSteps (blank max) steps line → P max steps line.tickets
+Always P = (max : ℕ) (steps : List (LineStep × LineReply)) (line : Line) → Serves LineSteps (initial max) steps line → P max steps line.tickets
 
 -- Never more than max permits are out.
 abbrev pub Bounded : ℕ → List (LineStep × LineReply) → List Ticket → Type 0

@@ -26,7 +26,7 @@ module _ {S Q A E F : Type 0} (s : ServiceOf S Q A E F) where
     limit_of = record { ready = λ v. IsSome v.permit × s.ready v.inner; polled = C.Polled l s; called = C.Called s }
 
     went : {Has : List Q → Type 0} (got : Poll (Result (C.PermitView L) AllocError)) (old : C.ConcurrencyLimitView S L) (answer : Poll (Result (Unit {0}) (LimitError E)))
-        (new : C.ConcurrencyLimitView S L) → C.Goes l s got old answer new → Has [] → RunInside (relations s) Has old.inner new.inner
+        (new : C.ConcurrencyLimitView S L) → C.AfterPermit l s got old answer new → Has [] → RunInside (relations s) Has old.inner new.inner
     went (Ready (Ok permit)) old answer new goes has = one_poll (relations s) old.inner new.inner goes.1.0 goes.1.1 has
     went (Ready (Err e)) old answer new goes has = no_action (relations s) old.inner new.inner goes.1 has
     went Pending old answer new goes has = no_action (relations s) old.inner new.inner goes.1 has

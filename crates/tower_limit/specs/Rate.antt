@@ -34,8 +34,8 @@ pub record RateLimitLayerView (C : Type 0) : Type 0 where
   pub clock : C
 
 -- the list before any call
-abbrev pub opening : ℕ → ℕ → Calls
-opening num per = record { num = num; per = per; moments = []; passed = false }
+abbrev pub initial : ℕ → ℕ → Calls
+initial num per = record { num = num; per = per; moments = []; passed = false }
 
 -- whether `num` or more calls were made
 abbrev pub is_limited : Calls → Bool
@@ -125,7 +125,7 @@ WokenInTime c old new cx = (plain : Calls) → StandsFor old.core plain → pass
 pub record New {S C : Type 0} (num per : ℕ) (service : S) (clock : C) (made : RateLimitView S C) : Type 0 where
   pub inside : made.inner ≡ service
   pub unread : made.clock ≡ clock
-  pub core : StandsFor made.core (opening num per)
+  pub core : StandsFor made.core (initial num per)
 
 -- what the layer creates: a rate limit with a share of its clock
 abbrev pub Made : {S C : Type 0} → ClockOf C → RateLimitLayerView C → S → RateLimitView S C → Type 0

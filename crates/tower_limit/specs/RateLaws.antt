@@ -1,6 +1,6 @@
 -- What holds of every list of polls and calls of a rate limit.
 use Rattle.std.specs.Prelude.{◌≡◌, ◌+◌, ◌≤◌, ◌<◌, ◌&&◌, ℕ, true, List, [], ◌∷◌, nat_le, nat_lt, if◌then◌else◌}
-use Rattle.tower_limit.specs.Rate.{Calls, opening, may_call, after_poll, after_call}
+use Rattle.tower_limit.specs.Rate.{Calls, initial, may_call, after_poll, after_call}
 
 -- a step, at a moment
 pub data Step : Type 0 where
@@ -25,4 +25,4 @@ calls_within from per (Step.call moment ∷ steps) = one_within from per moment 
 
 -- For every rate, no interval of length per has more than num calls.
 abbrev pub Bounded : Type 0
-Bounded = (num per : ℕ) (steps : List Step) → 0 < num → Fair (opening num per) 0 steps → (from : ℕ) → calls_within from per steps ≤ num
+Bounded = (num per : ℕ) (steps : List Step) → 0 < num → Fair (initial num per) 0 steps → (from : ℕ) → calls_within from per steps ≤ num

@@ -5,7 +5,7 @@ use Rattle.tower_base.specs.Projection.{Each}
 use Rattle.tower_base.specs.ServiceRun.{Relations, relations, Action, Transition, ServiceRun, Makes, requests}
 use Rattle.tower_base.specs.declared.service.Service.{Ghosts as ServiceOf}
 use Rattle.tower_base.specs.declared.service.Clock.{Ghosts as ClockOf}
-use Rattle.tower_limit.specs.Rate.{RateLimitView, Polled, Called, StandsFor, Stands, opening, may_call}
+use Rattle.tower_limit.specs.Rate.{RateLimitView, Polled, Called, StandsFor, Stands, initial, may_call}
 use Rattle.tower_limit.specs.RateLaws.{one_within}
 
 -- the relations of a rate limit, as those of a service
@@ -44,7 +44,7 @@ module _ {S C Q E F : Type 0} (c : ClockOf C) where
 -- The bound, over any run of a limit of which no call was made before: if readings don't go back, an interval of length per has at most num calls.
 abbrev pub RunsBounded : {S C Q A E F : Type 0} → ServiceOf S Q A E F → ClockOf C → Type 0
 RunsBounded {S} {C} {Q} {A} {E} {F} s c = (num per : ℕ) (first last : RateLimitView S C) (transitions : List (Transition (RateLimitView S C) Q E F))
-    → StandsFor first.core (opening num per) → ServiceRun (rate_of s c) first transitions last → Forward c 0 transitions → AtMostIn num per (call_moments c transitions)
+    → StandsFor first.core (initial num per) → ServiceRun (rate_of s c) first transitions last → Forward c 0 transitions → AtMostIn num per (call_moments c transitions)
 
 -- With a monotonic clock readings don't go back.
 abbrev pub RunsForward : {S C Q A E F : Type 0} → ServiceOf S Q A E F → ClockOf C → Type 0
@@ -59,4 +59,4 @@ pub record KeepsRate {S C Q R A E F : Type 0} (s : ServiceOf S R A E F) (c : Clo
   pub run : ServiceRun (rate_of s c) first transitions last
   pub goes_in : Each goes made (requests transitions)
   pub inner : Makes (relations s) first.inner (requests transitions) last.inner
-  pub bound : (num per : ℕ) → StandsFor first.core (opening num per) → AtMostIn num per (call_moments c transitions)
+  pub bound : (num per : ℕ) → StandsFor first.core (initial num per) → AtMostIn num per (call_moments c transitions)

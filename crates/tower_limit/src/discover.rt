@@ -32,7 +32,8 @@ pub trait Discover: Drop {
     ghost sound: { Self → Type 0 } = { λ _. ⊤ };
 
     // A poll may return this and leave the second value.
-    ghost discovered: { Self → Poll (Option (Result (Change Self.Key Self.Service) Self.Error)) → Self → Type 0 };
+    ghost discovered: { Self → Poll (Option (Result (Change Self.Key Self.Service) Self.Error))
+        → Self → Type 0 };
 
     // Holds for each source that a pending poll waits for. If this is left out, it isn't known where it
     // waits.

@@ -8,7 +8,7 @@ use Rattle.futures.specs.declared.task.Poll.TheVariants.{Ready, Pending}
 use Rattle.indexmap.specs.IndexMap.{insert_entry}
 use Rattle.tower_base.specs.declared.service.Service.{Ghosts as ServiceOf}
 use Rattle.tower_pool.specs.ReadyCache.{Askable, PendingView, ReadyCacheView, Sound}
-use Rattle.tower_pool.specs.ReadyCachePoll.{Asked, AskedFirst, ByAnswer, ByTest, EachAsked, Ends, PendingPolled, rotated}
+use Rattle.tower_pool.specs.ReadyCachePoll.{Asked, PolledFirst, PollCases, IfThenElse, EachPolled, Ends, PendingPolled, rotated}
 use Rattle.tower_pool.specs.declared.ready_cache.error.Error.{Error}
 use Rattle.tower_pool.specs.declared.ready_cache.error.Error.TheVariants.{Failed, Memory}
 
@@ -101,35 +101,35 @@ sound_rotated {K} {S} sound es es' ps ps' n e is h = record {
         by n (ps ++ p ∷ []) (All-append (Askable sound) ps (p ∷ []) (All-from_recursion (Askable sound) ps r.1) (All-cons (Askable sound) p [] r.0 (All-nil (Askable sound))))
 
 -- the cases of a test
-by_test : {P P' Q Q' : Type 0} → (b : Bool) → (P → P') → (Q → Q') → ByTest b P Q → ByTest b P' Q'
+by_test : {P P' Q Q' : Type 0} → (b : Bool) → (P → P') → (Q → Q') → IfThenElse b P Q → IfThenElse b P' Q'
 by_test true f g h = f h
 by_test false f g h = g h
 
-one_of : {P : Type 0} → (b : Bool) → ByTest b P P → P
+one_of : {P : Type 0} → (b : Bool) → IfThenElse b P P → P
 one_of true h = h
 one_of false h = h
 
 module _ {K S Q A E G : Type 0} (eq : K → K → Bool) (s : ServiceOf S Q A E G) where
   -- the first entry's part, seen from the fields as they were
   pub asked_by : (was old : ReadyCacheView K S) → was ≡ old → (q : PendingView K S) (mid : List (PendingView K S)) → was.pending ≡ q ∷ mid → (answer : Result Bool (Error K E)) (new : ReadyCacheView K S)
-      → Asked eq s was.ready q mid answer new → AskedFirst eq s old answer new
-  asked_by was old same q mid there answer new h = subst (λ v. AskedFirst eq s v answer new) same by
+      → Asked eq s was.ready q mid answer new → PolledFirst eq s old answer new
+  asked_by was old same q mid there answer new h = subst (λ v. PolledFirst eq s v answer new) same by
     where
-      by : AskedFirst eq s was answer new
+      by : PolledFirst eq s was answer new
       by p others e = subst {A = PendingView K S × List (PendingView K S)} (λ x. Asked eq s was.ready x.0 x.1 answer new) (λ j. (slice_index_or ((sym there ∙ e) j) 0 q, tail ((sym there ∙ e) j))) h
 
   -- what an entry that isn't cancelled adds to a poll
   abbrev OneAsked : List (PendingView K S) → PendingView K S → List (PendingView K S) → List (K × S) → Poll (Result (Unit {0}) (Error K E)) → ReadyCacheView K S → Type 0
   OneAsked asked p rest ready answer new =
       ((answer ≡ Ready (Err Memory)) × (new ≡ record { ready = ready; pending = asked ++ p ∷ rest }))
-      ⊎ ((inner : Poll (Result (Unit {0}) E)) × (left : S) × s.polled p.service inner left × ByAnswer inner
-      (EachAsked eq s asked rest (insert_entry eq ready p.key left) answer new)
+      ⊎ ((inner : Poll (Result (Unit {0}) E)) × (left : S) × s.polled p.service inner left × PollCases inner
+      (EachPolled eq s asked rest (insert_entry eq ready p.key left) answer new)
       (λ e. (answer ≡ Ready (Err (Failed p.key e))) × (new ≡ record { ready = ready; pending = asked ++ rest }))
-      (EachAsked eq s (asked ++ (record p { service = left }) ∷ []) rest ready answer new))
+      (EachPolled eq s (asked ++ (record p { service = left }) ∷ []) rest ready answer new))
 
   going : (asked : List (PendingView K S)) (p : PendingView K S) (rest : List (PendingView K S)) (ready : List (K × S)) (answer : Poll (Result (Unit {0}) (Error K E))) (new : ReadyCacheView K S)
-      → p.cancelled ≡ false → OneAsked asked p rest ready answer new → EachAsked eq s asked (p ∷ rest) ready answer new
-  going asked p rest ready answer new c h = subst (λ b. ByTest b (EachAsked eq s asked rest ready answer new) (OneAsked asked p rest ready answer new)) (sym c) h
+      → p.cancelled ≡ false → OneAsked asked p rest ready answer new → EachPolled eq s asked (p ∷ rest) ready answer new
+  going asked p rest ready answer new c h = subst (λ b. IfThenElse b (EachPolled eq s asked rest ready answer new) (OneAsked asked p rest ready answer new)) (sym c) h
 
   -- So far a poll has asked the entries that stand last, all of which wait, and what it does with the first ones is all that it does.
   pub record Asking (old now : ReadyCacheView K S) (left : ℕ) (waits : Bool) : Type 0 where
@@ -138,20 +138,20 @@ module _ {K S Q A E G : Type 0} (eq : K → K → Bool) (s : ServiceOf S Q A E G
     pub is : now.pending ≡ rest ++ asked
     pub at : length rest ≡ left
     pub ends : Ends {E = Error K E} asked (if waits then Pending else Ready (Ok tt))
-    pub goes : (answer : Poll (Result (Unit {0}) (Error K E))) (new : ReadyCacheView K S) → EachAsked eq s asked rest now.ready answer new → PendingPolled eq s old answer new
+    pub goes : (answer : Poll (Result (Unit {0}) (Error K E))) (new : ReadyCacheView K S) → EachPolled eq s asked rest now.ready answer new → PendingPolled eq s old answer new
 
   pub asking_begins : (old : ReadyCacheView K S) → Asking old old (length old.pending) false
   asking_begins old = record { asked = []; rest = old.pending; is = sym (append-nil old.pending); at = refl; ends = refl; goes = λ answer new h. h }
 
   module _ (old was now : ReadyCacheView K S) (left : ℕ) (waits : Bool) (h : Asking old was (suc left) waits) where
     abbrev Going : List (PendingView K S) → List (PendingView K S) → Type 0
-    Going asked rest = (answer : Poll (Result (Unit {0}) (Error K E))) (new : ReadyCacheView K S) → EachAsked eq s asked rest was.ready answer new → PendingPolled eq s old answer new
+    Going asked rest = (answer : Poll (Result (Unit {0}) (Error K E))) (new : ReadyCacheView K S) → EachPolled eq s asked rest was.ready answer new → PendingPolled eq s old answer new
 
     last_waits : (asked : List (PendingView K S)) (q : PendingView K S) → Ends {E = Error K E} (asked ++ q ∷ []) Pending
     last_waits [] q = refl
     last_waits (x ∷ asked) q = refl
 
-    pub asking_waits : AskedFirst eq s was (Ok true) now → Asking old now left true
+    pub asking_waits : PolledFirst eq s was (Ok true) now → Asking old now left true
     asking_waits turn = by h.rest h.asked h.is h.at h.goes
       where
         by : (rest asked : List (PendingView K S)) → was.pending ≡ rest ++ asked → length rest ≡ suc left → Going asked rest → Asking old now left true
@@ -165,10 +165,10 @@ module _ {K S Q A E G : Type 0} (eq : K → K → Bool) (s : ServiceOf S Q A E G
               at = let e : length rest ≡ left = omega (arith, at) in e;
               ends = last_waits asked (record p { service = t.1.0 });
               goes = λ answer new h. goes answer new (going asked p rest was.ready answer new t.0
-                  (inr (Pending, t.1.0, t.1.1, subst (λ v. EachAsked eq s (asked ++ (record p { service = t.1.0 }) ∷ []) rest v.ready answer new) t.1.2 h)));
+                  (inr (Pending, t.1.0, t.1.1, subst (λ v. EachPolled eq s (asked ++ (record p { service = t.1.0 }) ∷ []) rest v.ready answer new) t.1.2 h)));
             }
 
-    pub asking_left : AskedFirst eq s was (Ok false) now → Asking old now left waits
+    pub asking_left : PolledFirst eq s was (Ok false) now → Asking old now left waits
     asking_left turn = by h.rest h.asked h.is h.at h.ends h.goes
       where
         by : (rest asked : List (PendingView K S)) → was.pending ≡ rest ++ asked → length rest ≡ suc left → Ends {E = Error K E} asked (if waits then Pending else Ready (Ok tt)) → Going asked rest → Asking old now left waits
@@ -181,16 +181,16 @@ module _ {K S Q A E G : Type 0} (eq : K → K → Bool) (s : ServiceOf S Q A E G
               is = one_of p.cancelled (by_test p.cancelled (λ e. ap (λ v. v.pending) e) (λ l. ap (λ v. v.pending) l.2) t);
               at = let e : length rest ≡ left = omega (arith, at) in e;
               ends = ends;
-              goes = λ answer new h. goes answer new (by_test p.cancelled (λ e. subst (λ v. EachAsked eq s asked rest v.ready answer new) e h)
-                  (λ l. inr (Ready (Ok tt), l.0, l.1, subst (λ v. EachAsked eq s asked rest v.ready answer new) l.2 h)) t);
+              goes = λ answer new h. goes answer new (by_test p.cancelled (λ e. subst (λ v. EachPolled eq s asked rest v.ready answer new) e h)
+                  (λ l. inr (Ready (Ok tt), l.0, l.1, subst (λ v. EachPolled eq s asked rest v.ready answer new) l.2 h)) t);
             }
 
     -- it stops, once the entries that weren't asked went last again
-    pub asking_stops : (error : Error K E) (new : ReadyCacheView K S) → AskedFirst eq s was (Err error) now → new.ready ≡ now.ready → new.pending ≡ rotated left now.pending → PendingPolled eq s old (Ready (Err error)) new
+    pub asking_stops : (error : Error K E) (new : ReadyCacheView K S) → PolledFirst eq s was (Err error) now → new.ready ≡ now.ready → new.pending ≡ rotated left now.pending → PendingPolled eq s old (Ready (Err error)) new
     asking_stops error new turn ready pending = by error h.rest h.asked h.is h.at h.goes turn
       where
         by : (error : Error K E) (rest asked : List (PendingView K S)) → was.pending ≡ rest ++ asked → length rest ≡ suc left → Going asked rest
-            → AskedFirst eq s was (Err error) now → PendingPolled eq s old (Ready (Err error)) new
+            → PolledFirst eq s was (Err error) now → PendingPolled eq s old (Ready (Err error)) new
         by error [] asked is at goes turn = absurd (omega arith)
         by Memory (p ∷ rest) asked is at goes turn =
             let t = turn p (rest ++ asked) is in
@@ -222,7 +222,7 @@ module _ {K S Q A E G : Type 0} (eq : K → K → Bool) (s : ServiceOf S Q A E G
   asking_ends old was waits h = by h.rest h.asked h.is h.at h.ends h.goes
     where
       by : (rest asked : List (PendingView K S)) → was.pending ≡ rest ++ asked → length rest ≡ 0 → Ends {E = Error K E} asked (if waits then Pending else Ready (Ok tt))
-          → ((answer : Poll (Result (Unit {0}) (Error K E))) (new : ReadyCacheView K S) → EachAsked eq s asked rest was.ready answer new → PendingPolled eq s old answer new)
+          → ((answer : Poll (Result (Unit {0}) (Error K E))) (new : ReadyCacheView K S) → EachPolled eq s asked rest was.ready answer new → PendingPolled eq s old answer new)
           → PendingPolled eq s old (if waits then Pending else Ready (Ok tt)) was
       by [] asked is at ends goes = goes (if waits then Pending else Ready (Ok tt)) was (ends, λ j. record { ready = was.ready; pending = is j })
       by (p ∷ rest) asked is at ends goes = absurd (omega arith)

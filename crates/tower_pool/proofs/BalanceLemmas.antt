@@ -11,14 +11,14 @@ use Rattle.futures.specs.declared.task.Poll.{Poll}
 use Rattle.futures.specs.declared.task.Poll.TheVariants.{Ready, Pending}
 use Rattle.indexmap.specs.IndexMap.{insert_entry}
 use Rattle.tower_base.specs.Draw.{Drawn, IsPair}
-use Rattle.tower_base.specs.Passes.{Goes, Passes}
-use Rattle.tower_base.specs.PassesLemmas.{goes_more, goes_start}
+use Rattle.tower_base.specs.Iterations.{Iterates, Iterations}
+use Rattle.tower_base.specs.IterationsLemmas.{iterates_more, iterates_start}
 use Rattle.tower_base.specs.declared.service.Service.{Ghosts as ServiceOf}
 use Rattle.tower_limit.specs.Discover.{Found, MayInsert, inserted}
 use Rattle.tower_limit.specs.DiscoverLemmas.{inserts_later, inserts_now}
-use Rattle.tower_pool.specs.Balance.{AfterCheck, BalanceView, Chooses, Chosen, IsLighter, Pass, PassAt, Picked, PickedOf, Promotes, Reads, ReadsAll, CountedPass, answer_of, asked_at}
+use Rattle.tower_pool.specs.Balance.{AfterCheck, BalanceView, Chooses, Chosen, IsLighter, Iteration, IterationAt, Picked, PickedOf, Promotes, Reads, ReadsAll, CountedIteration, answer_of, asked_at}
 use Rattle.tower_pool.specs.ReadyCache.{Checked, PendingView, ReadyCacheView, Settles}
-use Rattle.tower_pool.specs.ReadyCachePoll.{ByAnswer, ByTest, EachAsked, Ends, PendingPolled}
+use Rattle.tower_pool.specs.ReadyCachePoll.{PollCases, IfThenElse, EachPolled, Ends, PendingPolled}
 use Rattle.tower_pool.specs.declared.balance.error.Error.{Error}
 use Rattle.tower_pool.specs.declared.ready_cache.error.Failed.{Failed}
 use Rattle.tower_pool.specs.declared.ready_cache.error.Error.{Error as CacheError}
@@ -62,14 +62,14 @@ module _ {K S Q A E G : Type 0} (eq : K → K → Bool) (s : ServiceOf S Q A E G
   abbrev OneAsked : List (PendingView K S) → PendingView K S → List (PendingView K S) → List (K × S) → Poll (Result (Unit {0}) (CacheError K E)) → ReadyCacheView K S → Type 0
   OneAsked asked p rest ready answer new =
       ((answer ≡ Ready (Err NoRoom)) × (new ≡ record { ready = ready; pending = asked ++ p ∷ rest }))
-      ⊎ ((inner : Poll (Result (Unit {0}) E)) × (left : S) × s.polled p.service inner left × ByAnswer inner
-      (EachAsked eq s asked rest (insert_entry eq ready p.key left) answer new)
+      ⊎ ((inner : Poll (Result (Unit {0}) E)) × (left : S) × s.polled p.service inner left × PollCases inner
+      (EachPolled eq s asked rest (insert_entry eq ready p.key left) answer new)
       (λ e. (answer ≡ Ready (Err (EndpointFailed p.key e))) × (new ≡ record { ready = ready; pending = asked ++ rest }))
-      (EachAsked eq s (asked ++ (record p { service = left }) ∷ []) rest ready answer new))
+      (EachPolled eq s (asked ++ (record p { service = left }) ∷ []) rest ready answer new))
 
   -- an endpoint that failed has left
   fewer_than : (rest asked : List (PendingView K S)) (ready : List (K × S)) (answer : Poll (Result (Unit {0}) (CacheError K E))) (new : ReadyCacheView K S)
-      → EachAsked eq s asked rest ready answer new → (k : K) (e : E) → answer ≡ Ready (Err (EndpointFailed k e)) → length new.pending < length asked + length rest
+      → EachPolled eq s asked rest ready answer new → (k : K) (e : E) → answer ≡ Ready (Err (EndpointFailed k e)) → length new.pending < length asked + length rest
   fewer_than [] asked ready answer new h k e is = by asked h.0
     where
       by : (asked : List (PendingView K S)) → Ends asked answer → length new.pending < length asked + 0
@@ -77,17 +77,17 @@ module _ {K S Q A E G : Type 0} (eq : K → K → Bool) (s : ServiceOf S Q A E G
       by (x ∷ xs) f = let f : answer ≡ Pending = f in cc
   fewer_than (p ∷ rest) asked ready answer new h k e is = by_entry (λ asked ready h. fewer_than rest asked ready answer new h k e is) p.cancelled h
     where
-      by_answer : ((asked : List (PendingView K S)) (ready : List (K × S)) → EachAsked eq s asked rest ready answer new → length new.pending < length asked + length rest)
-          → (inner : Poll (Result (Unit {0}) E)) (left : S) → ByAnswer inner
-          (EachAsked eq s asked rest (insert_entry eq ready p.key left) answer new)
+      by_answer : ((asked : List (PendingView K S)) (ready : List (K × S)) → EachPolled eq s asked rest ready answer new → length new.pending < length asked + length rest)
+          → (inner : Poll (Result (Unit {0}) E)) (left : S) → PollCases inner
+          (EachPolled eq s asked rest (insert_entry eq ready p.key left) answer new)
           (λ e. (answer ≡ Ready (Err (EndpointFailed p.key e))) × (new ≡ record { ready = ready; pending = asked ++ rest }))
-          (EachAsked eq s (asked ++ (record p { service = left }) ∷ []) rest ready answer new) → length new.pending < length asked + suc (length rest)
+          (EachPolled eq s (asked ++ (record p { service = left }) ∷ []) rest ready answer new) → length new.pending < length asked + suc (length rest)
       by_answer again (Ready (Ok u)) left h = omega (arith, again asked (insert_entry eq ready p.key left) h)
       by_answer again (Ready (Err x)) left h = omega (arith, ap (λ v. length v.pending) h.1, length-append asked rest)
       by_answer again Pending left h = omega (arith, again (asked ++ (record p { service = left }) ∷ []) ready h, length-append asked ((record p { service = left }) ∷ []))
 
-      by_entry : ((asked : List (PendingView K S)) (ready : List (K × S)) → EachAsked eq s asked rest ready answer new → length new.pending < length asked + length rest)
-          → (b : Bool) → ByTest b (EachAsked eq s asked rest ready answer new) (OneAsked asked p rest ready answer new) → length new.pending < length asked + suc (length rest)
+      by_entry : ((asked : List (PendingView K S)) (ready : List (K × S)) → EachPolled eq s asked rest ready answer new → length new.pending < length asked + length rest)
+          → (b : Bool) → IfThenElse b (EachPolled eq s asked rest ready answer new) (OneAsked asked p rest ready answer new) → length new.pending < length asked + suc (length rest)
       by_entry again true h = omega (arith, again asked ready h)
       by_entry again false (inl full) = let f : answer ≡ Ready (Err NoRoom) = full.0 in cc
       by_entry again false (inr t) = by_answer again t.0 t.1 t.3
@@ -112,10 +112,10 @@ module _ {D K S X : Type 0} (discovered : D → Found K S X → D → Type 0) (s
 module _ {D R K S X E : Type 0} (discovered : D → Found K S X → D → Type 0) (eq : K → K → Bool) where
   -- a discovery that hasn't ended is read
   pub reads_on : (old : BalanceView D R K S) (answer : Result (Unit {0}) (Error E X)) (new : BalanceView D R K S) → old.is_over ≡ false
-      → Passes (Reads discovered eq) (Ok tt) old answer new → ReadsAll discovered eq old answer new
-  reads_on old answer new c h = subst (λ b. ByTest b ((answer ≡ Ok tt) × (new ≡ old)) (Passes (Reads discovered eq) (Ok tt) old answer new)) (sym c) h
+      → Iterations (Reads discovered eq) (Ok tt) old answer new → ReadsAll discovered eq old answer new
+  reads_on old answer new c h = subst (λ b. IfThenElse b ((answer ≡ Ok tt) × (new ≡ old)) (Iterations (Reads discovered eq) (Ok tt) old answer new)) (sym c) h
 
--- how many passes a choosing has at most, where an index below the length is kept or none is
+-- how many iterations a choosing has at most, where an index below the length is kept or none is
 abbrev pub left_of : Option ℕ → ℕ → ℕ
 left_of None n = n + 1
 left_of (Some i) n = if nat_lt i n then n else n + 1
@@ -153,7 +153,7 @@ module _ {X : Type 0} where
   length-removed : (xs : List X) (i : ℕ) (d : X) → i < length xs → length (swap_remove xs i d) + 1 ≡ length xs
   length-removed xs i d h = omega (arith, length-take (length xs - 1) (slice_set xs i (slice_index_or xs (length xs - 1) d)), length-set xs i (slice_index_or xs (length xs - 1) d))
 
--- how many passes of a choosing are left
+-- how many iterations of a choosing are left
 abbrev pub turns : {D R K S : Type 0} → BalanceView D R K S → ℕ
 turns v = left_of v.kept (length v.services.ready)
 
@@ -194,7 +194,7 @@ module _ {K S Q A E G : Type 0} (eq : K → K → Bool) (s : ServiceOf S Q A E G
       by (Some u) e h = settled u h.0 h.1 e h.3
 
 module _ {K S : Type 0} where
-  -- the last pass asks one at most of those that are ready
+  -- the last iteration asks one at most of those that are ready
   asked_last : (kept : Option ℕ) (ready : List (K × S)) → (rest : List (K × S)) × IsPermutation ready (asked_at kept ready ++ rest)
   asked_last None ready = (ready, IsPermutation-refl ready)
   asked_last (Some i) ready = by (slice_get ready i) refl
@@ -216,7 +216,7 @@ module _ {D R K S Q A E G M : Type 0} (X : Type 0) (eq : K → K → Bool) (s : 
       by None picked on is = cc
       by (Some i) picked on is = ap turns is ∙ left_inside i (length old.services.ready) (picked_there loaded cmp drew old.services.ready old.services.ready old.rng h.1 i refl picked)
 
-  pass_less : (old : BalanceView D R K S) (kept : Option ℕ) → old.kept ≡ kept → (new : BalanceView D R K S) → PassAt {X = X} eq s loaded cmp drew kept old None new → turns new + 1 ≤ turns old
+  pass_less : (old : BalanceView D R K S) (kept : Option ℕ) → old.kept ≡ kept → (new : BalanceView D R K S) → IterationAt {X = X} eq s loaded cmp drew kept old None new → turns new + 1 ≤ turns old
   pass_less old None is new h = omega (arith, chosen_turns old new h, ap (λ k. left_of k (length old.services.ready)) is)
   pass_less old (Some i) is new h = by h.0 h.2 h.3
     where
@@ -232,7 +232,7 @@ module _ {D R K S Q A E G M : Type 0} (X : Type 0) (eq : K → K → Bool) (s : 
       → new.services.ready ≡ old.services.ready
   chosen_ready old answer new h = ap (λ v. v.services.ready) h.4
 
-  pass_asks : (old : BalanceView D R K S) (kept : Option ℕ) (new : BalanceView D R K S) → PassAt {X = X} eq s loaded cmp drew kept old None new
+  pass_asks : (old : BalanceView D R K S) (kept : Option ℕ) (new : BalanceView D R K S) → IterationAt {X = X} eq s loaded cmp drew kept old None new
       → IsPermutation old.services.ready (asked_at kept old.services.ready ++ new.services.ready)
   pass_asks old None new h = subst (IsPermutation old.services.ready) (sym (chosen_ready old None new h)) (IsPermutation-refl old.services.ready)
   pass_asks old (Some i) new h = by h.0 h.2 h.3
@@ -254,7 +254,7 @@ module _ {D R K S Q A E G M : Type 0} (X : Type 0) (eq : K → K → Bool) (s : 
   pub record Settling (old now : BalanceView D R K S) : Type 0 where
     pub count : ℕ
     pub asked : List (K × S)
-    pub went : Goes (CountedPass {X = X} eq s loaded cmp drew) count (old, []) (now, asked)
+    pub went : Iterates (CountedIteration {X = X} eq s loaded cmp drew) count (old, []) (now, asked)
     pub left : count + turns now ≤ length old.services.ready + 1
     pub once : IsPermutation old.services.ready (asked ++ now.services.ready)
 
@@ -262,24 +262,24 @@ module _ {D R K S Q A E G M : Type 0} (X : Type 0) (eq : K → K → Bool) (s : 
   settling_begins old = record {
     count = 0;
     asked = [];
-    went = goes_start (CountedPass {X = X} eq s loaded cmp drew) (old, []);
+    went = iterates_start (CountedIteration {X = X} eq s loaded cmp drew) (old, []);
     left = omega (arith, at_most_left old.kept (length old.services.ready));
     once = IsPermutation-refl old.services.ready;
   }
 
-  pub settling_goes : (old was now : BalanceView D R K S) → Pass {X = X} eq s loaded cmp drew was None now → Settling old was → Settling old now
+  pub settling_goes : (old was now : BalanceView D R K S) → Iteration {X = X} eq s loaded cmp drew was None now → Settling old was → Settling old now
   settling_goes old was now pass h = record {
     count = h.count + 1;
     asked = h.asked ++ asked_at was.kept was.services.ready;
-    went = goes_more (CountedPass {X = X} eq s loaded cmp drew) h.count (old, []) (was, h.asked) (now, h.asked ++ asked_at was.kept was.services.ready) h.went (pass, refl);
+    went = iterates_more (CountedIteration {X = X} eq s loaded cmp drew) h.count (old, []) (was, h.asked) (now, h.asked ++ asked_at was.kept was.services.ready) h.went (pass, refl);
     left = omega (arith, h.left, pass_less was was.kept refl now pass);
     once = asked_more h.asked old.services.ready was.services.ready (asked_at was.kept was.services.ready) now.services.ready h.once (pass_asks was was.kept now pass);
   }
 
-  pub settling_less : (was now : BalanceView D R K S) → Pass {X = X} eq s loaded cmp drew was None now → turns now < turns was
+  pub settling_less : (was now : BalanceView D R K S) → Iteration {X = X} eq s loaded cmp drew was None now → turns now < turns was
   settling_less was now pass = omega (arith, pass_less was was.kept refl now pass)
 
-  pub settling_ends : (old was : BalanceView D R K S) (answer : Poll (Result (Unit {0}) (Error E X))) (new : BalanceView D R K S) → Pass {X = X} eq s loaded cmp drew was (Some answer) new → Settling old was
+  pub settling_ends : (old was : BalanceView D R K S) (answer : Poll (Result (Unit {0}) (Error E X))) (new : BalanceView D R K S) → Iteration {X = X} eq s loaded cmp drew was (Some answer) new → Settling old was
       → Chosen eq s loaded cmp drew old answer new
   settling_ends old was answer new pass h =
       let last = asked_last was.kept was.services.ready in

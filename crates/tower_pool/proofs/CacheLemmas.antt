@@ -9,7 +9,7 @@ use Rattle.indexmap.specs.IndexMap.{set_value_at}
 use Rattle.tower_base.specs.declared.service.Service.{Ghosts as ServiceOf}
 use Rattle.tower_pool.specs.declared.ready_cache.error.Failed.{Failed}
 use Rattle.tower_pool.specs.ReadyCache.{PendingView}
-use Rattle.tower_pool.specs.ReadyCache.{Askable, ReadyCacheView, Called, Checked, Settles, cancel, put_back, waiting}
+use Rattle.tower_pool.specs.ReadyCache.{Askable, ReadyCacheView, Called, Checked, Settles, cancel, put_back, pending_entry}
 use Rattle.tower_pool.proofs.PendingLemmas.{All-new}
 
 keys_written : {K S : Type 0} → (es : List (K × S)) (i : ℕ) (w : S) → keys_of (set_value_at es i w) ≡ keys_of es
@@ -70,7 +70,7 @@ when_answered (Ok x) P R more h = more x refl h
 when_answered (Err e) P R more h = tt
 
 -- a push of a sound service, by its answer
-pub sound_push : {K S X E : Type 0} → (eq : K → K → Bool) (sound : S → Type 0) (r : Result X E) (k : K) (v : S) (es : List (K × S)) (ps now : List (PendingView K S)) → OnOk r (now ≡ cancel eq k ps ++ waiting k v ∷ []) → OnErr r (now ≡ ps)
+pub sound_push : {K S X E : Type 0} → (eq : K → K → Bool) (sound : S → Type 0) (r : Result X E) (k : K) (v : S) (es : List (K × S)) (ps now : List (PendingView K S)) → OnOk r (now ≡ cancel eq k ps ++ pending_entry k v ∷ []) → OnErr r (now ≡ ps)
     → sound v → All (Askable sound) ps → All (Askable sound) now
 sound_push eq sound (Ok x) k v es ps now is same good h = subst (All (Askable sound)) (sym is) (All-new eq k sound v ps good h)
 sound_push eq sound (Err e) k v es ps now is same good h = subst (All (Askable sound)) (sym same) h

@@ -2,7 +2,7 @@
 use Rattle.std.proofs.Common.{◌≡◌, Option, Some, None, Result, sym, ap, ◌∙◌, subst, unwrap_or}
 use Rattle.futures.specs.declared.task.Poll.{Poll}
 use Rattle.tower_base.specs.declared.service.Steps.{Ghosts as StepsOf}
-use Rattle.tower_pool.specs.Balance.{fresh, view_of}
+use Rattle.tower_pool.specs.Balance.{initial, view_of}
 use Rattle.tower_pool.specs.MakeBalance.{AfterStep, CanPoll, Stepped}
 use Rattle.tower_pool.specs.declared.balance.p2c.service.Balance.{Balance}
 use Rattle.tower_pool.specs.declared.balance.p2c.make.State.{State}
@@ -18,6 +18,6 @@ module _ {F D E R Q K S X : Type 0} (f : StepsOf F (Result D E)) where
   stepped_asked can_poll old asked (Some rng) inner left answer new is can stepped after = subst (λ v. Stepped f v answer new) (sym is) (inner, left, stepped, after rng (λ _. Some rng))
 
 -- a balancer that draws by the generator that was kept
-pub draws_by : {D R Q K S X : Type 0} (b : Balance D R Q K S X) (discover : D) (kept : Option R) (taken rng : R) → kept ≡ Some taken → kept ≡ Some rng → view_of b ≡ fresh discover taken
-    → view_of b ≡ fresh discover rng
-draws_by b discover kept taken rng was is parts = parts ∙ ap (λ r. fresh discover (unwrap_or r taken)) (sym was ∙ is)
+pub draws_by : {D R Q K S X : Type 0} (b : Balance D R Q K S X) (discover : D) (kept : Option R) (taken rng : R) → kept ≡ Some taken → kept ≡ Some rng → view_of b ≡ initial discover taken
+    → view_of b ≡ initial discover rng
+draws_by b discover kept taken rng was is parts = parts ∙ ap (λ r. initial discover (unwrap_or r taken)) (sym was ∙ is)

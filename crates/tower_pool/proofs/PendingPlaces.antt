@@ -12,7 +12,7 @@ use Rattle.slab.specs.Slab.{HasRoomFor, Updates, get, slab_len}
 use Rattle.tower_base.specs.Links.{LinksView}
 use Rattle.tower_base.specs.Order.{Apart as NoneTwice, first_or, has, without}
 use Rattle.tower_latch.proofs.KeysLemmas.{apart_push, has_append, has_first, or_right, without_first}
-use Rattle.tower_pool.specs.ReadyCache.{Apart, PendingView, awaited, cancel, waits, waiting}
+use Rattle.tower_pool.specs.ReadyCache.{Apart, PendingView, is_pending, cancel, is_entry_of, pending_entry}
 use Rattle.tower_pool.specs.Pending.{Placed, Stands, entry_of, item_at, items_of, last_of, marked, names, names_one, room_of, seen, stored}
 use Rattle.tower_pool.proofs.PendingLemmas.{alike, left_false, right_false}
 
@@ -77,7 +77,7 @@ module _ {K S : Type 0} where
       by (Some u) = refl
 
   module _ (eq : K → K → Bool) (place : Places K) (entry : ℕ → Option (K × S)) (k : K) where
-    awaited_here : (order : List ℕ) (i : ℕ) (u : K × S) → has order i ≡ true → entry i ≡ Some u → eq k u.0 ≡ true → names i (place u.0) ≡ true → awaited eq k (items_of place entry order) ≡ true
+    awaited_here : (order : List ℕ) (i : ℕ) (u : K × S) → has order i ≡ true → entry i ≡ Some u → eq k u.0 ≡ true → names i (place u.0) ≡ true → is_pending eq k (items_of place entry order) ≡ true
     awaited_here [] i u t e same n = absurd (true≢false (sym t))
     awaited_here (j ∷ order) i u t e same n =
         ⊎_elim (λ l. here (ap entry (sym l.1) ∙ e) (ap (λ m. names m (place u.0)) (sym l.1) ∙ n))
@@ -86,22 +86,22 @@ module _ {K S : Type 0} where
         rest : List (PendingView K S)
         rest = items_of place entry order
 
-        here : entry j ≡ Some u → names j (place u.0) ≡ true → awaited eq k (item_at place j (entry j) rest) ≡ true
-        here at named = subst (λ o. awaited eq k (item_at place j o rest) ≡ true) (sym at) (λ l. (not (not (named l)) && same l) || awaited eq k rest)
+        here : entry j ≡ Some u → names j (place u.0) ≡ true → is_pending eq k (item_at place j (entry j) rest) ≡ true
+        here at named = subst (λ o. is_pending eq k (item_at place j o rest) ≡ true) (sym at) (λ l. (not (not (named l)) && same l) || is_pending eq k rest)
 
-        later : (o : Option (K × S)) → awaited eq k rest ≡ true → awaited eq k (item_at place j o rest) ≡ true
+        later : (o : Option (K × S)) → is_pending eq k rest ≡ true → is_pending eq k (item_at place j o rest) ≡ true
         later None h = h
-        later (Some v) h = or_right (waits eq k (seen place j v)) (awaited eq k rest) h
+        later (Some v) h = or_right (is_entry_of eq k (seen place j v)) (is_pending eq k rest) h
 
-    awaited_none : (order : List ℕ) → ((i : ℕ) (u : K × S) → has order i ≡ true → entry i ≡ Some u → eq k u.0 ≡ true → names i (place u.0) ≡ false) → awaited eq k (items_of place entry order) ≡ false
+    awaited_none : (order : List ℕ) → ((i : ℕ) (u : K × S) → has order i ≡ true → entry i ≡ Some u → eq k u.0 ≡ true → names i (place u.0) ≡ false) → is_pending eq k (items_of place entry order) ≡ false
     awaited_none [] h = refl
     awaited_none (j ∷ order) h = by (entry j) refl (awaited_none order (λ i u t e. h i u (or_right (eqb i j) (has order i) t) e))
       where
-        by : (o : Option (K × S)) → entry j ≡ o → awaited eq k (items_of place entry order) ≡ false → awaited eq k (item_at place j o (items_of place entry order)) ≡ false
+        by : (o : Option (K × S)) → entry j ≡ o → is_pending eq k (items_of place entry order) ≡ false → is_pending eq k (item_at place j o (items_of place entry order)) ≡ false
         by None e rest = rest
         by (Some u) e rest = one (eq k u.0) refl
           where
-            one : (b : Bool) → eq k u.0 ≡ b → awaited eq k (item_at place j (Some u) (items_of place entry order)) ≡ false
+            one : (b : Bool) → eq k u.0 ≡ b → is_pending eq k (item_at place j (Some u) (items_of place entry order)) ≡ false
             one true same = λ l. (not (not (h j u (has_first j order) e same l)) && eq k u.0) || rest l
             one false differs = λ l. and_no (not (not (names j (place u.0)))) (eq k u.0) differs l || rest l
 
@@ -110,16 +110,16 @@ module _ {K S : Type 0} where
     here_of k = lookup (eq k) es
 
     -- a key is awaited where its place names an entry
-    pub awaited_items : (k : K) → awaited eq k (items_of here_of (get links.entries) links.order) ≡ names_one (lookup (eq k) es)
+    pub awaited_items : (k : K) → is_pending eq k (items_of here_of (get links.entries) links.order) ≡ names_one (lookup (eq k) es)
     awaited_items k = by (lookup (eq k) es) refl
       where
         found : (i : ℕ) → lookup (eq k) es ≡ Some (Some i) → has links.order i ≡ true → (o : Option (K × S)) → get links.entries i ≡ o → IsSomeAnd o (λ u. eq k u.0 ≡ true)
-            → awaited eq k (items_of here_of (get links.entries) links.order) ≡ true
+            → is_pending eq k (items_of here_of (get links.entries) links.order) ≡ true
         found i e t None at h = absurd h
         found i e t (Some u) at same =
             awaited_here eq here_of (get links.entries) k links.order i u t at same (ap (names i) (sym (like eq laws es k u.0 same) ∙ e) ∙ eq-eqb i i refl)
 
-        by : (o : Option (Option ℕ)) → lookup (eq k) es ≡ o → awaited eq k (items_of here_of (get links.entries) links.order) ≡ names_one o
+        by : (o : Option (Option ℕ)) → lookup (eq k) es ≡ o → is_pending eq k (items_of here_of (get links.entries) links.order) ≡ names_one o
         by None e = awaited_none eq here_of (get links.entries) k links.order (λ i u t at same. ap (names i) (sym (like eq laws es k u.0 same) ∙ e))
         by (Some None) e = awaited_none eq here_of (get links.entries) k links.order (λ i u t at same. ap (names i) (sym (like eq laws es k u.0 same) ∙ e))
         by (Some (Some i)) e = let t = kept.told k i e in found i e t.0 (get links.entries i) refl t.1
@@ -154,9 +154,9 @@ module _ {K S : Type 0} where
           by rest None = rest
           by rest (Some u) = λ j. ((λ t. record { key = u.0; service = u.1; cancelled = not (names i (now u.0 t)) }) ∙ one u (eq key u.0)) j ∷ rest j
 
-      marks_none : (ps : List (PendingView K S)) → awaited eq key ps ≡ false → mark_all ps ≡ ps
+      marks_none : (ps : List (PendingView K S)) → is_pending eq key ps ≡ false → mark_all ps ≡ ps
       marks_none [] h = refl
-      marks_none (p ∷ ps) h = by (marks_none ps (right_false (waits eq key p) (awaited eq key ps) h)) p.cancelled refl (eq key p.key) (left_false (waits eq key p) (awaited eq key ps) h)
+      marks_none (p ∷ ps) h = by (marks_none ps (right_false (is_entry_of eq key p) (is_pending eq key ps) h)) p.cancelled refl (eq key p.key) (left_false (is_entry_of eq key p) (is_pending eq key ps) h)
         where
           by : mark_all ps ≡ ps → (c : Bool) → p.cancelled ≡ c → (b : Bool) → (not p.cancelled && b) ≡ false → ((if b then record p { cancelled = true } else p) ∷ mark_all ps) ≡ p ∷ ps
           by rest true e true h = λ j. (record p { cancelled = sym e j }) ∷ rest j
@@ -339,7 +339,7 @@ module _ {K S : Type 0} where
             by k j true same e = absurd (true≢false (sym (ap names_one e)))
             by k j false same e = (e, λ is. true≢false (sym (subst (λ o. IsSomeAnd o (λ v. eq k v.0 ≡ true)) (ap (get links.entries) is ∙ at) (kept.told k j e).1) ∙ laws.symm k u.0 ∙ same))
 
-        pub items_taken : items_of here_of (get links.entries) links.order ≡ waiting u.0 u.1 ∷ items_of (λ k. lookup (eq k) fs) (get new.entries) new.order
+        pub items_taken : items_of here_of (get links.entries) links.order ≡ pending_entry u.0 u.1 ∷ items_of (λ k. lookup (eq k) fs) (get new.entries) new.order
         items_taken = items_less fs (λ j v t there. ap (names j) (now v.0) ∙ by j v t (eq u.0 v.0) refl) ∙ (λ t. (record { key = u.0; service = u.1; cancelled = not ((ap (names i) named ∙ eq-eqb i i refl) t) }) ∷ items_of (λ k. lookup (eq k) fs) (get new.entries) new.order)
           where
             by : (j : ℕ) (v : K × S) → has rest j ≡ true → (b : Bool) → eq u.0 v.0 ≡ b → names j (cond b (Some None) (lookup (eq v.0) es)) ≡ names j (lookup (eq v.0) es)
@@ -356,7 +356,7 @@ module _ {K S : Type 0} where
               true≢false (sym (ap (names i) (sym (like eq laws es k u.0 same) ∙ e) ∙ ap (λ x. eqb x i) is ∙ eq-eqb i i refl) ∙ unnamed),
         ))
 
-        pub items_dropped : items_of here_of (get links.entries) links.order ≡ (record (waiting u.0 u.1) { cancelled = true }) ∷ items_of here_of (get new.entries) new.order
+        pub items_dropped : items_of here_of (get links.entries) links.order ≡ (record (pending_entry u.0 u.1) { cancelled = true }) ∷ items_of here_of (get new.entries) new.order
         items_dropped = items_less es (λ j v t there. refl) ∙ (λ t. (record { key = u.0; service = u.1; cancelled = not (unnamed t) }) ∷ items_of here_of (get new.entries) new.order)
 
       -- whether its key's place names it or not
@@ -379,16 +379,16 @@ module _ {K S : Type 0} where
 module _ {K S : Type 0} (eq : K → K → Bool) where
   pub apart_left : (ps qs : List (PendingView K S)) → Apart eq (ps ++ qs) → Apart eq ps
   apart_left [] qs h = tt
-  apart_left (p ∷ ps) qs h = (λ alive. left_false (awaited eq p.key ps) (awaited eq p.key qs) (sym (list_any-append (waits eq p.key) ps qs) ∙ h.0 alive), apart_left ps qs h.1)
+  apart_left (p ∷ ps) qs h = (λ alive. left_false (is_pending eq p.key ps) (is_pending eq p.key qs) (sym (list_any-append (is_entry_of eq p.key) ps qs) ∙ h.0 alive), apart_left ps qs h.1)
 
   -- a mark behind entries none of which waits for the key as well
-  cancel_behind : (k : K) (ps qs : List (PendingView K S)) → (awaited eq k ps ≡ true → cancel eq k qs ≡ qs) → cancel eq k (ps ++ qs) ≡ cancel eq k ps ++ cancel eq k qs
+  cancel_behind : (k : K) (ps qs : List (PendingView K S)) → (is_pending eq k ps ≡ true → cancel eq k qs ≡ qs) → cancel eq k (ps ++ qs) ≡ cancel eq k ps ++ cancel eq k qs
   cancel_behind k [] qs h = refl
-  cancel_behind k (p ∷ ps) qs h = by (cancel_behind k ps qs (λ t. h (or_right (waits eq k p) (awaited eq k ps) t))) (waits eq k p) refl
+  cancel_behind k (p ∷ ps) qs h = by (cancel_behind k ps qs (λ t. h (or_right (is_entry_of eq k p) (is_pending eq k ps) t))) (is_entry_of eq k p) refl
     where
-      by : cancel eq k (ps ++ qs) ≡ cancel eq k ps ++ cancel eq k qs → (b : Bool) → waits eq k p ≡ b
+      by : cancel eq k (ps ++ qs) ≡ cancel eq k ps ++ cancel eq k qs → (b : Bool) → is_entry_of eq k p ≡ b
           → (if b then (record p { cancelled = true }) ∷ (ps ++ qs) else p ∷ cancel eq k (ps ++ qs)) ≡ (if b then (record p { cancelled = true }) ∷ ps else p ∷ cancel eq k ps) ++ cancel eq k qs
-      by rest true e = λ j. (record p { cancelled = true }) ∷ (ps ++ sym (h (or_left (waits eq k p) (awaited eq k ps) e)) j)
+      by rest true e = λ j. (record p { cancelled = true }) ∷ (ps ++ sym (h (or_left (is_entry_of eq k p) (is_pending eq k ps) e)) j)
       by rest false e = λ j. p ∷ rest j
 
   cancel_last : (k : K) (o : Option (K × S × Bool)) → cancel eq k (last_of o) ≡ last_of (marked eq k o)
@@ -396,13 +396,13 @@ module _ {K S : Type 0} (eq : K → K → Bool) where
   cancel_last k (Some (j, s, true)) = refl
   cancel_last k (Some (j, s, false)) = by (eq k j)
     where
-      by : (b : Bool) → (if b then (record { key = j; service = s; cancelled = true }) ∷ [] else waiting j s ∷ []) ≡ (record { key = j; service = s; cancelled = b }) ∷ []
+      by : (b : Bool) → (if b then (record { key = j; service = s; cancelled = true }) ∷ [] else pending_entry j s ∷ []) ≡ (record { key = j; service = s; cancelled = b }) ∷ []
       by true = refl
       by false = refl
 
   -- a new one beside, whose key has a place that names no entry
   pub stands_with : (laws : IsEquivalence eq) (es : List (K × Option ℕ)) (links : LinksView (K × S)) → Placed eq (λ k. lookup (eq k) es) links → length links.order + 1 < 18446744073709551616 → (last : Option (K × S × Bool)) (e : K × S × Bool) → last ≡ Some e
-      → (e.2 ≡ false → is_some (lookup (eq e.0) es) ≡ true) → (e.2 ≡ false → awaited eq e.0 (stored eq es links) ≡ false) → Stands eq es links last
+      → (e.2 ≡ false → is_some (lookup (eq e.0) es) ≡ true) → (e.2 ≡ false → is_pending eq e.0 (stored eq es links) ≡ false) → Stands eq es links last
   stands_with laws es links placed small last e is known alone =
       subst (Stands eq es links) (sym is) (record { placed = placed; beside = λ alive. by (lookup (eq e.0) es) (known alive) (sym (awaited_items eq laws es links placed e.0) ∙ alone alive); small = small })
     where
@@ -438,8 +438,8 @@ module _ {K S : Type 0} (eq : K → K → Bool) where
 
   module _ (laws : IsEquivalence eq) (es : List (K × Option ℕ)) (links : LinksView (K × S)) (last : Option (K × S × Bool)) (h : Stands eq es links last) where
     -- a key is awaited where its place names an entry, or the one beside is the key's
-    pub awaited_all : (k : K) → awaited eq k (stored eq es links ++ last_of last) ≡ (names_one (lookup (eq k) es) || awaited eq k (last_of last))
-    awaited_all k = list_any-append (waits eq k) (stored eq es links) (last_of last) ∙ (λ j. awaited_items eq laws es links h.placed k j || awaited eq k (last_of last))
+    pub awaited_all : (k : K) → is_pending eq k (stored eq es links ++ last_of last) ≡ (names_one (lookup (eq k) es) || is_pending eq k (last_of last))
+    awaited_all k = list_any-append (is_entry_of eq k) (stored eq es links) (last_of last) ∙ (λ j. awaited_items eq laws es links h.placed k j || is_pending eq k (last_of last))
 
     pub length_all : length (stored eq es links ++ last_of last) ≡ length links.order + length (last_of last)
     length_all = length-append (stored eq es links) (last_of last) ∙ ap (λ n. n + length (last_of last)) (length-waiters eq laws es links h.placed)
@@ -453,24 +453,24 @@ module _ {K S : Type 0} (eq : K → K → Bool) where
         by (Some (j, s, true)) b = refl
         by (Some (j, s, false)) b = one (eq k j) refl
           where
-            one : (c : Bool) → eq k j ≡ c → (if c then (record { key = j; service = s; cancelled = true }) ∷ [] else waiting j s ∷ []) ≡ waiting j s ∷ []
+            one : (c : Bool) → eq k j ≡ c → (if c then (record { key = j; service = s; cancelled = true }) ∷ [] else pending_entry j s ∷ []) ≡ pending_entry j s ∷ []
             one true e = absurd (true≢false (sym named ∙ ap names_one (like eq laws es k j e ∙ b refl)))
             one false e = refl
 
     pub cancel_all : (k : K) → cancel eq k (stored eq es links ++ last_of last) ≡ cancel eq k (stored eq es links) ++ last_of (marked eq k last)
     cancel_all k = cancel_behind k (stored eq es links) (last_of last) (λ t. last_apart k (sym (awaited_items eq laws es links h.placed k) ∙ t)) ∙ (λ j. cancel eq k (stored eq es links) ++ cancel_last k last j)
 
-    pub awaited_named : (k : K) (i : ℕ) → lookup (eq k) es ≡ Some (Some i) → true ≡ awaited eq k (stored eq es links ++ last_of last)
-    awaited_named k i is = sym (awaited_all k ∙ ap (λ o. names_one o || awaited eq k (last_of last)) is)
+    pub awaited_named : (k : K) (i : ℕ) → lookup (eq k) es ≡ Some (Some i) → true ≡ is_pending eq k (stored eq es links ++ last_of last)
+    awaited_named k i is = sym (awaited_all k ∙ ap (λ o. names_one o || is_pending eq k (last_of last)) is)
 
-    pub not_awaited : (k : K) (o : Option (Option ℕ)) → lookup (eq k) es ≡ o → names_one o ≡ false → awaited eq k (last_of last) ≡ false → false ≡ awaited eq k (stored eq es links ++ last_of last)
+    pub not_awaited : (k : K) (o : Option (Option ℕ)) → lookup (eq k) es ≡ o → names_one o ≡ false → is_pending eq k (last_of last) ≡ false → false ≡ is_pending eq k (stored eq es links ++ last_of last)
     not_awaited k o is none other = sym (awaited_all k ∙ (λ j. names_one (is j) || other j) ∙ or_false (names_one o) ∙ none)
 
     -- one that isn't the key's stays
-    pub unmarked : (k : K) → awaited eq k (last_of last) ≡ false → last ≡ marked eq k last
+    pub unmarked : (k : K) → is_pending eq k (last_of last) ≡ false → last ≡ marked eq k last
     unmarked k other = by last other
       where
-        by : (o : Option (K × S × Bool)) → awaited eq k (last_of o) ≡ false → o ≡ marked eq k o
+        by : (o : Option (K × S × Bool)) → is_pending eq k (last_of o) ≡ false → o ≡ marked eq k o
         by None n = refl
         by (Some (j, s, true)) n = refl
         by (Some (j, s, false)) n = λ t. Some (j, s, sym (left_false (eq k j) false n) t)

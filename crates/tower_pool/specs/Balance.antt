@@ -9,13 +9,13 @@ use Rattle.futures.specs.declared.task.Poll.TheVariants.{Ready, Pending}
 use Rattle.indexmap.specs.IndexMap.{swap_remove_entry}
 use Rattle.tower_base.specs.Answers.{answered}
 use Rattle.tower_base.specs.Draw.{Drawn}
-use Rattle.tower_base.specs.Passes.{Goes, Passes}
+use Rattle.tower_base.specs.Iterations.{Iterates, Iterations}
 use Rattle.tower_base.specs.declared.service.Service.{Ghosts as ServiceOf}
 use Rattle.tower_base.specs.declared.service.Steps.{Ghosts as StepsOf}
 use Rattle.tower_limit.specs.Discover.{Found, MayInsert}
 use Rattle.tower_limit.specs.declared.discover.Change.TheVariants.{Insert, Remove}
-use Rattle.tower_pool.specs.ReadyCache.{At, Called as CacheCalled, Checked, PendingNeeds, ReadyCacheView, Sound as CacheSound, cancel, waiting}
-use Rattle.tower_pool.specs.ReadyCachePoll.{ByTest, PendingPolled}
+use Rattle.tower_pool.specs.ReadyCache.{At, Called as CacheCalled, Checked, PendingNeeds, ReadyCacheView, Sound as CacheSound, cancel, pending_entry}
+use Rattle.tower_pool.specs.ReadyCachePoll.{IfThenElse, PendingPolled}
 use Rattle.tower_util.specs.Fuse.{Stepped as FuseStepped}
 use Rattle.tower_pool.specs.declared.balance.p2c.service.Balance.{Balance}
 use Rattle.tower_pool.specs.declared.balance.error.Error.{Error}
@@ -39,8 +39,8 @@ abbrev pub view_of : {D R Q K S X : Type 0} → Balance D R Q K S X → BalanceV
 view_of b = record { discover = b.discover; services = b.services.lists; kept = b.kept; rng = b.rng; change = b.change; is_over = b.is_over }
 
 -- a new `Balance`
-abbrev pub fresh : {D R K S : Type 0} → D → R → BalanceView D R K S
-fresh discover rng = record { discover = discover; services = record { ready = []; pending = [] }; kept = None; rng = rng; change = None; is_over = false }
+abbrev pub initial : {D R K S : Type 0} → D → R → BalanceView D R K S
+initial discover rng = record { discover = discover; services = record { ready = []; pending = [] }; kept = None; rng = rng; change = None; is_over = false }
 
 -- the number of endpoints, ready or pending
 abbrev pub count_of : {D R K S : Type 0} → BalanceView D R K S → ℕ
@@ -60,7 +60,7 @@ Needs discovery endpoint v source = ((v.is_over ≡ false) × discovery v.discov
 module _ {K S : Type 0} (eq : K → K → Bool) where
   -- the cache after a push that found room
   abbrev pub pushed : ReadyCacheView K S → K → S → ReadyCacheView K S
-  pushed c k s = record c { pending = cancel eq k c.pending ++ waiting k s ∷ [] }
+  pushed c k s = record c { pending = cancel eq k c.pending ++ pending_entry k s ∷ [] }
 
   -- the cache after an eviction
   abbrev pub evicted : ReadyCacheView K S → K → ReadyCacheView K S
@@ -72,7 +72,7 @@ module _ {D R K S X : Type 0} (discovered : D → Found K S X → D → Type 0) 
   Inserted old k s answer new = ((answer ≡ None) × (new ≡ record old { services = pushed eq old.services k s }))
       ⊎ ((answer ≡ Some (Err Memory)) × (new ≡ record old { change = Some (k, s) }))
 
-  -- one pass of reading the discovery, by what was found
+  -- one iteration of reading the discovery, by what was found
   abbrev pub AfterFound : BalanceView D R K S → Found K S X → Option (Result (Unit {0}) (Error E X)) → BalanceView D R K S → Type 0
   AfterFound old (Ready (Some (Ok (Insert k s)))) answer new = Inserted old k s answer new
   AfterFound old (Ready (Some (Ok (Remove k)))) answer new = (answer ≡ None) × (new ≡ record old { services = evicted eq old.services k })
@@ -80,13 +80,13 @@ module _ {D R K S X : Type 0} (discovered : D → Found K S X → D → Type 0) 
   AfterFound old (Ready None) answer new = (answer ≡ Some (Ok tt)) × (new ≡ record old { is_over = true })
   AfterFound old Pending answer new = (answer ≡ Some (Ok tt)) × (new ≡ old)
 
-  -- One pass of reading polls the discovery once.
+  -- One iteration of reading polls the discovery once.
   abbrev pub Reads : BalanceView D R K S → Option (Result (Unit {0}) (Error E X)) → BalanceView D R K S → Type 0
   Reads old answer new = (found : Found K S X) × (left : D) × discovered old.discover found left × AfterFound (record old { discover = left }) found answer new
 
-  -- A discovery that hasn't ended is read, in 64 passes at most.
+  -- A discovery that hasn't ended is read, in 64 iterations at most.
   abbrev pub ReadsAll : BalanceView D R K S → Result (Unit {0}) (Error E X) → BalanceView D R K S → Type 0
-  ReadsAll old answer new = ByTest old.is_over ((answer ≡ Ok tt) × (new ≡ old)) (Passes Reads (Ok tt) old answer new)
+  ReadsAll old answer new = IfThenElse old.is_over ((answer ≡ Ok tt) × (new ≡ old)) (Iterations Reads (Ok tt) old answer new)
 
   -- An insert that was kept is pushed first.
   abbrev pub ChangedAt : Option (K × S) → BalanceView D R K S → Result (Unit {0}) (Error E X) → BalanceView D R K S → Type 0
@@ -98,12 +98,12 @@ module _ {D R K S X : Type 0} (discovered : D → Found K S X → D → Type 0) 
   abbrev pub Changed : BalanceView D R K S → Result (Unit {0}) (Error E X) → BalanceView D R K S → Type 0
   Changed old answer new = ChangedAt old.change old answer new
 
--- the ready endpoint that a pass polls, if there is one: the endpoint at the kept index
+-- the ready endpoint that an iteration polls, if there is one: the endpoint at the kept index
 abbrev pub asked_at : {K S : Type 0} → Option ℕ → List (K × S) → List (K × S)
 asked_at None ready = []
 asked_at (Some i) ready = option_map_or (λ e. e ∷ []) (slice_get ready i) []
 
--- If a pass picked an endpoint, another pass follows. If it picked none, the poll is pending.
+-- If an iteration picked an endpoint, another iteration follows. If it picked none, the poll is pending.
 abbrev pub answer_of : {A : Type 0} → Option ℕ → Option (Poll A)
 answer_of None = Some Pending
 answer_of (Some i) = None
@@ -147,7 +147,7 @@ module _ {D R K S Q A E G X : Type 0} (eq : K → K → Bool) (s : ServiceOf S Q
   Promoted old answer new = Promotes eq s old.services answer new.services × (new ≡ record old { services = new.services })
 
 module _ {D R K S Q A E G X M : Type 0} (eq : K → K → Bool) (s : ServiceOf S Q A E G) (loaded : S → M → Type 0) (cmp : M → M → Option Ordering) (drew : R → ℕ → R → Type 0) where
-  -- The index that was picked is kept, and is checked in the next pass. If none was picked, the poll is pending.
+  -- The index that was picked is kept, and is checked in the next iteration. If none was picked, the poll is pending.
   abbrev pub Chooses : BalanceView D R K S → Option (Poll (Result (Unit {0}) (Error E X))) → BalanceView D R K S → Type 0
   Chooses old answer new = (index : Option ℕ) × (rng : R) × Picked loaded cmp drew old.services.ready old.rng index rng
       × (answer ≡ answer_of index) × (new ≡ record old { rng = rng; kept = index })
@@ -158,20 +158,20 @@ module _ {D R K S Q A E G X M : Type 0} (eq : K → K → Bool) (s : ServiceOf S
   AfterCheck old i (Ok false) answer new = Chooses old answer new
   AfterCheck old i (Err x) answer new = Chooses old answer new
 
-  -- one pass of choosing, which checks a kept index once
-  abbrev pub PassAt : Option ℕ → BalanceView D R K S → Option (Poll (Result (Unit {0}) (Error E X))) → BalanceView D R K S → Type 0
-  PassAt None old answer new = Chooses old answer new
-  PassAt (Some i) old answer new = (inner : Result Bool (Failed K E)) × (services : ReadyCacheView K S) × Checked eq s old.services i inner services
+  -- one iteration of choosing, which checks a kept index once
+  abbrev pub IterationAt : Option ℕ → BalanceView D R K S → Option (Poll (Result (Unit {0}) (Error E X))) → BalanceView D R K S → Type 0
+  IterationAt None old answer new = Chooses old answer new
+  IterationAt (Some i) old answer new = (inner : Result Bool (Failed K E)) × (services : ReadyCacheView K S) × Checked eq s old.services i inner services
       × AfterCheck (record old { services = services }) i inner answer new
 
-  abbrev pub Pass : BalanceView D R K S → Option (Poll (Result (Unit {0}) (Error E X))) → BalanceView D R K S → Type 0
-  Pass old answer new = PassAt old.kept old answer new
+  abbrev pub Iteration : BalanceView D R K S → Option (Poll (Result (Unit {0}) (Error E X))) → BalanceView D R K S → Type 0
+  Iteration old answer new = IterationAt old.kept old answer new
 
-  -- a pass, with the endpoints that were polled so far
-  abbrev pub CountedPass : BalanceView D R K S × List (K × S) → Option (Poll (Result (Unit {0}) (Error E X))) → BalanceView D R K S × List (K × S) → Type 0
-  CountedPass old answer new = Pass old.0 answer new.0 × (new.1 ≡ old.1 ++ asked_at old.0.kept old.0.services.ready)
+  -- an iteration, with the endpoints that were polled so far
+  abbrev pub CountedIteration : BalanceView D R K S × List (K × S) → Option (Poll (Result (Unit {0}) (Error E X))) → BalanceView D R K S × List (K × S) → Type 0
+  CountedIteration old answer new = Iteration old.0 answer new.0 × (new.1 ≡ old.1 ++ asked_at old.0.kept old.0.services.ready)
 
-  -- The choosing of a poll makes at most one pass more than endpoints were ready when it began. The endpoints that were ready then are, in some
+  -- The choosing of a poll makes at most one iteration more than endpoints were ready when it began. The endpoints that were ready then are, in some
   -- order, those that were polled and the rest, so each is polled at most once.
   pub record Chosen (old : BalanceView D R K S) (answer : Poll (Result (Unit {0}) (Error E X))) (new : BalanceView D R K S) : Type 0 where
     pub count : ℕ
@@ -179,8 +179,8 @@ module _ {D R K S Q A E G X M : Type 0} (eq : K → K → Bool) (s : ServiceOf S
     pub asked : List (K × S)
     pub rest : List (K × S)
     pub within : count ≤ length old.services.ready
-    pub went : Goes CountedPass count (old, []) (last, asked)
-    pub ends : Pass last (Some answer) new
+    pub went : Iterates CountedIteration count (old, []) (last, asked)
+    pub ends : Iteration last (Some answer) new
     pub once : IsPermutation old.services.ready ((asked ++ asked_at last.kept last.services.ready) ++ rest)
 
   -- `AfterPromotion` is what follows the promotion, and `AfterChanges` what follows the changes, which come first.

@@ -8,7 +8,7 @@ use Rattle.futures.specs.declared.task.Poll.{Poll}
 use Rattle.futures.specs.declared.task.Poll.TheVariants.{Ready, Pending}
 use Rattle.tower_base.specs.declared.service.Service.{Ghosts as ServiceOf}
 use Rattle.tower_limit.specs.Discover.{Found}
-use Rattle.tower_pool.specs.Balance.{AfterChanges, AfterCheck, AfterPromotion, BalanceView, Chooses, IsReady, PassAt, PickedOf, Polled, answer_of}
+use Rattle.tower_pool.specs.Balance.{AfterChanges, AfterCheck, AfterPromotion, BalanceView, Chooses, IsReady, IterationAt, PickedOf, Polled, answer_of}
 use Rattle.tower_pool.specs.ReadyCache.{At}
 use Rattle.tower_pool.specs.declared.balance.error.Error.{Error}
 use Rattle.tower_pool.specs.declared.ready_cache.error.Failed.{Failed}
@@ -32,7 +32,7 @@ module _ {D R K S Q A E G X M : Type 0} (eq : K → K → Bool) (s : ServiceOf S
   checked_ok old i (Err x) answer new kept h e = absurd (picked_on {E = E} {X = X} h.0 (sym h.3 ∙ e))
 
   pass_ok : (old : BalanceView D R K S) (kept : Option ℕ) → old.kept ≡ kept → (answer : Option (Poll (Result (Unit {0}) (Error E X)))) (new : BalanceView D R K S)
-      → PassAt eq s loaded cmp drew kept old answer new → answer ≡ Some (Ready (Ok tt)) → IsReady s.ready new
+      → IterationAt eq s loaded cmp drew kept old answer new → answer ≡ Some (Ready (Ok tt)) → IsReady s.ready new
   pass_ok old None is answer new h e = absurd (picked_on {E = E} {X = X} h.0 (sym h.3 ∙ e))
   pass_ok old (Some i) is answer new h e = checked_ok (record old { services = h.1 }) i h.0 answer new is h.3 e
 
@@ -55,7 +55,7 @@ module _ {D R K S Q A E G X M : Type 0} (eq : K → K → Bool) (s : ServiceOf S
       by (Some i) is = let f : answer ≡ None = h.3 ∙ ap answer_of is in cc
 
   pass_none : (old : BalanceView D R K S) (kept : Option ℕ) (answer : Option (Poll (Result (Unit {0}) (Error E X)))) (new : BalanceView D R K S)
-      → PassAt eq s loaded cmp drew kept old answer new → answer ≡ Some Pending → new.services.ready ≡ []
+      → IterationAt eq s loaded cmp drew kept old answer new → answer ≡ Some Pending → new.services.ready ≡ []
   pass_none old None answer new h e = chosen_none old answer new h e
   pass_none old (Some i) answer new h e = by h.0 h.3
     where

@@ -5,7 +5,7 @@ use Rattle.futures.specs.declared.task.Poll.TheVariants.{Ready, Pending}
 use Rattle.tower_base.specs.Answers.{answered}
 use Rattle.tower_base.specs.declared.service.Service.{Ghosts as ServiceOf}
 use Rattle.tower_base.specs.declared.service.Steps.{Ghosts as StepsOf}
-use Rattle.tower_pool.specs.Balance.{fresh, view_of}
+use Rattle.tower_pool.specs.Balance.{initial, view_of}
 use Rattle.tower_pool.specs.declared.balance.p2c.service.Balance.{Balance}
 use Rattle.tower_pool.specs.declared.balance.p2c.make.State.{State}
 use Rattle.tower_pool.specs.declared.balance.p2c.make.State.TheVariants.{Asked, Refused}
@@ -44,7 +44,7 @@ CanPoll can_poll Refused = Unit {0}
 module _ {F D E R Q K S X : Type 0} (f : StepsOf F (Result D E)) where
   -- Once the discovery is there its balancer is made, which draws by the generator.
   abbrev pub AfterStep : F → R → Poll (Result D E) → Poll (Result (Balance D R Q K S X) (MakeError E)) → State F R → Type 0
-  AfterStep left rng (Ready (Ok discover)) answer new = (b : Balance D R Q K S X) × (view_of b ≡ fresh discover rng) × (answer ≡ Ready (Ok b)) × (new ≡ Asked left None)
+  AfterStep left rng (Ready (Ok discover)) answer new = (b : Balance D R Q K S X) × (view_of b ≡ initial discover rng) × (answer ≡ Ready (Ok b)) × (new ≡ Asked left None)
   AfterStep left rng (Ready (Err e)) answer new = (answer ≡ Ready (Err (Inner e))) × (new ≡ Asked left (Some rng))
   AfterStep left rng Pending answer new = (answer ≡ Pending) × (new ≡ Asked left (Some rng))
 

@@ -37,38 +37,38 @@ pub record CountedView (K S : Type 0) : Type 0 where
   pub touches : ℕ
 
 -- a new pending endpoint
-abbrev pub waiting : {K S : Type 0} → K → S → PendingView K S
-waiting k s = record { key = k; service = s; cancelled = false }
+abbrev pub pending_entry : {K S : Type 0} → K → S → PendingView K S
+pending_entry k s = record { key = k; service = s; cancelled = false }
 
 module _ {K S : Type 0} (eq : K → K → Bool) where
   -- whether the entry has this key and isn't cancelled
-  abbrev pub waits : K → PendingView K S → Bool
-  waits k p = not p.cancelled && eq k p.key
+  abbrev pub is_entry_of : K → PendingView K S → Bool
+  is_entry_of k p = not p.cancelled && eq k p.key
 
   -- whether the list has such an entry
-  abbrev pub awaited : K → List (PendingView K S) → Bool
-  awaited k ps = list_any (waits k) ps
+  abbrev pub is_pending : K → List (PendingView K S) → Bool
+  is_pending k ps = list_any (is_entry_of k) ps
 
   -- the list with that entry cancelled
   abbrev pub cancel : K → List (PendingView K S) → List (PendingView K S)
   cancel k [] = []
-  cancel k (p ∷ ps) = if waits k p then (record p { cancelled = true }) ∷ ps else p ∷ cancel k ps
+  cancel k (p ∷ ps) = if is_entry_of k p then (record p { cancelled = true }) ∷ ps else p ∷ cancel k ps
 
   -- An endpoint that was ready becomes the last pending one. If a newer one of its key is pending, it is dropped instead.
   abbrev pub put_back : K → S → List (PendingView K S) → List (PendingView K S)
-  put_back k s ps = if awaited k ps then ps else ps ++ waiting k s ∷ []
+  put_back k s ps = if is_pending k ps then ps else ps ++ pending_entry k s ∷ []
 
   -- A push of this key may have been refused: a clone of the key may fail; or the key has no endpoint yet, and no further key fits; or there is room
   -- for one more endpoint at most.
   abbrev pub MayRefuse : CloneOf K → CountedView K S → K → Type 0
   MayRefuse clones old key = (¬ (clones.is_infallible key))
-      ⊎ ((old.room.keys ≡ 0) × ((is_some (lookup (eq key) old.lists.ready) || awaited key old.lists.pending) ≡ false))
+      ⊎ ((old.room.keys ≡ 0) × ((is_some (lookup (eq key) old.lists.ready) || is_pending key old.lists.pending) ≡ false))
       ⊎ (old.room.endpoints ≤ length old.lists.ready + length old.lists.pending + 1)
 
   -- The keys of entries that aren't cancelled are distinct.
   abbrev pub Apart : List (PendingView K S) → Type 0
   Apart [] = Unit {0}
-  Apart (p ∷ ps) = (p.cancelled ≡ false → awaited p.key ps ≡ false) × Apart ps
+  Apart (p ∷ ps) = (p.cancelled ≡ false → is_pending p.key ps ≡ false) × Apart ps
 
   -- the index of the key's ready endpoint
   abbrev pub place : K → List (K × S) → Option ℕ
@@ -80,7 +80,7 @@ module _ {K S : Type 0} (eq : K → K → Bool) where
   pub record CacheInvariant (is_clone : K → K → Type 0) (ready : List (K × S)) (pending : List (PendingView K S)) (knows : K → Bool) (room : ℕ) : Type 0 where
     pub clones : (x y : K) → is_clone x y → y ≡ x
     pub apart : Apart pending
-    pub known : (k : K) → knows k ≡ (is_some (lookup (eq k) ready) || awaited k pending)
+    pub known : (k : K) → knows k ≡ (is_some (lookup (eq k) ready) || is_pending k pending)
     pub fits : length ready + length pending ≤ room
 
 -- A pending endpoint's service is sound, unless the endpoint is cancelled.

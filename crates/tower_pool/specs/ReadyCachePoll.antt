@@ -10,15 +10,15 @@ use Rattle.tower_pool.specs.declared.ready_cache.error.Error.{Error}
 use Rattle.tower_pool.specs.declared.ready_cache.error.Error.TheVariants.{Failed, Memory}
 
 -- one of two facts, by a test
-abbrev pub ByTest : Bool → Type 0 → Type 0 → Type 0
-ByTest true P Q = P
-ByTest false P Q = Q
+abbrev pub IfThenElse : Bool → Type 0 → Type 0 → Type 0
+IfThenElse true P Q = P
+IfThenElse false P Q = Q
 
 -- one of three facts, by whether an endpoint is ready, failed or is pending
-abbrev pub ByAnswer : {E : Type 0} → Poll (Result (Unit {0}) E) → Type 0 → (E → Type 0) → Type 0 → Type 0
-ByAnswer (Ready (Ok u)) P Fails Waits = P
-ByAnswer (Ready (Err e)) P Fails Waits = Fails e
-ByAnswer Pending P Fails Waits = Waits
+abbrev pub PollCases : {E : Type 0} → Poll (Result (Unit {0}) E) → Type 0 → (E → Type 0) → Type 0 → Type 0
+PollCases (Ready (Ok u)) P Fails Waits = P
+PollCases (Ready (Err e)) P Fails Waits = Fails e
+PollCases Pending P Fails Waits = Waits
 
 -- what a poll returns once it has polled all: `Ok` if none of them is pending still
 abbrev pub Ends : {X E : Type 0} → List X → Poll (Result (Unit {0}) E) → Type 0
@@ -30,25 +30,25 @@ module _ {K S Q A E G : Type 0} (eq : K → K → Bool) (s : ServiceOf S Q A E G
   -- cancelled entry leaves. For another one, room among the ready ones is allocated; if that fails, the poll stops (`Memory`). Then it is polled
   -- once. If it is ready, it goes to the end of the ready ones, or takes the index of an older one of its key, whose key stays. If it failed, it
   -- leaves, and the poll stops. If it is pending, it stays.
-  abbrev pub EachAsked : List (PendingView K S) → List (PendingView K S) → List (K × S) → Poll (Result (Unit {0}) (Error K E)) → ReadyCacheView K S → Type 0
-  EachAsked asked [] ready answer new = Ends asked answer × (new ≡ record { ready = ready; pending = asked })
-  EachAsked asked (p ∷ rest) ready answer new =
-      ByTest p.cancelled (EachAsked asked rest ready answer new)
+  abbrev pub EachPolled : List (PendingView K S) → List (PendingView K S) → List (K × S) → Poll (Result (Unit {0}) (Error K E)) → ReadyCacheView K S → Type 0
+  EachPolled asked [] ready answer new = Ends asked answer × (new ≡ record { ready = ready; pending = asked })
+  EachPolled asked (p ∷ rest) ready answer new =
+      IfThenElse p.cancelled (EachPolled asked rest ready answer new)
       (((answer ≡ Ready (Err Memory)) × (new ≡ record { ready = ready; pending = asked ++ p ∷ rest }))
-      ⊎ ((inner : Poll (Result (Unit {0}) E)) × (left : S) × s.polled p.service inner left × ByAnswer inner
-      (EachAsked asked rest (insert_entry eq ready p.key left) answer new)
+      ⊎ ((inner : Poll (Result (Unit {0}) E)) × (left : S) × s.polled p.service inner left × PollCases inner
+      (EachPolled asked rest (insert_entry eq ready p.key left) answer new)
       (λ e. (answer ≡ Ready (Err (Failed p.key e))) × (new ≡ record { ready = ready; pending = asked ++ rest }))
-      (EachAsked (asked ++ (record p { service = left }) ∷ []) rest ready answer new)))
+      (EachPolled (asked ++ (record p { service = left }) ∷ []) rest ready answer new)))
 
   -- a whole poll: none was polled yet
   abbrev pub PendingPolled : ReadyCacheView K S → Poll (Result (Unit {0}) (Error K E)) → ReadyCacheView K S → Type 0
-  PendingPolled old answer new = EachAsked [] old.pending old.ready answer new
+  PendingPolled old answer new = EachPolled [] old.pending old.ready answer new
 
   -- One entry's part of a poll, as the code's loop makes it: `Ok true` says that the entry is pending still, and is the last now; `Ok false` that
   -- it left the list, since it was cancelled or is ready.
   abbrev pub Asked : List (K × S) → PendingView K S → List (PendingView K S) → Result Bool (Error K E) → ReadyCacheView K S → Type 0
   Asked ready p rest (Ok false) new =
-      ByTest p.cancelled (new ≡ record { ready = ready; pending = rest })
+      IfThenElse p.cancelled (new ≡ record { ready = ready; pending = rest })
       ((left : S) × s.polled p.service (Ready (Ok tt)) left × (new ≡ record { ready = insert_entry eq ready p.key left; pending = rest }))
   Asked ready p rest (Ok true) new =
       (p.cancelled ≡ false) × ((left : S) × s.polled p.service Pending left × (new ≡ record { ready = ready; pending = rest ++ (record p { service = left }) ∷ [] }))
@@ -57,8 +57,8 @@ module _ {K S Q A E G : Type 0} (eq : K → K → Bool) (s : ServiceOf S Q A E G
       (p.cancelled ≡ false) × (k ≡ p.key) × ((left : S) × s.polled p.service (Ready (Err e)) left × (new ≡ record { ready = ready; pending = rest }))
 
   -- the first entry's part, if there is an entry
-  abbrev pub AskedFirst : ReadyCacheView K S → Result Bool (Error K E) → ReadyCacheView K S → Type 0
-  AskedFirst old answer new = (p : PendingView K S) (rest : List (PendingView K S)) → old.pending ≡ p ∷ rest → Asked old.ready p rest answer new
+  abbrev pub PolledFirst : ReadyCacheView K S → Result Bool (Error K E) → ReadyCacheView K S → Type 0
+  PolledFirst old answer new = (p : PendingView K S) (rest : List (PendingView K S)) → old.pending ≡ p ∷ rest → Asked old.ready p rest answer new
 
 -- The list after this many of its first entries went to its end, one after another. A poll that stops early so puts the entries that it hasn't
 -- polled behind those that are pending still.

@@ -4,7 +4,7 @@ use Rattle.std.specs.declared.alloc.AllocError.{AllocError}
 use Rattle.futures.specs.declared.task.Poll.{Poll}
 use Rattle.futures.specs.declared.task.Poll.TheVariants.{Ready, Pending}
 use Rattle.tower_base.specs.Answers.{answered}
-use Rattle.tower_base.specs.Passes.{Passes}
+use Rattle.tower_base.specs.Iterations.{Iterations}
 use Rattle.tower_latch.specs.declared.Latch.{Ghosts as LatchOf}
 use Rattle.tower_base.specs.declared.service.Executor.{Ghosts as ExecutorOf}
 use Rattle.tower_base.specs.declared.service.Service.{Ghosts as ServiceOf}
@@ -95,7 +95,7 @@ module _ {S E L : Type 0} (l : LatchOf L (Slot S E) (SlotStep S E) (SlotReply S 
 
 module _ {S Q A E F L X : Type 0} (s : ServiceOf S Q A E F) (l : LatchOf L (Slot S E) (SlotStep S E) (SlotReply S E) (Unit {0}))
     (x : ExecutorOf X (ReadyTask S Q E L A F)) where
-  -- the outcome of one pass: no answer yet, or the poll's
+  -- the outcome of one iteration: no answer yet, or the poll's
   abbrev pub Answer : Type 0
   Answer = Option (Poll (Result (Unit {0}) (Error E)))
 
@@ -157,18 +157,18 @@ module _ {S Q A E F L X : Type 0} (s : ServiceOf S Q A E F) (l : LatchOf L (Slot
   AfterPoll old left (Ready (Ok u)) answer new = (answer ≡ Some (Ready (Ok tt))) × (new ≡ record old { service = Some left })
   AfterPoll old left (Ready (Err e)) answer new = (answer ≡ Some (Ready (Err (Inner e)))) × (new ≡ record old { service = Some left })
 
-  -- One pass polls the service if it is here, and looks for it if not.
-  abbrev pub PassAt : Option S → SpawnReadyView S X L → Answer → SpawnReadyView S X L → Type 0
-  PassAt (Some service) old answer new = (readiness : Poll (Result (Unit {0}) E)) × (left : S) × s.polled service readiness left
+  -- One iteration polls the service if it is here, and looks for it if not.
+  abbrev pub IterationAt : Option S → SpawnReadyView S X L → Answer → SpawnReadyView S X L → Type 0
+  IterationAt (Some service) old answer new = (readiness : Poll (Result (Unit {0}) E)) × (left : S) × s.polled service readiness left
       × AfterPoll old left readiness answer new
-  PassAt None old answer new = Looks old answer new
+  IterationAt None old answer new = Looks old answer new
 
-  abbrev pub Pass : SpawnReadyView S X L → Answer → SpawnReadyView S X L → Type 0
-  Pass old answer new = PassAt old.service old answer new
+  abbrev pub Iteration : SpawnReadyView S X L → Answer → SpawnReadyView S X L → Type 0
+  Iteration old answer new = IterationAt old.service old answer new
 
-  -- a poll of readiness: passes until one has an answer, or as many as a poll makes at most
+  -- a poll of readiness: iterations until one has an answer, or as many as a poll makes at most
   pub record Polled (old : SpawnReadyView S X L) (answer : Poll (Result (Unit {0}) (Error E))) (new : SpawnReadyView S X L) : Type 0 where
-    pub passes : Passes Pass Pending old answer new
+    pub passes : Iterations Iteration Pending old answer new
 
 module _ {S Q A E F : Type 0} (s : ServiceOf S Q A E F) where
   -- a call: one call of the service, which is here and ready

@@ -1,13 +1,13 @@
--- An `Ok` of a `SpawnReady` comes from the last pass, and leaves a ready value.
+-- An `Ok` of a `SpawnReady` comes from the last iteration, and leaves a ready value.
 use Rattle.std.specs.Prelude.{Option, Some, None, Result, Ok, Err, IsSomeAnd}
 use Rattle.std.proofs.Common.{⊎_elim}
 use Rattle.futures.specs.declared.task.Poll.{Poll}
 use Rattle.futures.specs.declared.task.Poll.TheVariants.{Ready, Pending}
-use Rattle.tower_base.specs.PassesLemmas.{passes_last}
+use Rattle.tower_base.specs.IterationsLemmas.{iterations_last}
 use Rattle.tower_latch.specs.declared.Latch.{Ghosts as LatchOf}
 use Rattle.tower_base.specs.declared.service.Executor.{Ghosts as ExecutorOf}
 use Rattle.tower_base.specs.declared.service.Service.{Ghosts as ServiceOf}
-use Rattle.tower_pool.specs.SpawnReady.{AfterPoll, AfterReply, AfterSpawn, HandsOver, Pass, PassAt, Polled, SpawnReadyView}
+use Rattle.tower_pool.specs.SpawnReady.{AfterPoll, AfterReply, AfterSpawn, HandsOver, Iteration, IterationAt, Polled, SpawnReadyView}
 use Rattle.tower_pool.specs.declared.spawn_ready.slot_core.Slot.{Slot}
 use Rattle.tower_pool.specs.declared.spawn_ready.slot_core.SlotStep.{SlotStep}
 use Rattle.tower_pool.specs.declared.spawn_ready.slot_core.SlotReply.{SlotReply}
@@ -40,7 +40,7 @@ module _ {S Q A E F L X : Type 0} (s : ServiceOf S Q A E F) (l : LatchOf L (Slot
   after_poll old new service left (Ready (Ok u)) p h = rw h.1 (readies service left p)
   after_poll old new service left (Ready (Err e)) p h = absurd (let e = h.0 in cc)
 
-  pass_ok : (here : Option S) (old new : SpawnReadyView S X L) → PassAt s l x here old (Some (Ready (Ok tt))) new → IsSomeAnd new.service s.ready
+  pass_ok : (here : Option S) (old new : SpawnReadyView S X L) → IterationAt s l x here old (Some (Ready (Ok tt))) new → IsSomeAnd new.service s.ready
   pass_ok (Some service) old new h = after_poll old new service h.1 h.0 h.2 h.3
   pass_ok None old new h = absurd (after_reply old new h.0 h.2)
 
@@ -49,4 +49,4 @@ pub polled_ok : {S Q A E F L X : Type 0} {s : ServiceOf S Q A E F} {l : LatchOf 
     → (old new : SpawnReadyView S X L) → Polled s l x old (Ready (Ok tt)) new → IsSomeAnd new.service s.ready
 polled_ok {s = s} {l = l} {x = x} readies old new p =
     pass_ok s l x readies p.passes.last.service p.passes.last new
-    (passes_last (Pass s l x) Pending (Ready (Ok tt)) old new (λ e. cc) p.passes)
+    (iterations_last (Iteration s l x) Pending (Ready (Ok tt)) old new (λ e. cc) p.passes)

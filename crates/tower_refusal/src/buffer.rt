@@ -10,7 +10,13 @@ impl<E: StackError> StackError for buffer::Error<E> {
 
     type ServiceError = E::ServiceError;
 
-    ghost cause = { elim [ Inner error ↦ E.cause error | Service failed ↦ E.cause failed.error | IsClosed ↦ Refused Closed | IsMemory ↦ Refused Memory | IsNotSpawned ↦ Refused NotSpawned ] };
+    ghost cause = { elim [
+      | Inner error ↦ E.cause error
+      | Service failed ↦ E.cause failed.error
+      | IsClosed ↦ Refused Closed
+      | IsMemory ↦ Refused Memory
+      | IsNotSpawned ↦ Refused NotSpawned
+    ] };
 
     fn cause(&self) -> Cause<&E::ServiceError> {
         match self {

@@ -10,7 +10,11 @@ impl<E: StackError, D> StackError for balance::Error<E, D> {
 
     type ServiceError = E::ServiceError;
 
-    ghost cause = { elim [ Inner error ↦ E.cause error | IsDiscover _ ↦ Refused Discover | IsMemory ↦ Refused Memory ] };
+    ghost cause = { elim [
+      | Inner error ↦ E.cause error
+      | IsDiscover _ ↦ Refused Discover
+      | IsMemory ↦ Refused Memory
+    ] };
 
     fn cause(&self) -> Cause<&E::ServiceError> {
         match self {
@@ -59,7 +63,12 @@ impl<E: StackError> StackError for spawn_ready::Error<E> {
 
     type ServiceError = E::ServiceError;
 
-    ghost cause = { elim [ Inner error ↦ E.cause error | IsMemory ↦ Refused Memory | IsGone ↦ Refused Gone | IsNotSpawned ↦ Refused NotSpawned ] };
+    ghost cause = { elim [
+      | Inner error ↦ E.cause error
+      | IsMemory ↦ Refused Memory
+      | IsGone ↦ Refused Gone
+      | IsNotSpawned ↦ Refused NotSpawned
+    ] };
 
     fn cause(&self) -> Cause<&E::ServiceError> {
         match self {

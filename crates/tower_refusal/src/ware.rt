@@ -43,7 +43,11 @@ impl<E: StackError, P> StackError for filter::Error<E, P> {
 
     type ServiceError = E::ServiceError;
 
-    ghost cause = { elim [ Inner error ↦ E.cause error | IsRejected _ ↦ Refused Rejected | IsMemory ↦ Refused Memory ] };
+    ghost cause = { elim [
+      | Inner error ↦ E.cause error
+      | IsRejected _ ↦ Refused Rejected
+      | IsMemory ↦ Refused Memory
+    ] };
 
     fn cause(&self) -> Cause<&E::ServiceError> {
         match self {
@@ -60,7 +64,11 @@ impl<E: StackError, M> StackError for reconnect::Error<E, M> {
 
     type ServiceError = E::ServiceError;
 
-    ghost cause = { elim [ Inner error ↦ E.cause error | IsMake _ ↦ Refused Make | IsMemory ↦ Refused Memory ] };
+    ghost cause = { elim [
+      | Inner error ↦ E.cause error
+      | IsMake _ ↦ Refused Make
+      | IsMemory ↦ Refused Memory
+    ] };
 
     fn cause(&self) -> Cause<&E::ServiceError> {
         match self {

@@ -7,7 +7,7 @@ use Rattle.std.proofs.lemmas.Bool.Decides.{nat_tests}
 use Rattle.std.proofs.Math.Logic.{∥∥₁_map}
 use Rattle.tower_latch.specs.HistoryLemmas.{serves_at, plain_run}
 use Rattle.tower_latch.specs.Latch.{Serves}
-use Rattle.tower_retry.specs.Budget.{Ledger, Steps, advanced, blank, counts, generation_at, size, total}
+use Rattle.tower_retry.specs.Budget.{Ledger, Steps, advanced, initial, counts, generation_at, size, total}
 use Rattle.tower_retry.specs.BudgetBound.{RetriesBounded, BoundedAtLatch, BoundedInHistory, cost, gain, spent, earned}
 use Rattle.tower_retry.specs.BudgetCore.{StandsFor, Opens}
 use Rattle.tower_retry.specs.BudgetTermsLemmas.{serves_terms, step_terms}
@@ -152,7 +152,7 @@ all_grown g old new (entry ∷ rest) run d w =
 
 pub retries_bounded : RetriesBounded
 retries_bounded terms made moment served past next some run step never few =
-    let opening = blank terms made in
+    let opening = initial terms made in
     let no_gap : made - made ≡ 0 = omega arith in
     let at_first : 0 ≡ (made - made) / terms.window = rw no_gap (sym (zero-div terms.window)) in
     let all = later opening past served made moment some run never at_first in
@@ -174,6 +174,6 @@ bounded_at_latch terms moment some came = ∥∥₁_map (runs_from_terms terms (
 
 pub bounded_in_history : BoundedInHistory
 bounded_in_history terms made budget opening history some held is legal place moment at never few =
-    let run = plain_run Opens StandsFor Steps budget (blank terms made) opening history held is legal in
-    let here = serves_at Steps (blank terms made) run.0 history place (Withdraw moment) (Allowed true) run.1 at in
+    let run = plain_run Opens StandsFor Steps budget (initial terms made) opening history held is legal in
+    let here = serves_at Steps (initial terms made) run.0 history place (Withdraw moment) (Allowed true) run.1 at in
     retries_bounded terms made moment (take place history) here.0 here.1 some here.2 here.3 never few

@@ -12,7 +12,7 @@ use Rattle.tower_retry.proofs.BudgetLemmas.{exact, older_sum, other_size, other_
 use Rattle.tower_retry.proofs.SlotLemmas.{back_size, none_keeps, saturates, triangle}
 use Rattle.tower_retry.specs.Budget.{Ledger, added, advanced, generation_at, IsExact, Steps, balance}
 use Rattle.tower_retry.specs.BudgetCore.{StandsFor, SumsKept, kept_balance}
-use Rattle.tower_retry.specs.Slots.{Each, Keeps, Moves, kept_sum, size_back, slot, sum_back}
+use Rattle.tower_retry.specs.Slots.{Each, Keeps, Shifted, kept_sum, size_back, slot, sum_back}
 use Rattle.tower_retry.specs.declared.retry.budget.budget_core.BudgetCore.{BudgetCore}
 use Rattle.tower_retry.specs.declared.retry.budget.steps.Amount.{Amount}
 use Rattle.tower_retry.specs.declared.retry.budget.steps.Terms.{Terms}
@@ -127,7 +127,7 @@ early_size g b (a ∷ rest) early =
     other_size g b a rest no ∙ early_size g b rest early
 
 pub begun_later : (old : BudgetCore) (n j : ℕ) (present : ℤ) (new : List ℤ) → present ≡ old.present
-    → Moves n present old.slots.index old.slots.amounts.items j new → Begun (old.generation + n) j new
+    → Shifted n present old.slots.index old.slots.amounts.items j new → Begun (old.generation + n) j new
 begun_later old n j present new is moves = λ back early few.
     let plain = itself old in
     let l = plain.0 in
@@ -221,7 +221,7 @@ is_after made window moment some =
 -- at that moment, so many generations later
 pub moved_on : (old new : BudgetCore) (l : Ledger) (n moment : ℕ) (present : ℤ) → 0 < n → old.generation + n ≡ generation_at old.made old.terms.window moment → present ≡ old.present
     → new.terms ≡ old.terms → new.made ≡ old.made → new.generation ≡ generation_at old.made old.terms.window moment → new.present ≡ pos 0
-    → Moves n present old.slots.index old.slots.amounts.items new.slots.index new.slots.amounts.items → StandsFor old l → StandsFor new (advanced l moment)
+    → Shifted n present old.slots.index old.slots.amounts.items new.slots.index new.slots.amounts.items → StandsFor old l → StandsFor new (advanced l moment)
 moved_on old new l n moment present some is kept terms made generation none moves s =
     let old_terms = s.terms in
     let old_made = s.made in

@@ -5,7 +5,7 @@ use Rattle.std.proofs.Math.Nat.{add-mul-div_right, div-mul-le_self, max-eq_right
 use Rattle.std.proofs.lemmas.Nat.{le-div}
 use Rattle.std.proofs.lemmas.Bool.Decides.{nat_tests}
 use Rattle.tower_latch.specs.Latch.{Serves}
-use Rattle.tower_retry.specs.Budget.{Ledger, Steps, added, advanced, blank, counts, generation_at}
+use Rattle.tower_retry.specs.Budget.{Ledger, Steps, added, advanced, initial, counts, generation_at}
 use Rattle.tower_retry.specs.BudgetWindows.{CountsForTenWindows, NeverBack, deposit_at, moment_of}
 use Rattle.tower_retry.specs.declared.retry.budget.steps.Amount.{Amount}
 use Rattle.tower_retry.specs.declared.retry.budget.steps.BudgetStep.{BudgetStep}
@@ -125,7 +125,7 @@ counts_no_more g there here a own is far =
 pub counts_for_ten_windows : CountsForTenWindows
 counts_for_ten_windows terms made deposited moment before after past next now some before_run early step after_run late =
     let window = terms.window in
-    let opening = blank terms made in
+    let opening = initial terms made in
     let no_gap : made - made ≡ 0 = omega arith in
     let at_first : 0 ≡ (made - made) / window = rw no_gap (sym (zero-div window)) in
     let first = later opening past before made deposited some before_run early at_first in

@@ -1,14 +1,14 @@
--- How the passes of a `Retry`'s future add up to attempts.
+-- How the iterations of a `Retry`'s future add up to attempts.
 use Rattle.std.proofs.Common.{◌≡◌, ℕ, zero, suc, Option, Some, None, Result, Ok, Err, List, [], ◌∷◌, refl, subst, sym, ap, ⊎_elim}
 use Rattle.futures.specs.declared.task.Poll.{Poll}
 use Rattle.futures.specs.declared.task.Poll.TheVariants.{Ready, Pending}
 use Rattle.tower_base.specs.Gives.{GivesAfter, MayGive}
 use Rattle.std.specs.declared.clone.Clone.{Ghosts as CloneOf}
 use Rattle.tower_base.specs.GivesLemmas.{gives_same, gives_value}
-use Rattle.tower_base.specs.Passes.{Goes, Passes}
+use Rattle.tower_base.specs.Iterations.{Iterates, Iterations}
 use Rattle.tower_base.specs.declared.service.Service.{Ghosts as ServiceOf}
-use Rattle.tower_retry.specs.Retry.{AfterResult, Again, Pass, PassAt, ResponseFutureView, Stepped}
-use Rattle.tower_retry.specs.RetryAttempts.{Attempt, Attempted, Ends, GivesAnswers, ReadyAfter, Retries, Tried, Waited, Word, NotKept, NoRetry, RetryAfter}
+use Rattle.tower_retry.specs.Retry.{AfterResult, Again, Iteration, IterationAt, ResponseFutureView, Stepped}
+use Rattle.tower_retry.specs.RetryAttempts.{Attempt, Attempted, Ends, GivesAnswers, ReadyAfter, Retries, Tried, Waited, Decision, NotKept, NoRetry, RetryAfter}
 use Rattle.tower_retry.specs.declared.retry.error.Error.{Error}
 use Rattle.tower_retry.specs.declared.retry.error.Error.TheVariants.{Inner, Memory}
 use Rattle.tower_retry.specs.declared.retry.state.Attempts.{Attempts}
@@ -41,24 +41,24 @@ module _ {P S Q A E F W : Type 0} (s : ServiceOf S Q A E F) (stepped : F → Pol
 
   -- a result after which the policy asks for a wait
   rest_resumed : (response : F) (old : Attempts P S Q F W) (kept : Q) (result : Result A E) (wait : W) (policy : P) (changed : Q) (outcome : Result A E)
-      (output : Result A (Error E)) → old.request ≡ Some kept → MayGive stepped response result → p.asked old.policy kept result (Some wait) policy changed outcome
+      (output : Result A (Error E)) → old.request ≡ Some kept → MayGive stepped response result → p.decided old.policy kept result (Some wait) policy changed outcome
       → MayGive waited wait tt → Resumes (record { policy = policy; service = old.service; request = Some changed; state = Waiting wait }) output
       → RestAt (InFlight response) old output
-  rest_resumed response old kept result wait policy changed outcome output had gave asked ended (Err error, service, polls, readiness, is) = λ request. (
-    record { request = request; result = result; word = RetryAfter wait } ∷ [],
+  rest_resumed response old kept result wait policy changed outcome output had gave decided ended (Err error, service, polls, readiness, is) = λ request. (
+    record { request = request; result = result; decision = RetryAfter wait } ∷ [],
     (
       record { made = refl; response = response; in_flight = refl; gave = gave },
       (
         error,
         record { policy = policy; service = service; request = Some changed; state = Retrying },
-        record { kept = kept; had = had; changed = changed; outcome = outcome; asked = asked; ended = ended; polls = polls; readiness = readiness; request = refl; state = refl },
+        record { kept = kept; had = had; changed = changed; outcome = outcome; decided = decided; ended = ended; polls = polls; readiness = readiness; request = refl; state = refl },
         is,
       ),
     ),
   )
-  rest_resumed response old kept result wait policy changed outcome output had gave asked ended (Ok ready, service, polls, readiness, (new, again, ([], none))) = absurd none
-  rest_resumed response old kept result wait policy changed outcome output had gave asked ended (Ok ready, service, polls, readiness, (new, again, (next ∷ rest, more))) = λ request. (
-    record { request = request; result = result; word = RetryAfter wait } ∷ next ∷ rest,
+  rest_resumed response old kept result wait policy changed outcome output had gave decided ended (Ok ready, service, polls, readiness, (new, again, ([], none))) = absurd none
+  rest_resumed response old kept result wait policy changed outcome output had gave decided ended (Ok ready, service, polls, readiness, (new, again, (next ∷ rest, more))) = λ request. (
+    record { request = request; result = result; decision = RetryAfter wait } ∷ next ∷ rest,
     (
       record { made = refl; response = response; in_flight = refl; gave = gave },
       (
@@ -66,7 +66,7 @@ module _ {P S Q A E F W : Type 0} (s : ServiceOf S Q A E F) (stepped : F → Pol
         new,
         (
           record { policy = policy; service = service; request = Some changed; state = Retrying },
-          record { kept = kept; had = had; changed = changed; outcome = outcome; asked = asked; ended = ended; polls = polls; readiness = readiness; request = refl; state = refl },
+          record { kept = kept; had = had; changed = changed; outcome = outcome; decided = decided; ended = ended; polls = polls; readiness = readiness; request = refl; state = refl },
           (again, refl),
         ),
         more,
@@ -91,7 +91,7 @@ module _ {P S Q A E F W : Type 0} (s : ServiceOf S Q A E F) (stepped : F → Pol
     had = was.had;
     changed = was.changed;
     outcome = was.outcome;
-    asked = was.asked;
+    decided = was.decided;
     ended = was.ended;
     polls = was.polls;
     readiness = was.readiness;
@@ -99,14 +99,14 @@ module _ {P S Q A E F W : Type 0} (s : ServiceOf S Q A E F) (stepped : F → Pol
     state = was.state;
   }
 
-  ends_at : (old : Attempts P S Q F W) (under_way : State F W) (word : Word W) (result : Result A E) (output : Result A (Error E))
-      → Ends s stepped p waited word old result output → Ends s stepped p waited word (record old { state = under_way }) result output
+  ends_at : (old : Attempts P S Q F W) (under_way : State F W) (decision : Decision W) (result : Result A E) (output : Result A (Error E))
+      → Ends s stepped p waited decision old result output → Ends s stepped p waited decision (record old { state = under_way }) result output
   ends_at old under_way NotKept result output ends = ends
   ends_at old under_way NoRetry result output ends = ends
   ends_at old under_way (RetryAfter wait) result output (error, left, was, is) = (error, left, waited_at old under_way result wait _ left was, is)
 
-  retries_at : (old : Attempts P S Q F W) (under_way : State F W) (word : Word W) (result : Result A E) (request : Q) (new : Attempts P S Q F W)
-      → Retries s stepped p waited word old result request new → Retries s stepped p waited word (record old { state = under_way }) result request new
+  retries_at : (old : Attempts P S Q F W) (under_way : State F W) (decision : Decision W) (result : Result A E) (request : Q) (new : Attempts P S Q F W)
+      → Retries s stepped p waited decision old result request new → Retries s stepped p waited decision (record old { state = under_way }) result request new
   retries_at old under_way NotKept result request new none = absurd none
   retries_at old under_way NoRetry result request new none = absurd none
   retries_at old under_way (RetryAfter wait) result request new (left, was, more) = (left, waited_at old under_way result wait _ left was, more)
@@ -124,24 +124,24 @@ module _ {P S Q A E F W : Type 0} (s : ServiceOf S Q A E F) (stepped : F → Pol
       → Attempted s stepped p waited attempts request (record old { state = InFlight response }) output
   attempted_earlier old response left output request [] polled none = absurd none
   attempted_earlier old response left output request (last ∷ []) polled (tried, ends) =
-      (tried_earlier old response left request last polled tried, ends_at (record old { state = InFlight left }) (InFlight response) last.word last.result output ends)
+      (tried_earlier old response left request last polled tried, ends_at (record old { state = InFlight left }) (InFlight response) last.decision last.result output ends)
   attempted_earlier old response left output request (attempt ∷ next ∷ rest) polled (tried, (again, new, retries, more)) = (
     tried_earlier old response left request attempt polled tried,
-    (again, new, retries_at (record old { state = InFlight left }) (InFlight response) attempt.word attempt.result again new retries, more),
+    (again, new, retries_at (record old { state = InFlight left }) (InFlight response) attempt.decision attempt.result again new retries, more),
   )
 
-  -- a pass without an answer, after which the rest gives the output
+  -- an iteration without an answer, after which the rest gives the output
 
   none_result : (response left : F) (old new : Attempts P S Q F W) (result : Result A E) (output : Result A (Error E)) (kept : Option Q) → old.request ≡ kept
       → MayGive stepped response result → AfterResult p kept (record old { state = InFlight left }) result None new → Rest new output → RestAt (InFlight response) old output
   none_result response left old new result output None had gave (is, same) rest = absurd (cc (is))
-  none_result response left old new result output (Some kept) had gave (None, policy, changed, outcome, asked, (is, same)) rest = absurd (cc (is))
-  none_result response left old new result output (Some kept) had gave (Some wait, policy, changed, outcome, asked, (is, same)) rest =
+  none_result response left old new result output (Some kept) had gave (None, policy, changed, outcome, decided, (is, same)) rest = absurd (cc (is))
+  none_result response left old new result output (Some kept) had gave (Some wait, policy, changed, outcome, decided, (is, same)) rest =
       let at : RestAt (Waiting wait) (record { policy = policy; service = old.service; request = Some changed; state = Waiting wait }) output =
       subst (λ (v : Attempts P S Q F W). Rest v output) same rest in
-      rest_resumed response old kept result wait policy changed outcome output had gave asked at.0 at.1
+      rest_resumed response old kept result wait policy changed outcome output had gave decided at.0 at.1
 
-  rest_none : (under_way : State F W) (old new : Attempts P S Q F W) (output : Result A (Error E)) → PassAt s stepped p waited under_way old None new
+  rest_none : (under_way : State F W) (old new : Attempts P S Q F W) (output : Result A (Error E)) → IterationAt s stepped p waited under_way old None new
       → Rest new output → RestAt under_way old output
   rest_none (InFlight response) old new output (Pending, left, polled, (is, same)) rest = absurd (cc (is))
   rest_none (InFlight response) old new output (Ready result, left, polled, after) rest =
@@ -172,18 +172,18 @@ module _ {P S Q A E F W : Type 0} (s : ServiceOf S Q A E F) (stepped : F → Pol
     ),
   )
 
-  -- a pending pass
+  -- a pending iteration
 
   pending_result : (left : Attempts P S Q F W) (new : Attempts P S Q F W) (result : Result A E) (kept : Option Q)
       → AfterResult p kept left result (Some Pending) new → ⊥
   pending_result left new (Ok x) None (is, same) = cc (is)
   pending_result left new (Err e) None (is, same) = cc (is)
-  pending_result left new result (Some kept) (None, policy, changed, Ok x, asked, (is, same)) = cc (is)
-  pending_result left new result (Some kept) (None, policy, changed, Err e, asked, (is, same)) = cc (is)
-  pending_result left new result (Some kept) (Some wait, policy, changed, outcome, asked, (is, same)) = cc (is)
+  pending_result left new result (Some kept) (None, policy, changed, Ok x, decided, (is, same)) = cc (is)
+  pending_result left new result (Some kept) (None, policy, changed, Err e, decided, (is, same)) = cc (is)
+  pending_result left new result (Some kept) (Some wait, policy, changed, outcome, decided, (is, same)) = cc (is)
 
   rest_pending : (under_way : State F W) (old new : Attempts P S Q F W) (output : Result A (Error E)) → old.state ≡ under_way
-      → PassAt s stepped p waited under_way old (Some Pending) new → Rest new output → RestAt under_way old output
+      → IterationAt s stepped p waited under_way old (Some Pending) new → Rest new output → RestAt under_way old output
   rest_pending (InFlight response) old new output here (Pending, left, polled, (is, same)) rest = λ request.
       let at : RestAt (InFlight left) old output = subst (λ (v : Attempts P S Q F W). Rest v output) same rest in
       let found = at request in
@@ -200,21 +200,21 @@ module _ {P S Q A E F W : Type 0} (s : ServiceOf S Q A E F) (stepped : F → Pol
   rest_pending Retrying old new output here (Ready (Err error), left, polled, (is, same)) rest = absurd (cc (is))
   rest_pending Retrying old new output here (Ready (Ok ready), left, polled, (is, again)) rest = absurd (cc (is))
 
-  -- a pass that answers
+  -- an iteration that answers
 
   ready_result : (response left : F) (old new : Attempts P S Q F W) (result : Result A E) (output : Result A (Error E)) (kept : Option Q) → old.request ≡ kept
       → MayGive stepped response result → AfterResult p kept (record old { state = InFlight left }) result (Some (Ready output)) new → RestAt (InFlight response) old output
   ready_result response left old new result output None had gave (is, same) = λ request. (
-    record { request = request; result = result; word = NotKept } ∷ [],
+    record { request = request; result = result; decision = NotKept } ∷ [],
     (record { made = refl; response = response; in_flight = refl; gave = gave }, (had, cc (is))),
   )
-  ready_result response left old new result output (Some kept) had gave (None, policy, changed, outcome, asked, (is, same)) = λ request. (
-    record { request = request; result = result; word = NoRetry } ∷ [],
-    (record { made = refl; response = response; in_flight = refl; gave = gave }, (kept, policy, changed, outcome, had, asked, cc (is))),
+  ready_result response left old new result output (Some kept) had gave (None, policy, changed, outcome, decided, (is, same)) = λ request. (
+    record { request = request; result = result; decision = NoRetry } ∷ [],
+    (record { made = refl; response = response; in_flight = refl; gave = gave }, (kept, policy, changed, outcome, had, decided, cc (is))),
   )
-  ready_result response left old new result output (Some kept) had gave (Some wait, policy, changed, outcome, asked, (is, same)) = absurd (cc (is))
+  ready_result response left old new result output (Some kept) had gave (Some wait, policy, changed, outcome, decided, (is, same)) = absurd (cc (is))
 
-  rest_ready : (under_way : State F W) (old new : Attempts P S Q F W) (output : Result A (Error E)) → PassAt s stepped p waited under_way old (Some (Ready output)) new
+  rest_ready : (under_way : State F W) (old new : Attempts P S Q F W) (output : Result A (Error E)) → IterationAt s stepped p waited under_way old (Some (Ready output)) new
       → RestAt under_way old output
   rest_ready (InFlight response) old new output (Pending, left, polled, (is, same)) = absurd (cc (is))
   rest_ready (InFlight response) old new output (Ready result, left, polled, after) =
@@ -227,17 +227,17 @@ module _ {P S Q A E F W : Type 0} (s : ServiceOf S Q A E F) (stepped : F → Pol
 
   -- polls
 
-  rest_goes : (count : ℕ) (old last : Attempts P S Q F W) (output : Result A (Error E)) → Goes (Pass s stepped p waited) count old last → Rest last output → Rest old output
-  unfolding Goes
+  rest_goes : (count : ℕ) (old last : Attempts P S Q F W) (output : Result A (Error E)) → Iterates (Iteration s stepped p waited) count old last → Rest last output → Rest old output
+  unfolding Iterates
   rest_goes zero old last output went rest = subst (λ (v : Attempts P S Q F W). Rest v output) went rest
   rest_goes (suc count) old last output (mid, went, pass) rest = rest_goes count old mid output went (rest_none mid.state mid last output pass rest)
 
-  rest_answers : (old new : Attempts P S Q F W) (output : Result A (Error E)) → Passes (Pass s stepped p waited) Pending old (Ready output) new → Rest old output
+  rest_answers : (old new : Attempts P S Q F W) (output : Result A (Error E)) → Iterations (Iteration s stepped p waited) Pending old (Ready output) new → Rest old output
   rest_answers old new output poll = ⊎_elim
       (λ ends. rest_goes poll.count old poll.last output poll.went (rest_ready poll.last.state poll.last new output ends.1))
       (λ tired. absurd (cc (tired.1))) poll.ends
 
-  rest_pends : (old new : Attempts P S Q F W) (output : Result A (Error E)) → Passes (Pass s stepped p waited) Pending old Pending new → Rest new output → Rest old output
+  rest_pends : (old new : Attempts P S Q F W) (output : Result A (Error E)) → Iterations (Iteration s stepped p waited) Pending old Pending new → Rest new output → Rest old output
   rest_pends old new output poll rest = rest_goes poll.count old poll.last output poll.went (⊎_elim
       (λ ends. rest_pending poll.last.state poll.last new output refl ends.1 rest)
       (λ tired. subst (λ (v : Attempts P S Q F W). Rest v output) tired.2 rest) poll.ends)

@@ -3,7 +3,7 @@ use Rattle.std.proofs.Common.{◌≡◌, ℕ, zero, suc, ◌∷◌, [], ◌++◌
 use Rattle.std.specs.declared.clone.Clone.{Ghosts as CloneOf}
 use Rattle.futures.specs.declared.task.Poll.{Poll}
 use Rattle.futures.specs.declared.task.Poll.TheVariants.{Ready, Pending}
-use Rattle.tower_base.specs.Passes.{Goes}
+use Rattle.tower_base.specs.Iterations.{Iterates}
 use Rattle.tower_base.specs.ServiceRun.{Relations, relations, Action}
 use Rattle.tower_base.specs.Projection.{Once, RunInside, Projects}
 use Rattle.tower_base.specs.ProjectionLemmas.{forwards, joined, no_action, one_poll, one_call}
@@ -44,14 +44,14 @@ module _ {P S Q A E F W : Type 0} (s : ServiceOf S Q A E F) (stepped : F → Pol
     has = tt;
   }
 
-  after_word : (old : View) (outcome : Result A E) (word : Option W) (answer : Given) (new : View) → R.AfterWord p old outcome word answer new → Runs old.service new.service
-  after_word old outcome None answer new after = none old.service new (ap (λ v. v.service) after.1)
-  after_word old outcome (Some wait) answer new after = none old.service new (ap (λ v. v.service) after.1)
+  after_decision : (old : View) (outcome : Result A E) (decision : Option W) (answer : Given) (new : View) → R.AfterDecision p old outcome decision answer new → Runs old.service new.service
+  after_decision old outcome None answer new after = none old.service new (ap (λ v. v.service) after.1)
+  after_decision old outcome (Some wait) answer new after = none old.service new (ap (λ v. v.service) after.1)
 
   after_result : (kept : Option Q) (old : View) (result : Result A E) (answer : Given) (new : View) → R.AfterResult p kept old result answer new → Runs old.service new.service
   after_result None old result answer new after = none old.service new (ap (λ v. v.service) after.1)
   after_result (Some request) old result answer new after =
-      after_word (record old { policy = after.1; request = Some after.2 }) after.3 after.0 answer new after.5
+      after_decision (record old { policy = after.1; request = Some after.2 }) after.3 after.0 answer new after.5
 
   after_response : (old : View) (inner : Poll (Result A E)) (answer : Given) (new : View) → R.AfterResponse p old inner answer new → Runs old.service new.service
   after_response old Pending answer new after = none old.service new (ap (λ v. v.service) after.1)
@@ -71,13 +71,13 @@ module _ {P S Q A E F W : Type 0} (s : ServiceOf S Q A E F) (stepped : F → Pol
       on old left.service new.service (one_poll (relations s) old left.service (Ready (Ok x)) polled tt)
       (one_call (relations s) left.service new.service after.1.request after.1.response after.1.ready after.1.called tt)
 
-  passed : (state : State F W) (old : View) (answer : Given) (new : View) → R.PassAt s stepped p waited state old answer new → Runs old.service new.service
+  passed : (state : State F W) (old : View) (answer : Given) (new : View) → R.IterationAt s stepped p waited state old answer new → Runs old.service new.service
   passed (InFlight response) old answer new pass = after_response (record old { state = InFlight pass.1 }) pass.0 answer new pass.3
   passed (Waiting wait) old answer new pass = after_wait (record old { state = Waiting pass.1 }) pass.0 answer new pass.3
   passed Retrying old answer new pass = after_readiness old.service (record old { service = pass.1 }) pass.0 answer new pass.2 pass.3
 
-  went : (n : ℕ) (old new : View) → Goes (R.Pass s stepped p waited) n old new → Runs old.service new.service
-  unfolding Goes
+  went : (n : ℕ) (old new : View) → Iterates (R.Iteration s stepped p waited) n old new → Runs old.service new.service
+  unfolding Iterates
   went zero old new goes = none old.service new (ap (λ v. v.service) goes)
   went (suc n) old new goes = on old.service goes.0.service new.service (went n old goes.0 goes.1) (passed goes.0.state goes.0 None new goes.2)
 

@@ -5,7 +5,7 @@ use Rattle.std.specs.Int.{w128, saturate_signed}
 use Rattle.std.proofs.lemmas.Int.{ints}
 use Rattle.std.proofs.lemmas.List.{get_or-set_same, get_or-set_other}
 use Rattle.std.proofs.lemmas.Bool.Decides.{nat_tests, leb_tells}
-use Rattle.tower_retry.specs.Slots.{Each, Keeps, Moves, Slotted, kept_sum, place, size_back, slot, sum_back}
+use Rattle.tower_retry.specs.Slots.{Each, Keeps, Shifted, Slotted, kept_sum, place, size_back, slot, sum_back}
 use Rattle.tower_retry.specs.declared.retry.budget.steps.Amount.{Amount}
 
 pub each_map : (P Q : Amount → Type 0) → ((a : Amount) → P a → Q a) → (xs : List Amount) → Each P xs → Each Q xs
@@ -93,7 +93,7 @@ placed i p low in_ring =
     elim (leb_tells (p + 1) i) [ inl here ↦ (i - p, omega arith, omega arith, omega arith) | inr gone ↦ (i + 10 - p, omega arith, omega arith, omega arith) ]
 
 -- a write at the index, which moves on by one
-pub put_moves : (amount : ℤ) (i j : ℕ) (slots new : List ℤ) → length slots ≡ 10 → i < 10 → j ≡ (i + 1) % 10 → new ≡ slice_set slots i amount → Moves 1 amount i slots j new
+pub put_moves : (amount : ℤ) (i j : ℕ) (slots new : List ℤ) → length slots ≡ 10 → i < 10 → j ≡ (i + 1) % 10 → new ≡ slice_set slots i amount → Shifted 1 amount i slots j new
 put_moves amount i j slots new ten low next is = λ g xs present s. record {
   none_later = each_later g (g + 1) xs (omega arith) s.none_later;
   each = λ back some few. elim (leb_tells back 1) [
@@ -135,14 +135,14 @@ blank_slots g i slots zeros low = record {
 }
 
 -- one generation more, without an amount
-pub moves_more : (n : ℕ) (present : ℤ) (i j k : ℕ) (a b c : List ℤ) → 1 ≤ n → Moves n present i a j b → Moves 1 (pos 0) j b k c → Moves (n + 1) present i a k c
+pub moves_more : (n : ℕ) (present : ℤ) (i j k : ℕ) (a b c : List ℤ) → 1 ≤ n → Shifted n present i a j b → Shifted 1 (pos 0) j b k c → Shifted (n + 1) present i a k c
 moves_more n present i j k a b c some first next = λ g xs p s.
     let one_more : g + n + 1 ≡ g + (n + 1) = omega arith in
     subst (λ (m : ℕ). Slotted m xs k c) one_more (next (g + n) xs (none_keeps (g + n) 0 g xs s.none_later (omega arith)) (first g xs p s))
 
 -- the generations past the first eleven
 pub moves_on : (n m rest : ℕ) (present : ℤ) (i j k : ℕ) (a b : List ℤ) → (n ≤ 11 × m ≡ n) ⊎ (11 ≤ n × m ≡ 11) → j < 10 → rest ≡ n - 11 → k ≡ (j + rest % 10) % 10
-    → Moves m present i a j b → Moves n present i a k b
+    → Shifted m present i a j b → Shifted n present i a k b
 moves_on n m rest present i j k a b (inl few) low is_rest is moves = λ g xs p s.
     let count = few.1 in
     let within = few.0 in

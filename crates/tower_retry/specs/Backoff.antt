@@ -23,8 +23,8 @@ pub record ExponentialBackoffView (R C : Type 0) : Type 0 where
   pub count : ℕ
 
 -- A maker of these parts, or an error: the least wait isn't above the greatest, which isn't 0, and the jitter isn't above 100.
-abbrev pub maker_of : {R C : Type 0} → ExponentialBackoffMakerView R C → Result (ExponentialBackoffMakerView R C) InvalidBackoff
-maker_of parts =
+abbrev pub new_maker : {R C : Type 0} → ExponentialBackoffMakerView R C → Result (ExponentialBackoffMakerView R C) InvalidBackoff
+new_maker parts =
     if nat_lt parts.most parts.least then Err MaximumBelowMinimum
     else (if nat_eq parts.most 0 then Err MaximumIsZero
     else (if nat_lt (100 * parts.jitter.divisor) parts.jitter.numerator then Err JitterAbove100 else Ok parts))

@@ -47,8 +47,8 @@ terms_of ttl min_per_sec fraction =
     }
 
 -- a new budget
-abbrev pub blank : Terms → ℕ → Ledger
-blank terms made = record { terms = terms; made = made; generation = 0; amounts = [] }
+abbrev pub initial : Terms → ℕ → Ledger
+initial terms made = record { terms = terms; made = made; generation = 0; amounts = [] }
 
 -- How many windows have passed from the moment of making to this moment: none if the clock went back.
 abbrev pub generation_at : ℕ → ℕ → ℕ → ℕ

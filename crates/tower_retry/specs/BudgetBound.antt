@@ -2,7 +2,7 @@
 use Rattle.std.specs.Prelude.{◌≡◌, ◌<◌, ◌≤◌, ℕ, ◌+◌, ◌*◌, nat_le, nat_lt, if◌then◌else◌, true, false, List, [], ◌∷◌, ◌^◌, length, take, slice_get, Option, Some}
 use Rattle.tower_latch.specs.History.{IsLegal}
 use Rattle.tower_latch.specs.Latch.{Serves, StepsAs, Came}
-use Rattle.tower_retry.specs.Budget.{Ledger, Steps, blank}
+use Rattle.tower_retry.specs.Budget.{Ledger, Steps, initial}
 use Rattle.tower_retry.specs.BudgetAmounts.{AreSmall}
 use Rattle.tower_retry.specs.BudgetCore.{StandsFor, Opens}
 use Rattle.tower_retry.specs.BudgetWindows.{NeverBack, moment_of}
@@ -45,20 +45,20 @@ AreFew terms served = AreSmall terms × (length served < 2 ^ 80)
 abbrev pub RetriesBounded : Type 0
 RetriesBounded =
     (terms : Terms) (made moment : ℕ) (served : List (BudgetStep × BudgetReply)) (past next : Ledger) → 0 < terms.window
-    → Serves Steps (blank terms made) served past → Steps past (Withdraw moment) (Allowed true) next
+    → Serves Steps (initial terms made) served past → Steps past (Withdraw moment) (Allowed true) next
     → NeverBack made served moment → AreFew terms served → IsCovered terms moment served
 
 -- So it is of each retry that a latch of a budget with these terms allows, in the run in which it does.
 abbrev pub BoundedAtLatch : Type 0
 BoundedAtLatch =
     (terms : Terms) (moment : ℕ) → 0 < terms.window → Came Opens (StepsAs StandsFor Steps) (λ (core : BudgetCore). core.terms) terms (Withdraw moment) (Allowed true)
-    → ∥ ((made : ℕ) × (served : List (BudgetStep × BudgetReply)) × (past : Ledger) × Serves Steps (blank terms made) served past
+    → ∥ ((made : ℕ) × (served : List (BudgetStep × BudgetReply)) × (past : Ledger) × Serves Steps (initial terms made) served past
     × (NeverBack made served moment → AreFew terms served → IsCovered terms moment served)) ∥₁
 
 -- And of each retry in the history of a budget that ran under a log, with the entries before it.
 abbrev pub BoundedInHistory : Type 0
 BoundedInHistory =
     (terms : Terms) (made : ℕ) (budget : BudgetCore) (opening : Option BudgetCore) (history : List (BudgetStep × BudgetReply)) → 0 < terms.window
-    → StandsFor budget (blank terms made) → opening ≡ Some budget → IsLegal Opens (StepsAs StandsFor Steps) opening history
+    → StandsFor budget (initial terms made) → opening ≡ Some budget → IsLegal Opens (StepsAs StandsFor Steps) opening history
     → (place moment : ℕ) → slice_get history place ≡ Some (Withdraw moment, Allowed true)
     → NeverBack made (take place history) moment → AreFew terms (take place history) → IsCovered terms moment (take place history)

@@ -3,7 +3,7 @@ use Rattle.std.specs.Prelude.{◌≡◌, ℕ, List, ℤ, pos, ◌+ℤ◌}
 use Rattle.std.specs.Int.{w128, saturate_signed}
 use Rattle.tower_latch.specs.Latch.{Serves, StepsAs}
 use Rattle.tower_base.specs.declared.service.Fraction.{Fraction}
-use Rattle.tower_retry.specs.Budget.{Ledger, Fits, terms_of, blank, balance, IsExact, Steps}
+use Rattle.tower_retry.specs.Budget.{Ledger, Fits, terms_of, initial, balance, IsExact, Steps}
 use Rattle.tower_retry.specs.Slots.{Keeps, Slotted, kept_sum}
 use Rattle.tower_retry.specs.declared.retry.budget.budget_core.BudgetCore.{BudgetCore}
 use Rattle.tower_retry.specs.declared.retry.budget.steps.BudgetStep.{BudgetStep}
@@ -20,7 +20,7 @@ pub record StandsFor (core : BudgetCore) (ledger : Ledger) : Type 0 where
 -- a new core: with some terms that fit, at some moment
 abbrev pub Opens : BudgetCore → Type 0
 Opens core = (ttl : ℕ) × (min_per_sec : ℕ) × (fraction : Fraction) × (moment : ℕ) × Fits ttl min_per_sec fraction
-    × StandsFor core (blank (terms_of ttl min_per_sec fraction) moment)
+    × StandsFor core (initial (terms_of ttl min_per_sec fraction) moment)
 
 -- If the old core stands for a ledger, the new one stands for the changed ledger.
 abbrev pub Changes : (Ledger → Ledger) → BudgetCore → BudgetCore → Type 0

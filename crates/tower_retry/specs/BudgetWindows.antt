@@ -1,7 +1,7 @@
 -- How long a deposit counts.
 use Rattle.std.specs.Prelude.{◌≡◌, ◌<◌, ◌≤◌, ℕ, ◌+◌, ◌*◌, true, false, List, [], ◌∷◌, ◌++◌, pos}
 use Rattle.tower_latch.specs.Latch.{Serves}
-use Rattle.tower_retry.specs.Budget.{Ledger, Steps, advanced, blank, counts}
+use Rattle.tower_retry.specs.Budget.{Ledger, Steps, advanced, initial, counts}
 use Rattle.tower_retry.specs.declared.retry.budget.steps.Amount.{Amount}
 use Rattle.tower_retry.specs.declared.retry.budget.steps.BudgetStep.{BudgetStep}
 use Rattle.tower_retry.specs.declared.retry.budget.steps.BudgetStep.TheVariants.{Deposit, Withdraw}
@@ -26,7 +26,7 @@ deposit_at ledger moment = record { generation = (advanced ledger moment).genera
 abbrev pub CountsForTenWindows : Type 0
 CountsForTenWindows =
     (terms : Terms) (made deposited moment : ℕ) (before after : List (BudgetStep × BudgetReply)) (past next now : Ledger) → 0 < terms.window
-    → Serves Steps (blank terms made) before past → NeverBack made before deposited
+    → Serves Steps (initial terms made) before past → NeverBack made before deposited
     → Steps past (Deposit deposited) Done next
     → Serves Steps next after now → NeverBack deposited after moment
     → (newer : List Amount) × (now.amounts ≡ newer ++ (deposit_at past deposited ∷ past.amounts))

@@ -13,7 +13,7 @@ use Rattle.tower_ware.specs.Filter.{FilterView}
 use Rattle.tower_retry.specs.declared.hedge.check.CheckState.{CheckState}
 use Rattle.tower_retry.specs.declared.hedge.check.CheckState.TheVariants.{Passed, Given, Waiting}
 use Rattle.tower_retry.specs.declared.hedge.delay.error.Error.{Error as DelayError}
-use Rattle.tower_retry.specs.declared.hedge.delay.error.Error.TheVariants.{Inner as Delayed, Memory as NoDelayed}
+use Rattle.tower_retry.specs.declared.hedge.delay.error.Error.TheVariants.{Inner as DelayInner, Memory as DelayMemory}
 use Rattle.tower_retry.specs.declared.hedge.error.Error.{Error}
 use Rattle.tower_retry.specs.declared.hedge.error.Error.TheVariants.{Inner, Memory}
 use Rattle.tower_retry.specs.declared.hedge.policy.Policy.{Ghosts as PolicyOf}
@@ -32,10 +32,10 @@ HedgeView S P L C = SelectView (SelectPolicyView P L C) (RecordedView S L C) (De
 -- the error of the nest of services, as the error of a `Hedge`
 abbrev pub flat : {E : Type 0} → SelectError E (DelayError (FilterError E Infallible)) → Error E
 flat (First e) = Inner e
-flat (Second (Delayed (Filtered e))) = Inner e
-flat (Second (Delayed (Rejected never))) = elim never [ ]
-flat (Second (Delayed NoFiltered)) = Memory
-flat (Second NoDelayed) = Memory
+flat (Second (DelayInner (Filtered e))) = Inner e
+flat (Second (DelayInner (Rejected never))) = elim never [ ]
+flat (Second (DelayInner NoFiltered)) = Memory
+flat (Second DelayMemory) = Memory
 
 -- a poll of readiness: one poll of the nest
 pub record Polled {N E : Type 0} (polled_inside : N → Poll (Result (Unit {0}) (SelectError E (DelayError (FilterError E Infallible)))) → N → Type 0)
@@ -59,6 +59,6 @@ ChecksTo request allowed Given = ⊥
 
 pub record Checked {P Q N : Type 0} (p : PolicyOf P Q) (old : P) (request : Q) (future : CheckState Q N) (new : P) : Type 0 where
   pub allowed : Bool
-  pub asked : p.allowed old request allowed
+  pub decided : p.allowed old request allowed
   pub checks : ChecksTo request allowed future
   pub same : new ≡ old

@@ -28,7 +28,7 @@ pub record Made {S P L C : Type 0} (service_clone : S → S → Type 0) (policy_
 
 module _ {S P L C : Type 0} (service_clone : S → S → Type 0) (policy_clone : P → P → Type 0) (gave : L → HistoStep → HistoReply → Type 0) (may_share : L → Result L AllocError → Type 0) (c : ClockOf C) where
   -- A `Hedge` over a given latch. The histogram has the latch and a share of the clock, and begins with these latencies.
-  pub record MadeFrom (latencies : List ℕ) (latch : L) (service : S) (policy : P) (min_data_points : ℕ) (percentile : Fraction) (clock : C) (made : HedgeView S P L C) : Type 0 where
+  pub record NewFrom (latencies : List ℕ) (latch : L) (service : S) (policy : P) (min_data_points : ℕ) (percentile : Fraction) (clock : C) (made : HedgeView S P L C) : Type 0 where
     pub empty : RotatingHistogramView L C
     pub has_latch : empty.latch ≡ latch
     pub shares : c.shared clock empty.clock
@@ -37,9 +37,9 @@ module _ {S P L C : Type 0} (service_clone : S → S → Type 0) (policy_clone :
     pub parts : Made service_clone policy_clone gave may_share c histogram service policy min_data_points percentile clock made
 
   -- A `Hedge` with a latch of its own, of a histogram with this period. Before, the clock is read once.
-  pub record MadeAt (period_of : L → ℕ) (latencies : List ℕ) (service : S) (policy : P) (min_data_points : ℕ) (percentile : Fraction) (period : ℕ) (clock : C) (made : HedgeView S P L C) : Type 0 where
+  pub record NewAt (period_of : L → ℕ) (latencies : List ℕ) (service : S) (policy : P) (min_data_points : ℕ) (percentile : Fraction) (period : ℕ) (clock : C) (made : HedgeView S P L C) : Type 0 where
     pub latch : L
     pub lasts : period_of latch ≡ period
     pub left : C
     pub read : c.read clock left
-    pub from : MadeFrom latencies latch service policy min_data_points percentile left made
+    pub from : NewFrom latencies latch service policy min_data_points percentile left made

@@ -20,7 +20,7 @@ pub record SelectPolicyView (P L C : Type 0) : Type 0 where
 
 module _ {L C Q : Type 0} (gave : L → HistoStep → HistoReply → Type 0) (c : ClockOf C) where
   -- the delay in nanoseconds: the quantile of the latencies, in milliseconds, times 1000000, at most 2 ^ 64 - 1
-  pub record Delayed (old : DelayPolicyView L C) (request : Q) (answer : ℕ) (new : DelayPolicyView L C) : Type 0 where
+  pub record DelayComputed (old : DelayPolicyView L C) (request : Q) (answer : ℕ) (new : DelayPolicyView L C) : Type 0 where
     pub millis : ℕ
     pub ranked : Ranked gave c old.histogram old.percentile millis new.histogram
     pub answers : answer ≡ min (millis * 1000000) (2 ^ 64 - 1)

@@ -4,7 +4,7 @@ use Rattle.std.specs.declared.clone.Clone.{Ghosts as CloneOf}
 use Rattle.futures.specs.declared.task.Poll.{Poll}
 use Rattle.futures.specs.declared.task.Poll.TheVariants.{Ready, Pending}
 use Rattle.tower_base.specs.Answers.{answered}
-use Rattle.tower_base.specs.Passes.{Passes}
+use Rattle.tower_base.specs.Iterations.{Iterations}
 use Rattle.tower_base.specs.declared.service.Service.{Ghosts as ServiceOf}
 use Rattle.tower_retry.specs.declared.retry.error.Error.{Error}
 use Rattle.tower_retry.specs.declared.retry.error.Error.TheVariants.{Inner, Memory}
@@ -28,20 +28,20 @@ Unanswered None P = P
 Unanswered (Some Pending) P = P
 Unanswered (Some (Ready x)) P = ⊤
 
--- The cases of a call and of a pass come before the whole, which cites them.
+-- The cases of a call and of an iteration come before the whole, which cites them.
 module _ {P S Q A E F W : Type 0} (p : PolicyOf P Q A E W) where
   -- What follows the policy's decision. If it returns no wait, the result, as the policy left it, is the answer. Otherwise the wait takes the
   -- place of the inner future.
-  abbrev pub AfterWord : Attempts P S Q F W → Result A E → Option W → Option (Poll (Result A (Error E))) → Attempts P S Q F W → Type 0
-  AfterWord old outcome None answer new = (answer ≡ Some (answered Inner (Ready outcome))) × (new ≡ old)
-  AfterWord old outcome (Some wait) answer new = (answer ≡ None) × (new ≡ record old { state = Waiting wait })
+  abbrev pub AfterDecision : Attempts P S Q F W → Result A E → Option W → Option (Poll (Result A (Error E))) → Attempts P S Q F W → Type 0
+  AfterDecision old outcome None answer new = (answer ≡ Some (answered Inner (Ready outcome))) × (new ≡ old)
+  AfterDecision old outcome (Some wait) answer new = (answer ≡ None) × (new ≡ record old { state = Waiting wait })
 
   -- What follows a result. If no request was kept, it is the answer. Otherwise the policy is called, which may change both.
   abbrev pub AfterResult : Option Q → Attempts P S Q F W → Result A E → Option (Poll (Result A (Error E))) → Attempts P S Q F W → Type 0
   AfterResult None old result answer new = (answer ≡ Some (answered Inner (Ready result))) × (new ≡ old)
-  AfterResult (Some request) old result answer new = (word : Option W) × (policy : P) × (changed : Q) × (outcome : Result A E)
-      × p.asked old.policy request result word policy changed outcome
-      × AfterWord (record old { policy = policy; request = Some changed }) outcome word answer new
+  AfterResult (Some request) old result answer new = (decision : Option W) × (policy : P) × (changed : Q) × (outcome : Result A E)
+      × p.decided old.policy request result decision policy changed outcome
+      × AfterDecision (record old { policy = policy; request = Some changed }) outcome decision answer new
 
   -- what follows a poll of the inner future
   abbrev pub AfterResponse : Attempts P S Q F W → Poll (Result A E) → Option (Poll (Result A (Error E))) → Attempts P S Q F W → Type 0
@@ -72,23 +72,23 @@ module _ {P S Q A E F W : Type 0} (s : ServiceOf S Q A E F) (p : PolicyOf P Q A 
 
 module _ {P S Q A E F W : Type 0} (s : ServiceOf S Q A E F) (stepped : F → Poll (Result A E) → F → Type 0)
     (p : PolicyOf P Q A E W) (waited : W → Poll (Unit {0}) → W → Type 0) where
-  -- one pass, by what is under way: the inner future, the policy's wait, or the service's readiness for another call
-  abbrev pub PassAt : State F W → Attempts P S Q F W → Option (Poll (Result A (Error E))) → Attempts P S Q F W → Type 0
-  PassAt (InFlight response) old answer new = (inner : Poll (Result A E)) × (left : F) × stepped response inner left
+  -- one iteration, by what is under way: the inner future, the policy's wait, or the service's readiness for another call
+  abbrev pub IterationAt : State F W → Attempts P S Q F W → Option (Poll (Result A (Error E))) → Attempts P S Q F W → Type 0
+  IterationAt (InFlight response) old answer new = (inner : Poll (Result A E)) × (left : F) × stepped response inner left
       × AfterResponse p (record old { state = InFlight left }) inner answer new
-  PassAt (Waiting wait) old answer new = (inner : Poll (Unit {0})) × (left : W) × waited wait inner left
+  IterationAt (Waiting wait) old answer new = (inner : Poll (Unit {0})) × (left : W) × waited wait inner left
       × AfterWait s p (record old { state = Waiting left }) inner answer new
-  PassAt Retrying old answer new = (inner : Poll (Result (Unit {0}) E)) × (left : S) × s.polled old.service inner left
+  IterationAt Retrying old answer new = (inner : Poll (Result (Unit {0}) E)) × (left : S) × s.polled old.service inner left
       × AfterReadiness s p (record old { service = left }) inner answer new
 
-  -- one pass: a poll of what is under way, and what follows it
-  abbrev pub Pass : Attempts P S Q F W → Option (Poll (Result A (Error E))) → Attempts P S Q F W → Type 0
-  Pass old answer new = PassAt old.state old answer new
+  -- one iteration: a poll of what is under way, and what follows it
+  abbrev pub Iteration : Attempts P S Q F W → Option (Poll (Result A (Error E))) → Attempts P S Q F W → Type 0
+  Iteration old answer new = IterationAt old.state old answer new
 
-  -- A poll of the future: passes up to an answer, or 64 without one, and then it is pending. If a clone was refused at the call, it returns
+  -- A poll of the future: iterations up to an answer, or 64 without one, and then it is pending. If a clone was refused at the call, it returns
   -- `Memory`.
   abbrev pub Stepped : ResponseFutureView P S Q F W → Poll (Result A (Error E)) → ResponseFutureView P S Q F W → Type 0
-  Stepped (Some old) answer new = (left : Attempts P S Q F W) × (new ≡ Some left) × Passes Pass Pending old answer left
+  Stepped (Some old) answer new = (left : Attempts P S Q F W) × (new ≡ Some left) × Iterations Iteration Pending old answer left
   Stepped None answer new = (answer ≡ Ready (Err Memory)) × (new ≡ None)
 
 module _ {P S Q A E F W : Type 0} (s : ServiceOf S Q A E F) (p : PolicyOf P Q A E W) where

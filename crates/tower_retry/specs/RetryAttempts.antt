@@ -14,16 +14,16 @@ use Rattle.tower_retry.specs.declared.retry.state.State.TheVariants.{InFlight, R
 use Rattle.tower_retry.specs.declared.retry.policy.Policy.{Ghosts as PolicyOf}
 
 -- The policy's decision about a result. If no request was kept, the policy isn't called.
-pub data Word (W : Type 0) : Type 0 where
-  NotKept : Word W
-  NoRetry : Word W
-  RetryAfter : W → Word W
+pub data Decision (W : Type 0) : Type 0 where
+  NotKept : Decision W
+  NoRetry : Decision W
+  RetryAfter : W → Decision W
 
 -- an attempt: the request that was made, the result of its call and the policy's decision
 pub record Attempt (Q A E W : Type 0) : Type 0 where
   pub request : Q
   pub result : Result A E
-  pub word : Word W
+  pub decision : Decision W
 
 module _ {P S Q A E F W : Type 0} (s : ServiceOf S Q A E F) (stepped : F → Poll (Result A E) → F → Type 0)
     (p : PolicyOf P Q A E W) (waited : W → Poll (Unit {0}) → W → Type 0) where
@@ -45,7 +45,7 @@ module _ {P S Q A E F W : Type 0} (s : ServiceOf S Q A E F) (stepped : F → Pol
     pub had : old.request ≡ Some kept
     pub changed : Q
     pub outcome : Result A E
-    pub asked : p.asked old.policy kept result (Some wait) new.policy changed outcome
+    pub decided : p.decided old.policy kept result (Some wait) new.policy changed outcome
     pub ended : MayGive waited wait tt
     pub polls : ℕ
     pub readiness : ReadyAfter polls old.service answer new.service
@@ -53,26 +53,26 @@ module _ {P S Q A E F W : Type 0} (s : ServiceOf S Q A E F) (stepped : F → Pol
     pub state : new.state ≡ Retrying
 
   -- The next attempt begins: after a wait and with a ready service the request is made again as the policy left it.
-  abbrev pub Retries : Word W → Attempts P S Q F W → Result A E → Q → Attempts P S Q F W → Type 0
+  abbrev pub Retries : Decision W → Attempts P S Q F W → Result A E → Q → Attempts P S Q F W → Type 0
   Retries (RetryAfter wait) old result request new = (left : Attempts P S Q F W) × Waited old result wait (Ok tt) left
       × ((again : Again s p left new) × (again.request ≡ request))
   Retries NoRetry old result request new = ⊥
   Retries NotKept old result request new = ⊥
 
   -- The last attempt. Its result, as the policy left it, is the answer; or an error of readiness after a wait is, for which the policy isn't called.
-  abbrev pub Ends : Word W → Attempts P S Q F W → Result A E → Result A (Error E) → Type 0
+  abbrev pub Ends : Decision W → Attempts P S Q F W → Result A E → Result A (Error E) → Type 0
   Ends NotKept old result output = (old.request ≡ None) × (Ready output ≡ answered Inner (Ready result))
   Ends NoRetry old result output = (kept : Q) × (policy : P) × (changed : Q) × (outcome : Result A E) × (old.request ≡ Some kept)
-      × p.asked old.policy kept result None policy changed outcome × (Ready output ≡ answered Inner (Ready outcome))
+      × p.decided old.policy kept result None policy changed outcome × (Ready output ≡ answered Inner (Ready outcome))
   Ends (RetryAfter wait) old result output = (error : E) × (left : Attempts P S Q F W) × Waited old result wait (Err error) left
       × (output ≡ Err (Inner error))
 
   -- If the request is in flight, these attempts, one after another, have this answer.
   abbrev pub Attempted : List (Attempt Q A E W) → Q → Attempts P S Q F W → Result A (Error E) → Type 0
   Attempted [] request old output = ⊥
-  Attempted (last ∷ []) request old output = Tried request old last × Ends last.word old last.result output
+  Attempted (last ∷ []) request old output = Tried request old last × Ends last.decision old last.result output
   Attempted (attempt ∷ next ∷ rest) request old output = Tried request old attempt × ((again : Q) × (new : Attempts P S Q F W)
-      × Retries attempt.word old attempt.result again new × Attempted (next ∷ rest) again new output)
+      × Retries attempt.decision old attempt.result again new × Attempted (next ∷ rest) again new output)
 
   -- the answer of some attempts, the first with this request; or `Memory` if a clone was refused
   abbrev pub IsAnswer : Q → ResponseFutureView P S Q F W → Result A (Error E) → Type 0

@@ -35,8 +35,8 @@ pub record Slotted (generation : ℕ) (amounts : List Amount) (index : ℕ) (slo
   pub each : (back : ℕ) → 1 ≤ back → back ≤ 10 → Keeps generation back amounts (slot index slots back)
 
 -- Whatever the old slots and the amount of the present generation keep, the new slots keep `generations` generations later.
-abbrev pub Moves : ℕ → ℤ → ℕ → List ℤ → ℕ → List ℤ → Type 0
-Moves generations present index slots new_index new_slots =
+abbrev pub Shifted : ℕ → ℤ → ℕ → List ℤ → ℕ → List ℤ → Type 0
+Shifted generations present index slots new_index new_slots =
     (generation : ℕ) (amounts : List Amount) → Keeps generation 0 amounts present → Slotted generation amounts index slots
     → Slotted (generation + generations) amounts new_index new_slots
 

@@ -73,7 +73,9 @@ where
 
     ghost called = { Called S.Service P.Policy P.Clone S.Clone };
 
-    ghost readies = { λ old new poll. S.readies old.service new.service (let ready = answered_ok Inner poll.inner tt poll.answers in Prim.rw ready at poll.polled) };
+    ghost readies = { λ old new poll. S.readies old.service new.service
+        (let ready = answered_ok Inner poll.inner tt poll.answers in
+        Prim.rw ready at poll.polled) };
 
     fn poll_ready(&mut self, cx: &mut Context<'_>) -> Poll<Result<(), Self::Error>> {
         match self.service.poll_ready(cx) {
@@ -101,7 +103,8 @@ where
 }
 
 impl<P: Clone, S: Clone> Clone for Retry<P, S> {
-    ghost is_clone = { λ old new. P.is_clone old.policy new.policy × S.is_clone old.service new.service };
+    ghost is_clone = { λ old new. P.is_clone old.policy new.policy
+        × S.is_clone old.service new.service };
 
     ghost is_infallible = { λ retry. P.is_infallible retry.policy × S.is_infallible retry.service };
 

@@ -31,7 +31,7 @@ impl Display for Word<'_> {
 
 /// A change that a script makes around the service.
 #[derive(Drop)]
-pub enum Turn<'a> {
+pub enum Directive<'a> {
     /// The clock shows this moment from now on.
     At(u64),
     /// The given number of grants is left.
@@ -41,7 +41,7 @@ pub enum Turn<'a> {
 }
 
 /// A line of a script.
-pub type Command<'a> = Event<Word<'a>, Turn<'a>>;
+pub type Command<'a> = Event<Word<'a>, Directive<'a>>;
 
 /// Reads the commands of a whole script, in order. Returns `BadLine` for the first line that isn't a
 /// command or is one too many, and `Memory` if allocation fails.
@@ -70,10 +70,10 @@ fn read_command(line: &[u8]) -> Option<Command<'_>> {
         return Some(Event::Poll);
     }
     if let Some(rest) = after(line, b"at ") {
-        return Some(Event::Turn(Turn::At(read_number(rest)?)));
+        return Some(Event::Turn(Directive::At(read_number(rest)?)));
     }
     if let Some(rest) = after(line, b"allow ") {
-        return Some(Event::Turn(Turn::Allow(read_number(rest)?)));
+        return Some(Event::Turn(Directive::Allow(read_number(rest)?)));
     }
     if let Some(rest) = after(line, b"call ") {
         return Some(Event::Call(read_word(rest)?));
@@ -89,27 +89,29 @@ fn read_command(line: &[u8]) -> Option<Command<'_>> {
 }
 
 // Reads the number of an inner call, and its answer.
-fn read_answer(text: &[u8]) -> Option<Turn<'_>> {
+fn read_answer(text: &[u8]) -> Option<Directive<'_>> {
     let end = text.iter().position(|byte| *byte == b' ')?;
     let (index, rest) = text.split_at(end);
     let index = read_number(index)?;
     if let Some(rest) = after(rest, b" ok ") {
-        return Some(Turn::Answer(index, Ok(read_word(rest)?)));
+        return Some(Directive::Answer(index, Ok(read_word(rest)?)));
     }
     let rest = after(rest, b" err ")?;
-    Some(Turn::Answer(index, Err(read_word(rest)?)))
+    Some(Directive::Answer(index, Err(read_word(rest)?)))
 }
 
 // Returns what follows the prefix, if the text begins with it.
 fn after<'a>(text: &'a [u8], prefix: &[u8]) -> Option<&'a [u8]>
-    ensures { MatchOption result ((rest : List ℕ) → text.now ≢ prefix.now ++ rest) (λ rest. text.now ≡ prefix.now ++ rest.now) }
+    ensures { MatchOption result ((rest : List ℕ) → text.now ≢ prefix.now ++ rest)
+        (λ rest. text.now ≡ prefix.now ++ rest.now) }
 {
     text.strip_prefix(prefix)
 }
 
 // Reads a decimal number without leading zeros.
 pub(crate) fn read_number(text: &[u8]) -> Option<u64>
-    ensures { MatchOption result ((n : ℕ) → n < 2 ^ 64 → text.now ≢ decimal n) (λ n. text.now ≡ decimal n) }
+    ensures { MatchOption result ((n : ℕ) → n < 2 ^ 64 → text.now ≢ decimal n)
+        (λ n. text.now ≡ decimal n) }
 {
     if text == b"0".as_slice() {
         return Some(0);
@@ -128,7 +130,8 @@ pub(crate) fn read_number(text: &[u8]) -> Option<u64>
 
 // Reads a word of the script.
 fn read_word(text: &[u8]) -> Option<Word<'_>>
-    ensures { MatchOption result (¬ IsWord text.now) (λ word. IsWord text.now × (word.text.now ≡ text.now)) }
+    ensures { MatchOption result (¬ IsWord text.now)
+        (λ word. IsWord text.now × (word.text.now ≡ text.now)) }
 {
     if text.is_empty() || text.len() > MAX_WORD {
         return None;

@@ -4,7 +4,7 @@ ghost use Rattle.futures.specs.declared.task.Poll.TheVariants.{Ready};
 ghost use Rattle.tower_run.specs.Scripted.{Takes};
 ghost use Rattle.tower_run.specs.declared.scripted.Grants.TheVariants.{Left};
 
-use crate::script::{Turn, Word};
+use crate::script::{Directive, Word};
 use futures::future::Future;
 use futures::task::{Context, Poll};
 use std::alloc::{AllocError, Global};
@@ -54,7 +54,7 @@ impl Grants {
     }
 }
 
-/// The outcome of a `Turn`.
+/// The outcome of a `Directive`.
 #[derive(Drop)]
 pub enum Turned {
     At(u64),
@@ -90,19 +90,19 @@ impl<'a> State<'a> {
     }
 
     /// Makes a change around the service, and returns its outcome.
-    pub fn turn(&self, turn: Turn<'a>) -> Turned {
+    pub fn turn(&self, turn: Directive<'a>) -> Turned {
         match turn {
-            Turn::At(moment) => {
+            Directive::At(moment) => {
                 self.moment.set(moment);
                 Turned::At(moment)
             }
-            Turn::Allow(grants) => {
+            Directive::Allow(grants) => {
                 let mut left = self.grants.get();
                 left.allow(grants);
                 self.grants.set(left);
                 Turned::Allowed(grants)
             }
-            Turn::Answer(index, answer) => {
+            Directive::Answer(index, answer) => {
                 if self.answer(index as usize, answer) {
                     Turned::Answered(index)
                 } else {

@@ -38,7 +38,8 @@ pub enum Stack {
 impl Stack {
     /// Returns the stack of this name, if there is one.
     pub fn named(name: &str) -> Option<Stack>
-        ensures { MatchOption result ((stack : Stack) → name.now ≢ name_of stack) (λ stack. name.now ≡ name_of stack) }
+        ensures { MatchOption result ((stack : Stack) → name.now ≢ name_of stack)
+            (λ stack. name.now ≡ name_of stack) }
     {
         match name.as_bytes() {
             b"timeout" => Some(Stack::Timeout),

@@ -17,7 +17,8 @@ pub enum Task {
 impl Task {
     /// Returns what the words ask for; `None` if they are wrong.
     pub fn of(words: &[String]) -> Option<Task>
-        ensures { MatchOption result ((task : Task) → ¬ AskFor words.now task) (λ task. AskFor words.now task) }
+        ensures { MatchOption result ((task : Task) → ¬ AskFor words.now task)
+            (λ task. AskFor words.now task) }
     {
         match words {
             [name] => Some(Task::Script(Stack::named(name.as_str())?)),

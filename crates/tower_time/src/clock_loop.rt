@@ -150,7 +150,8 @@ impl<R> LoopClock<R> {
     // The task waits at the clock's source until the tick, or asks to be polled again.
     fn wait_until(&mut self, when: u64, cx: &mut Context<'_>)
         ensures registered { Covers cx.new (Hears self.new) }
-        ensures timed { (cx.new.is_woken ≡ true) ⊎ (IsLent cx.new ⊎ IsSomeAnd self.new.source (λ source. WaitsUntil cx.new source when)) }
+        ensures timed { (cx.new.is_woken ≡ true) ⊎ (IsLent cx.new
+            ⊎ IsSomeAnd self.new.source (λ source. WaitsUntil cx.new source when)) }
         ensures kept { Keeps cx.old cx.new }
         ensures same { self.new.clock ≡ self.old.clock }
     {

@@ -5,21 +5,21 @@ use Rattle.futures.specs.declared.task.Poll.{Poll}
 use Rattle.futures.specs.declared.task.Poll.TheVariants.{Ready, Pending}
 use Rattle.tower_base.specs.Gives.{MayGive, MayYield, NextAfter, Yields}
 use Rattle.tower_base.specs.GivesLemmas.{yields_rest, yields_same, yields_value}
-use Rattle.tower_base.specs.PassesLemmas.{goes_keeps}
+use Rattle.tower_base.specs.IterationsLemmas.{iterates_keeps}
 use Rattle.tower_base.specs.declared.service.Flow.{Ghosts as FlowOf}
 use Rattle.tower_base.specs.declared.service.Service.{Ghosts as ServiceOf}
 use Rattle.tower_base.specs.declared.service.Steps.{Ghosts as StepsOf}
-use Rattle.tower_ware.specs.CallAll.{AfterAsk, AfterFlow, AfterReady, Called, CallerView, Flowed, GoesOn, Pass, yielded}
+use Rattle.tower_ware.specs.CallAll.{AfterAsk, AfterFlow, AfterReady, Called, CallerView, Flowed, GoesOn, Iteration, yielded}
 use Rattle.tower_ware.specs.CallOrder.{IsCalm, Serves, after_kept, answers_of, unfailing}
 use Rattle.tower_ware.specs.declared.util.call_all.call_queue.CallQueue.{Ghosts as CallQueueOf}
 use Rattle.tower_ware.specs.declared.util.call_all.error.Error.{Error}
 
 -- A queue, by the answers that it may yet give, in call order. Same ties the call order of answers to the order in which they are yielded.
 pub record Behaves {D N T : Type 0} (d : CallQueueOf D T N) (gives : N → T → Type 0) (Holds : D → List T → Type 0) (Same : List T → List T → Type 0) : Type 0 where
-  pub answers : (old new : D) (x : T) (xs more ys : List T) → d.asked old (Ready (Some x)) new → Holds new xs → Same (xs ++ more) ys
+  pub answers : (old new : D) (x : T) (xs more ys : List T) → d.polled old (Ready (Some x)) new → Holds new xs → Same (xs ++ more) ys
       → (bs : List T) × Holds old bs × Same (bs ++ more) (x ∷ ys)
-  pub waits : (old new : D) (xs : List T) → d.asked old Pending new → Holds new xs → Holds old xs
-  pub ends : (old new : D) (xs : List T) → d.asked old (Ready None) new → Holds new xs → Holds old xs
+  pub waits : (old new : D) (xs : List T) → d.polled old Pending new → Holds new xs → Holds old xs
+  pub ends : (old new : D) (xs : List T) → d.polled old (Ready None) new → Holds new xs → Holds old xs
   pub grows : (old new : D) (xs : List T) → d.grown old new → Holds new xs → Holds old xs
   pub pushes : (old new : D) (n : N) (xs : List T) → d.pushed old n new → Holds new xs
       → (bs : List T) × (x : T) × (xs ≡ bs ++ x ∷ []) × Holds old bs × gives n x
@@ -82,7 +82,7 @@ module _ {V Q D N A E R : Type 0} (sv : ServiceOf V R A E N) (fl : FlowOf Q R) (
   abbrev Fine : St → Type 0
   Fine s = s.ended ≡ true → s.kept ≡ None
 
-  -- what is left before a pass or a poll, from what is left after it
+  -- what is left before an iteration or a poll, from what is left after it
   abbrev Back : St → Option (Poll (Option (Result A (Error E)))) → St → Type 0
   Back s None t = Fine s → Fine t × ((items : It) → Rest t items → Rest s items)
   Back s (Some Pending) t = Fine s → Fine t × ((items : It) → Rest t items → Rest s items)
@@ -237,7 +237,7 @@ module _ {V Q D N A E R : Type 0} (sv : ServiceOf V R A E N) (fl : FlowOf Q R) (
   goes_back v f d false None o t h = flow_back v f h.1 d h.0 o t h.2 h.3
 
   ask_back : (v : Option V) (f : Q) (d e : D) (b : Bool) (k : Option R) (p : Poll (Option (Result A E))) (o : Option (Poll (Option (Result A (Error E))))) (t : St)
-      → dr.asked d p e → AfterAsk (unfailing sv) fl dr (mk v f e b k) p o t → Back (mk v f d b k) o t
+      → dr.polled d p e → AfterAsk (unfailing sv) fl dr (mk v f e b k) p o t → Back (mk v f d b k) o t
   ask_back v f d e b k (Ready (Some x)) o t a h = rw (h.0, h.1) (λ fine. (
     fine,
     λ items rest.
@@ -291,7 +291,7 @@ module _ {V Q D N A E R : Type 0} (sv : ServiceOf V R A E N) (fl : FlowOf Q R) (
       (goes_back v f e b k o t h)
 
   abbrev Passing : St → Option (Poll (Option (Result A (Error E)))) → St → Type 0
-  Passing = Pass (unfailing sv) fl dr
+  Passing = Iteration (unfailing sv) fl dr
 
   pass_back : (s : St) (o : Option (Poll (Option (Result A (Error E))))) (t : St) → Passing s o t → Back s o t
   pass_back s o t h = ask_back s.service s.requests s.queue h.1 s.ended s.kept h.0 o t h.2 h.3
@@ -301,7 +301,7 @@ module _ {V Q D N A E R : Type 0} (sv : ServiceOf V R A E N) (fl : FlowOf Q R) (
 
   flows_back : (s : St) (a : Poll (Option (Result A (Error E)))) (t : St) → Flowing s a t → Back s (Some a) t
   flows_back s a t h =
-      let went : Back s None h.passes.last = goes_keeps Passing (λ w. Back s None w)
+      let went : Back s None h.passes.last = iterates_keeps Passing (λ w. Back s None w)
       (λ v w step back. back_trans s v w None back (pass_back v None w step)) h.passes.count s h.passes.last h.passes.went
       (λ fine. (fine, λ items rest. rest)) in
       ⊎_elim (λ answered. back_trans s h.passes.last t (Some a) went (pass_back h.passes.last (Some a) t answered.1))

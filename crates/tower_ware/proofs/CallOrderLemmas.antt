@@ -10,9 +10,9 @@ use Rattle.tower_base.specs.GivesLemmas.{gives_same, gives_value}
 use Rattle.tower_base.specs.declared.service.Flow.{Ghosts as FlowOf}
 use Rattle.tower_base.specs.declared.service.Service.{Ghosts as ServiceOf}
 use Rattle.tower_base.specs.declared.service.Steps.{Ghosts as StepsOf}
-use Rattle.tower_ware.specs.Bag.{EachAsked as FuturesAsked, Comes, answer_of, bag}
+use Rattle.tower_ware.specs.Bag.{EachPolled as FuturesPolled, Comes, answer_of, bag}
 use Rattle.tower_ware.specs.CallAll.{CallerView}
-use Rattle.tower_ware.specs.OrderedCalls.{AfterFront, EachAsked, SlotAsked, SlotsAsked, line}
+use Rattle.tower_ware.specs.OrderedCalls.{AfterFront, EachPolled, SlotPolled, SlotsAsked, line}
 use Rattle.tower_ware.specs.CallOrder.{InAnyOrder, InOrder}
 use Rattle.tower_ware.specs.Queue.{Queue}
 use Rattle.tower_ware.specs.declared.util.call_all.slot.Slot.{Slot}
@@ -43,13 +43,13 @@ module _ {N T : Type 0} (st : StepsOf N T) (can_poll : N → Type 0) where
   abbrev pub LineHolds : Queue (Slot N T) → List T → Type 0
   LineHolds q xs = AllZip SlotGives q.calls xs
 
-  slot_back : (s t : Slot N T) (x : T) → SlotAsked st s t → SlotGives t x → SlotGives s x
+  slot_back : (s t : Slot N T) (x : T) → SlotPolled st s t → SlotGives t x → SlotGives s x
   slot_back (Waiting f) (Waiting g) x asked h = gives_same st.stepped f Pending g asked x h
   slot_back (Waiting f) (Answered r) x asked h = rw h (gives_value st.stepped f (Ready r) asked.0 asked.1)
   slot_back (Answered r) (Answered q) x asked h = h ∙ asked
   slot_back (Answered r) (Waiting g) x asked h = absurd asked
 
-  each_back : (ss ts : List (Slot N T)) (xs : List T) → EachAsked st ss ts → AllZip SlotGives ts xs → AllZip SlotGives ss xs
+  each_back : (ss ts : List (Slot N T)) (xs : List T) → EachPolled st ss ts → AllZip SlotGives ts xs → AllZip SlotGives ss xs
   each_back [] ts xs asked h = subst (λ l. AllZip SlotGives l xs) asked h
   each_back (s ∷ ss) ts [] asked h = absurd (subst (λ l. AllZip SlotGives l []) asked.2.2 h)
   each_back (s ∷ ss) ts (x ∷ xs) asked h =
@@ -107,8 +107,8 @@ module _ {N T : Type 0} (st : StepsOf N T) (can_poll : N → Type 0) where
   BagHolds q xs = AllZip (MayGive st.stepped) q.calls xs
 
   bag_waits_at : (f g : N) (fs gs : List N) (p : Poll T) (xs : List T)
-      → ((hs : List N) (ys : List T) → FuturesAsked st fs None hs → AllZip (MayGive st.stepped) hs ys → AllZip (MayGive st.stepped) fs ys) → st.stepped f p g
-      → Comes (λ r. (◌≡◌ {A = Option T} None (Some r)) × (gs ≡ fs)) ((hs : List N) × FuturesAsked st fs None hs × (gs ≡ g ∷ hs)) p
+      → ((hs : List N) (ys : List T) → FuturesPolled st fs None hs → AllZip (MayGive st.stepped) hs ys → AllZip (MayGive st.stepped) fs ys) → st.stepped f p g
+      → Comes (λ r. (◌≡◌ {A = Option T} None (Some r)) × (gs ≡ fs)) ((hs : List N) × FuturesPolled st fs None hs × (gs ≡ g ∷ hs)) p
       → AllZip (MayGive st.stepped) gs xs → AllZip (MayGive st.stepped) (f ∷ fs) xs
   bag_waits_at f g fs gs (Ready r) xs rest step h zip = absurd (let e = h.0 in cc)
   bag_waits_at f g fs gs Pending [] rest step h zip = absurd (subst (λ l. AllZip (MayGive st.stepped) l []) h.2 zip)
@@ -116,7 +116,7 @@ module _ {N T : Type 0} (st : StepsOf N T) (can_poll : N → Type 0) where
       let moved = subst (λ l. AllZip (MayGive st.stepped) l (x ∷ xs)) h.2 zip in
       (gives_same st.stepped f Pending g step x moved.0, rest h.0 xs h.1 moved.1)
 
-  bag_waits : (fs gs : List N) (xs : List T) → FuturesAsked st fs None gs → AllZip (MayGive st.stepped) gs xs → AllZip (MayGive st.stepped) fs xs
+  bag_waits : (fs gs : List N) (xs : List T) → FuturesPolled st fs None gs → AllZip (MayGive st.stepped) gs xs → AllZip (MayGive st.stepped) fs xs
   bag_waits [] gs xs h zip = subst (λ l. AllZip (MayGive st.stepped) l xs) h.1 zip
   bag_waits (f ∷ fs) gs xs h zip = bag_waits_at f h.1 fs gs h.0 xs (bag_waits fs) h.2 h.3 zip
 
@@ -124,8 +124,8 @@ module _ {N T : Type 0} (st : StepsOf N T) (can_poll : N → Type 0) where
   Left fs x xs = (zs : List T) × AllZip (MayGive st.stepped) fs zs × IsPermutation zs (x ∷ xs)
 
   bag_answers_at : (f g : N) (fs gs : List N) (p : Poll T) (x : T) (xs : List T)
-      → ((hs : List N) (ys : List T) → FuturesAsked st fs (Some x) hs → AllZip (MayGive st.stepped) hs ys → Left fs x ys) → st.stepped f p g
-      → Comes (λ r. (Some x ≡ Some r) × (gs ≡ fs)) ((hs : List N) × FuturesAsked st fs (Some x) hs × (gs ≡ g ∷ hs)) p
+      → ((hs : List N) (ys : List T) → FuturesPolled st fs (Some x) hs → AllZip (MayGive st.stepped) hs ys → Left fs x ys) → st.stepped f p g
+      → Comes (λ r. (Some x ≡ Some r) × (gs ≡ fs)) ((hs : List N) × FuturesPolled st fs (Some x) hs × (gs ≡ g ∷ hs)) p
       → AllZip (MayGive st.stepped) gs xs → Left (f ∷ fs) x xs
   bag_answers_at f g fs gs (Ready r) x xs more step h zip =
       let same : r ≡ x = (let e = h.0 in cc) in (
@@ -142,7 +142,7 @@ module _ {N T : Type 0} (st : StepsOf N T) (can_poll : N → Type 0) where
         IsPermutation-trans (y ∷ rest.0) (y ∷ x ∷ ys) (x ∷ y ∷ ys) (IsPermutation-cons y rest.0 (x ∷ ys) rest.2) (IsPermutation-middle (y ∷ []) x ys),
       )
 
-  bag_answers : (fs gs : List N) (x : T) (xs : List T) → FuturesAsked st fs (Some x) gs → AllZip (MayGive st.stepped) gs xs → Left fs x xs
+  bag_answers : (fs gs : List N) (x : T) (xs : List T) → FuturesPolled st fs (Some x) gs → AllZip (MayGive st.stepped) gs xs → Left fs x xs
   bag_answers [] gs x xs h zip = absurd (let e = h.0 in cc)
   bag_answers (f ∷ fs) gs x xs h zip = bag_answers_at f h.1 fs gs h.0 x xs (λ hs ys. bag_answers fs hs x ys) h.2 h.3 zip
 
@@ -163,7 +163,7 @@ module _ {N T : Type 0} (st : StepsOf N T) (can_poll : N → Type 0) where
   bag_behaves : Behaves (bag st can_poll) (MayGive st.stepped) BagHolds IsPermutation
   bag_behaves = record {
     answers = λ d e x xs more ys asked held same.
-        let came = subst (λ o. FuturesAsked st d.calls o e.calls) (first_some d.calls asked.0 x asked.2) asked.1 in
+        let came = subst (λ o. FuturesPolled st d.calls o e.calls) (first_some d.calls asked.0 x asked.2) asked.1 in
         let left = bag_answers d.calls e.calls x xs came held in (
           left.0,
           left.1,
@@ -171,9 +171,9 @@ module _ {N T : Type 0} (st : StepsOf N T) (can_poll : N → Type 0) where
               (IsPermutation-append_left more left.0 (x ∷ xs) left.2) (IsPermutation-cons x (xs ++ more) ys same),
         );
     waits = λ d e xs asked held. bag_waits d.calls e.calls xs
-        (subst (λ o. FuturesAsked st d.calls o e.calls) (first_pending d.calls asked.0 asked.2) asked.1) held;
+        (subst (λ o. FuturesPolled st d.calls o e.calls) (first_pending d.calls asked.0 asked.2) asked.1) held;
     ends = λ d e xs asked held. bag_waits d.calls e.calls xs
-        (subst (λ o. FuturesAsked st d.calls o e.calls) (first_none d.calls asked.0 asked.2) asked.1) held;
+        (subst (λ o. FuturesPolled st d.calls o e.calls) (first_none d.calls asked.0 asked.2) asked.1) held;
     grows = λ d e xs grown held. subst (λ l. AllZip (MayGive st.stepped) l xs) grown held;
     pushes = λ d e n xs put held. zip_split (MayGive st.stepped) d.calls n xs (subst (λ l. AllZip (MayGive st.stepped) l xs) put.0 held);
     none = λ d none. rw none tt;

@@ -3,18 +3,18 @@ use Rattle.std.proofs.Common.{ℕ, zero, suc, Bool, true, false, List, [], ◌�
 use Rattle.futures.specs.declared.task.Poll.{Poll}
 use Rattle.futures.specs.declared.task.Poll.TheVariants.{Ready, Pending}
 use Rattle.tower_base.specs.Gives.{MayYield, NextAfter, Yields}
-use Rattle.tower_base.specs.Passes.{Goes}
+use Rattle.tower_base.specs.Iterations.{Iterates}
 use Rattle.tower_base.specs.declared.service.Flow.{Ghosts as FlowOf}
 use Rattle.tower_base.specs.declared.service.Service.{Ghosts as ServiceOf}
-use Rattle.tower_ware.specs.CallAll.{AfterAsk, AfterFlow, AfterReady, Called, CallerView, Flowed, GoesOn, Pass}
+use Rattle.tower_ware.specs.CallAll.{AfterAsk, AfterFlow, AfterReady, Called, CallerView, Flowed, GoesOn, Iteration}
 use Rattle.tower_ware.specs.CallOrder.{IsCalm, unfailing}
 use Rattle.tower_ware.specs.declared.util.call_all.call_queue.CallQueue.{Ghosts as CallQueueOf}
 use Rattle.tower_ware.specs.declared.util.call_all.error.Error.{Error}
 
-goes_map : {V A : Type 0} (p q : V → Option A → V → Type 0) → ((v w : V) → p v None w → q v None w) → (n : ℕ) (v w : V) → Goes p n v w → Goes q n v w
-unfolding Goes
-goes_map p q h zero v w went = went
-goes_map p q h (suc n) v w went = (went.0, goes_map p q h n v went.0 went.1, h went.0 w went.2)
+iterates_map : {V A : Type 0} (p q : V → Option A → V → Type 0) → ((v w : V) → p v None w → q v None w) → (n : ℕ) (v w : V) → Iterates p n v w → Iterates q n v w
+unfolding Iterates
+iterates_map p q h zero v w went = went
+iterates_map p q h (suc n) v w went = (went.0, iterates_map p q h n v went.0 went.1, h went.0 w went.2)
 
 module _ {F A : Type 0} (p q : F → Poll (Option A) → F → Type 0) (h : (f g : F) (a : Poll (Option A)) → p f a g → q f a g) where
   next_map : (n : ℕ) (f : F) (o : Option A) (P R : F → Type 0) → ((g : F) → P g → R g) → NextAfter p n f o P → NextAfter q n f o R
@@ -73,7 +73,7 @@ module _ {V Q D N A E R : Type 0} (sv : ServiceOf V R A E N) (fl : FlowOf Q R) (
   ask_calm s Pending o t h = goes_calm s.ended s.kept s o t h
 
   pass_calm : (s : CallerView V Q D R) (o : Outcome) (t : CallerView V Q D R)
-      → Pass sv fl dr s o t → Pass (unfailing sv) fl dr s o t
+      → Iteration sv fl dr s o t → Iteration (unfailing sv) fl dr s o t
   pass_calm s o t h = (h.0, h.1, h.2, ask_calm (record s { queue = h.1 }) h.0 o t h.3)
 
   pub flows_calm : (s t : CallerView V Q D R) (a : Poll (Option (Result A (Error E)))) → Flowed sv fl dr s a t
@@ -82,7 +82,7 @@ module _ {V Q D N A E R : Type 0} (sv : ServiceOf V R A E N) (fl : FlowOf Q R) (
     passes = record {
       count = h.passes.count;
       last = h.passes.last;
-      went = goes_map (Pass sv fl dr) (Pass (unfailing sv) fl dr)
+      went = iterates_map (Iteration sv fl dr) (Iteration (unfailing sv) fl dr)
           (λ v w p. pass_calm v None w p) h.passes.count s h.passes.last h.passes.went;
       ends = ⊎_elim (λ x. inl (x.0, pass_calm h.passes.last (Some a) t x.1)) inr h.passes.ends;
     };

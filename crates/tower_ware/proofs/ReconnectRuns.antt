@@ -3,7 +3,7 @@ use Rattle.std.proofs.Common.{◌≡◌, ℕ, zero, suc, inl, inr, ⊎_elim, ref
 use Rattle.std.specs.declared.clone.Clone.{Ghosts as CloneOf}
 use Rattle.futures.specs.declared.task.Poll.{Poll}
 use Rattle.futures.specs.declared.task.Poll.TheVariants.{Ready, Pending}
-use Rattle.tower_base.specs.Passes.{Goes}
+use Rattle.tower_base.specs.Iterations.{Iterates}
 use Rattle.tower_base.specs.ServiceRun.{Relations, relations, Action, Takes}
 use Rattle.tower_base.specs.Projection.{AtMostOnce, ByAction, RunInside}
 use Rattle.tower_base.specs.ProjectionLemmas.{no_action, one_poll, one_call}
@@ -11,7 +11,7 @@ use Rattle.tower_base.specs.declared.service.Service.{Ghosts as ServiceOf}
 use Rattle.tower_base.specs.declared.service.Steps.{Ghosts as StepsOf}
 use Rattle.tower_ware.proofs.RunsLemmas.{after}
 use Rattle.tower_ware.specs.Projections.{FromState, Continues}
-use Rattle.tower_ware.specs.Reconnect.{ReconnectView, AfterMaker, AfterConnect, AfterReadiness, PassAt, Pass, Polled, IsReady, CalledAt, Called}
+use Rattle.tower_ware.specs.Reconnect.{ReconnectView, AfterMaker, AfterConnect, AfterReadiness, IterationAt, Iteration, Polled, IsReady, CalledAt, Called}
 use Rattle.tower_ware.specs.declared.reconnect.error.Error.{Error}
 use Rattle.tower_ware.specs.declared.reconnect.state.Reply.{Reply}
 use Rattle.tower_ware.specs.declared.reconnect.state.State.{State}
@@ -77,13 +77,13 @@ module _ {M T S F ME Q A E G : Type 0} (m : ServiceOf M T S ME F) (connect : Ste
   after_readiness old service left (Ready (Err e)) answer new polled h = held (λ x. x ≡ []) (Connected service) Idle new (ap (λ v. v.state) h.1) tt
 
   passed : (state : State F S) (old : View) (answer : Option (Poll (Result (Unit {0}) (Error E ME)))) (new : View) → old.state ≡ state
-      → PassAt m connect s clones state old answer new → Holds (λ x. x ≡ []) state new.state
+      → IterationAt m connect s clones state old answer new → Holds (λ x. x ≡ []) state new.state
   passed Idle old answer new same h = after_maker old h.1 h.0 answer new same h.3
   passed (Connecting f) old answer new same h = after_connect old f h.1 h.0 answer new h.2 h.3
   passed (Connected service) old answer new same h = after_readiness old service h.1 h.0 answer new h.2 h.3
 
-  went : (n : ℕ) (old new : View) → Goes (Pass m connect s clones) n old new → Holds (λ x. x ≡ []) old.state new.state
-  unfolding Goes
+  went : (n : ℕ) (old new : View) → Iterates (Iteration m connect s clones) n old new → Holds (λ x. x ≡ []) old.state new.state
+  unfolding Iterates
   went zero old new h = held (λ x. x ≡ []) old.state old.state new (ap (λ v. v.state) h) (stays (λ x. x ≡ []) old.state refl)
   went (suc n) old new h = chained old.state h.0.state new.state (went n old h.0 h.1) (passed h.0.state h.0 None new refl h.2)
 

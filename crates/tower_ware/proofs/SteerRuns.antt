@@ -40,8 +40,8 @@ module _ {S F Q A E G : Type 0} (s : ServiceOf S Q A E G) (p : PickerOf F S Q) (
       (get_or-set_other services i j left d other.1) none)
       (eqb_tells j i)
 
-  on_ok : {Goes : Type 0} (old new : S) (Stops : Poll (Result (Unit {0}) E) → Type 0) (answer : Poll (Result (Unit {0}) E)) → OnOk Goes Stops answer
-      → (Goes → RunInside (relations s) (λ x. x ≡ []) old new) → ((stop : Poll (Result (Unit {0}) E)) → Stops stop → new ≡ old) → RunInside (relations s) (λ x. x ≡ []) old new
+  on_ok : {Continues : Type 0} (old new : S) (Stops : Poll (Result (Unit {0}) E) → Type 0) (answer : Poll (Result (Unit {0}) E)) → OnOk Continues Stops answer
+      → (Continues → RunInside (relations s) (λ x. x ≡ []) old new) → ((stop : Poll (Result (Unit {0}) E)) → Stops stop → new ≡ old) → RunInside (relations s) (λ x. x ≡ []) old new
   on_ok old new Stops (Ready (Ok u)) here goes stops = goes here
   on_ok old new Stops (Ready (Err e)) here goes stops = no_action (relations s) old new (stops _ here) refl
   on_ok old new Stops Pending here goes stops = no_action (relations s) old new (stops _ here) refl

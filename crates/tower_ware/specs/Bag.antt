@@ -19,15 +19,15 @@ Comes Answers Waits Pending = Waits
 
 module _ {F T : Type 0} (f : StepsOf F T) where
   -- The futures are polled one after another, up to the first that is ready, which is removed.
-  abbrev pub EachAsked : List F → Option T → List F → Type 0
-  EachAsked [] answer new = (answer ≡ None) × (new ≡ [])
-  EachAsked (old ∷ rest) answer new = (inner : Poll T) × (left : F) × f.stepped old inner left
-      × Comes (λ x. (answer ≡ Some x) × (new ≡ rest)) ((others : List F) × EachAsked rest answer others × (new ≡ left ∷ others)) inner
+  abbrev pub EachPolled : List F → Option T → List F → Type 0
+  EachPolled [] answer new = (answer ≡ None) × (new ≡ [])
+  EachPolled (old ∷ rest) answer new = (inner : Poll T) × (left : F) × f.stepped old inner left
+      × Comes (λ x. (answer ≡ Some x) × (new ≡ rest)) ((others : List F) × EachPolled rest answer others × (new ≡ left ∷ others)) inner
 
   -- a poll of the queue of an unordered stream
-  abbrev pub BagAsked : Queue F → Poll (Option T) → Queue F → Type 0
-  BagAsked old answer new =
-      (first : Option T) × EachAsked old.calls first new.calls × (answer ≡ answer_of old.calls first) × (new.room ≡ old.room)
+  abbrev pub BagPolled : Queue F → Poll (Option T) → Queue F → Type 0
+  BagPolled old answer new =
+      (first : Option T) × EachPolled old.calls first new.calls × (answer ≡ answer_of old.calls first) × (new.room ≡ old.room)
 
 -- the relations of a `Bag` of such futures
 abbrev pub bag : {F T : Type 0} → StepsOf F T → (F → Type 0) → CallQueueOf (Queue F) T F
@@ -35,7 +35,7 @@ bag f can_poll = record {
   sound = λ q. All can_poll q.calls;
   has_room = HasRoom;
   empty = Empty;
-  asked = BagAsked f;
+  polled = BagPolled f;
   grown = Grown;
   pushed = Pushed (λ future. future);
 }

@@ -1,13 +1,13 @@
 -- The machine of `util::call_all`: a stream of calls, ordered or not.
-use Rattle.std.specs.Prelude.{◌≡◌, Bool, true, false, Option, Some, None, IsSomeAnd, Result, Ok, Err, ◌⊎◌}
+use Rattle.std.specs.Prelude.{◌≡◌, All, Bool, true, false, Option, Some, None, IsSomeAnd, Result, Ok, Err, ◌⊎◌}
 use Rattle.futures.specs.declared.task.Poll.{Poll}
 use Rattle.futures.specs.declared.task.Poll.TheVariants.{Ready, Pending}
-use Rattle.tower_base.specs.Passes.{Passes}
+use Rattle.tower_base.specs.Iterations.{Iterations}
 use Rattle.tower_base.specs.declared.service.Flow.{Ghosts as FlowOf}
 use Rattle.tower_base.specs.declared.service.Service.{Ghosts as ServiceOf}
 use Rattle.tower_base.specs.declared.service.Steps.{Ghosts as StepsOf}
 use Rattle.tower_ware.specs.Bag.{bag}
-use Rattle.tower_ware.specs.OrderedCalls.{line}
+use Rattle.tower_ware.specs.OrderedCalls.{MayAsk, line}
 use Rattle.tower_ware.specs.Queue.{Queue, Empty}
 use Rattle.tower_ware.specs.declared.util.call_all.caller.Caller.{Caller}
 use Rattle.tower_ware.specs.declared.util.call_all.call_queue.CallQueue.{Ghosts as CallQueueOf}
@@ -41,13 +41,21 @@ pub record CanFlow {S Q D R : Type 0} (sound : S → Type 0) (queue : D → Type
   pub calls : queue v.queue
   pub flow : v.ended ≡ false → can_poll v.requests
 
+-- A `CallAll` may be polled. A call whose answer is there may be asked.
+abbrev pub CallAllCanFlow : {S Q F T R : Type 0} → (S → Type 0) → (F → Type 0) → (Q → Type 0) → CallerView S Q (Queue (Slot F T)) R → Type 0
+CallAllCanFlow sound future requests = CanFlow sound (λ q. All (MayAsk future) q.calls) requests
+
+-- a `CallAllUnordered` may be polled
+abbrev pub CallAllUnorderedCanFlow : {S Q F R : Type 0} → (S → Type 0) → (F → Type 0) → (Q → Type 0) → CallerView S Q (Queue F) R → Type 0
+CallAllUnorderedCanFlow sound future requests = CanFlow sound (λ q. All future q.calls) requests
+
 -- the answer of a call, as it is yielded
 abbrev pub yielded : {A E : Type 0} → Result A E → Result A (Error E)
 yielded (Ok x) = Ok x
 yielded (Err e) = Err (Inner e)
 
 module _ {S Q D R A E F : Type 0} (s : ServiceOf S R A E F) (q : FlowOf Q R) (d : CallQueueOf D (Result A E) F) where
-  -- the result of one pass: no answer yet, or the answer of the poll
+  -- the result of one iteration: no answer yet, or the answer of the poll
   abbrev pub Answer : Type 0
   Answer = Option (Poll (Option (Result A (Error E))))
 
@@ -61,7 +69,7 @@ module _ {S Q D R A E F : Type 0} (s : ServiceOf S R A E F) (q : FlowOf Q R) (d 
       × (new ≡ record old { service = Some left; queue = queue; kept = None })
 
   -- The service is to be called with a request: room for the call is allocated, and then the service's readiness is polled. If allocation fails,
-  -- which is the first case and happens only if the queue had no room left, the request is kept. `grown`, `pushed` and `asked` are the queue's own relations.
+  -- which is the first case and happens only if the queue had no room left, the request is kept. `grown`, `pushed` and `polled` are the queue's own relations.
   abbrev pub Called : CallerView S Q D R → R → Answer → CallerView S Q D R → Type 0
   Called old request answer new = (queue : D) × d.grown old.queue queue
       × (((answer ≡ Some (Ready (Some (Err Memory)))) × (new ≡ record old { queue = queue; kept = Some request })
@@ -90,14 +98,14 @@ module _ {S Q D R A E F : Type 0} (s : ServiceOf S R A E F) (q : FlowOf Q R) (d 
   AfterAsk old (Ready None) answer new = GoesOn old.ended old.kept old answer new
   AfterAsk old Pending answer new = GoesOn old.ended old.kept old answer new
 
-  -- one pass: the queue is polled first
-  abbrev pub Pass : CallerView S Q D R → Answer → CallerView S Q D R → Type 0
-  Pass old answer new = (first : Poll (Option (Result A E))) × (queue : D) × d.asked old.queue first queue
+  -- one iteration: the queue is polled first
+  abbrev pub Iteration : CallerView S Q D R → Answer → CallerView S Q D R → Type 0
+  Iteration old answer new = (first : Poll (Option (Result A E))) × (queue : D) × d.polled old.queue first queue
       × AfterAsk (record old { queue = queue }) first answer new
 
-  -- a poll: passes up to an answer, or 64 without one, and then it is pending
+  -- a poll: iterations up to an answer, or 64 without one, and then it is pending
   pub record Flowed (old : CallerView S Q D R) (answer : Poll (Option (Result A (Error E)))) (new : CallerView S Q D R) : Type 0 where
-    pub passes : Passes Pass Pending old answer new
+    pub passes : Iterations Iteration Pending old answer new
 
 module _ {S Q R A E F : Type 0} (s : ServiceOf S R A E F) (q : FlowOf Q R) (f : StepsOf F (Result A E)) (can_poll : F → Type 0) where
   -- a poll of a `CallAll`

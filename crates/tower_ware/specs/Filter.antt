@@ -63,11 +63,11 @@ FilterCalled s u old request (Refusal p) new = u.checked old.predicate request (
 FilterCalled s u old request Answered new = ⊥
 
 -- A call of an `AsyncFilter`: the service that was polled goes into the future, a clone of it stays, and the predicate is called, which returns
--- the check (`asked`). If cloning fails, which happens only if the service's clone may fail, nothing changes.
+-- the check (`checked`). If cloning fails, which happens only if the service's clone may fail, nothing changes.
 abbrev pub AsyncFilterCalled : {S Q A E F U R P C : Type 0} → ServiceOf S Q A E F → CloneOf S → AsyncPredicateOf U R Q P C
     → FilterView S U → R → AsyncState C S F → FilterView S U → Type 0
 AsyncFilterCalled s clones u old request (Check check service) new =
-    s.ready old.inner × (service ≡ old.inner) × clones.is_clone old.inner new.inner × u.asked old.predicate request check new.predicate
+    s.ready old.inner × (service ≡ old.inner) × clones.is_clone old.inner new.inner × u.checked old.predicate request check new.predicate
 AsyncFilterCalled s clones u old request (InFlight future) new = ⊥
 AsyncFilterCalled s clones u old request NoClone new = (new ≡ old) × ¬ (clones.is_infallible old.inner)
 

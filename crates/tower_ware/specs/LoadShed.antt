@@ -43,8 +43,8 @@ module _ {S Q A E F : Type 0} (s : ServiceOf S Q A E F) where
   Called old request None new = (old.is_ready ≡ false) × (new ≡ old)
 
 -- a new `LoadShed`: the flag isn't set
-abbrev pub new_of : {S : Type 0} → S → LoadShedView S
-new_of inner = record { inner = inner; is_ready = false }
+abbrev pub initial : {S : Type 0} → S → LoadShedView S
+initial inner = record { inner = inner; is_ready = false }
 
 -- a clone: a clone of the inner service, and the flag isn't set
 abbrev pub IsClone : {S : Type 0} → (S → S → Type 0) → LoadShedView S → LoadShedView S → Type 0

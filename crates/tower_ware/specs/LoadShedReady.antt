@@ -3,7 +3,7 @@ use Rattle.std.proofs.Common.{◌≡◌, true, Option, Some, None, Ok, Err, Resu
 use Rattle.futures.specs.declared.task.Poll.{Poll}
 use Rattle.futures.specs.declared.task.Poll.TheVariants.{Ready, Pending}
 use Rattle.tower_base.specs.declared.service.Service.{Ghosts as ServiceOf}
-use Rattle.tower_ware.specs.LoadShed.{Called, IsClone, IsReady, LoadShedView, Polled, flag_of, new_of}
+use Rattle.tower_ware.specs.LoadShed.{Called, IsClone, IsReady, LoadShedView, Polled, flag_of, initial}
 use Rattle.tower_ware.specs.declared.load_shed.error.Error.{Error}
 
 module _ {S Q A E F : Type 0} (s : ServiceOf S Q A E F)
@@ -26,7 +26,7 @@ ready_called s old request (Some future) new c set = absurd (let flag = c.3 in c
 ready_called s old request None new c set = absurd (let flag = c.0 in let same = c.1 in cc)
 
 -- when it is new, and when it is a clone
-pub ready_new : {S Q A E F : Type 0} (s : ServiceOf S Q A E F) (inner : S) → IsReady s (new_of inner)
+pub ready_new : {S Q A E F : Type 0} (s : ServiceOf S Q A E F) (inner : S) → IsReady s (initial inner)
 ready_new s inner set = absurd (cc set)
 
 pub ready_clone : {S Q A E F : Type 0} (s : ServiceOf S Q A E F) (is_clone : S → S → Type 0) (old clone : LoadShedView S)

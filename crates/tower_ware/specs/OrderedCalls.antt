@@ -20,28 +20,28 @@ OnWaiting (Answered x) p = ⊤
 
 module _ {F T : Type 0} (f : StepsOf F T) where
   -- A future without an answer is polled once. An answer stays as it is.
-  abbrev pub SlotAsked : Slot F T → Slot F T → Type 0
-  SlotAsked (Waiting old) (Waiting new) = f.stepped old Pending new
-  SlotAsked (Waiting old) (Answered x) = (left : F) × f.stepped old (Ready x) left
-  SlotAsked (Answered x) (Answered y) = y ≡ x
-  SlotAsked (Answered x) (Waiting new) = ⊥
+  abbrev pub SlotPolled : Slot F T → Slot F T → Type 0
+  SlotPolled (Waiting old) (Waiting new) = f.stepped old Pending new
+  SlotPolled (Waiting old) (Answered x) = (left : F) × f.stepped old (Ready x) left
+  SlotPolled (Answered x) (Answered y) = y ≡ x
+  SlotPolled (Answered x) (Waiting new) = ⊥
 
   -- The same for each slot, in call order.
-  abbrev pub EachAsked : List (Slot F T) → List (Slot F T) → Type 0
-  EachAsked [] new = new ≡ []
-  EachAsked (old ∷ rest) new =
-      (asked : Slot F T) × SlotAsked old asked × ((others : List (Slot F T)) × EachAsked rest others × (new ≡ asked ∷ others))
+  abbrev pub EachPolled : List (Slot F T) → List (Slot F T) → Type 0
+  EachPolled [] new = new ≡ []
+  EachPolled (old ∷ rest) new =
+      (asked : Slot F T) × SlotPolled old asked × ((others : List (Slot F T)) × EachPolled rest others × (new ≡ asked ∷ others))
 
   -- The front stays as it is, and the others are polled.
-  abbrev pub OthersAsked : List (Slot F T) → List (Slot F T) → Type 0
-  OthersAsked [] new = new ≡ []
-  OthersAsked (front ∷ rest) new = (others : List (Slot F T)) × EachAsked rest others × (new ≡ front ∷ others)
+  abbrev pub OthersPolled : List (Slot F T) → List (Slot F T) → Type 0
+  OthersPolled [] new = new ≡ []
+  OthersPolled (front ∷ rest) new = (others : List (Slot F T)) × EachPolled rest others × (new ≡ front ∷ others)
 
   -- what follows a poll of the front
   abbrev pub AfterFront : F → List (Slot F T) → Poll T → Poll (Option T) → List (Slot F T) → Type 0
   AfterFront front rest (Ready x) answer new = (answer ≡ Ready (Some x)) × (new ≡ rest)
   AfterFront front rest Pending answer new = (answer ≡ Pending)
-      × ((others : List (Slot F T)) × EachAsked rest others × (new ≡ Waiting front ∷ others))
+      × ((others : List (Slot F T)) × EachPolled rest others × (new ≡ Waiting front ∷ others))
 
   -- The front's answer is returned. If the front is pending, each other future without an answer is polled once.
   abbrev pub SlotsAsked : List (Slot F T) → Poll (Option T) → List (Slot F T) → Type 0
@@ -50,8 +50,8 @@ module _ {F T : Type 0} (f : StepsOf F T) where
   SlotsAsked (Waiting old ∷ rest) answer new = (inner : Poll T) × (front : F) × f.stepped old inner front × AfterFront front rest inner answer new
 
   -- a poll of the queue of an ordered stream
-  abbrev pub LineAsked : Queue (Slot F T) → Poll (Option T) → Queue (Slot F T) → Type 0
-  LineAsked old answer new = SlotsAsked old.calls answer new.calls × (new.room ≡ old.room)
+  abbrev pub LinePolled : Queue (Slot F T) → Poll (Option T) → Queue (Slot F T) → Type 0
+  LinePolled old answer new = SlotsAsked old.calls answer new.calls × (new.room ≡ old.room)
 
 -- the relations of a `Line` of such futures
 abbrev pub line : {F T : Type 0} → StepsOf F T → (F → Type 0) → CallQueueOf (Queue (Slot F T)) T F
@@ -59,7 +59,7 @@ line f can_poll = record {
   sound = λ q. All (MayAsk can_poll) q.calls;
   has_room = HasRoom;
   empty = Empty;
-  asked = LineAsked f;
+  polled = LinePolled f;
   grown = Grown;
   pushed = Pushed Waiting;
 }

@@ -5,7 +5,7 @@ use Rattle.futures.specs.declared.task.Poll.{Poll}
 use Rattle.futures.specs.declared.task.Poll.TheVariants.{Ready, Pending}
 use Rattle.tower_base.specs.Answers.{answered}
 use Rattle.tower_base.specs.Gives.{MayGive}
-use Rattle.tower_base.specs.Passes.{Passes}
+use Rattle.tower_base.specs.Iterations.{Iterations}
 use Rattle.tower_base.specs.declared.service.Service.{Ghosts as ServiceOf}
 use Rattle.tower_base.specs.declared.service.Steps.{Ghosts as StepsOf}
 use Rattle.tower_ware.specs.declared.reconnect.Reconnect.{Reconnect}
@@ -53,7 +53,7 @@ module _ {M T S F ME : Type 0} (m : ServiceOf M T S ME F) (connect : StepsOf F (
 
 module _ {M T S F ME Q A E G : Type 0} (m : ServiceOf M T S ME F) (connect : StepsOf F (Result S ME)) (s : ServiceOf S Q A E G)
     (clones : CloneOf T) where
-  -- the result of one pass: no answer yet, or the answer of the poll
+  -- the result of one iteration: no answer yet, or the answer of the poll
   abbrev pub Answer : Type 0
   Answer = Option (Poll (Result (Unit {0}) (Error E ME)))
 
@@ -79,21 +79,21 @@ module _ {M T S F ME Q A E G : Type 0} (m : ServiceOf M T S ME F) (connect : Ste
   AfterReadiness old left (Ready (Ok x)) answer new = (answer ≡ Some (Ready (Ok tt))) × (new ≡ record old { state = Connected left })
   AfterReadiness old left (Ready (Err e)) answer new = (answer ≡ None) × (new ≡ record old { state = Idle })
 
-  -- one pass, from each state
-  abbrev pub PassAt : State F S → ReconnectView M F S ME T → Answer → ReconnectView M F S ME T → Type 0
-  PassAt Idle old answer new = (readiness : Poll (Result (Unit {0}) ME)) × (polled : M)
+  -- one iteration, from each state
+  abbrev pub IterationAt : State F S → ReconnectView M F S ME T → Answer → ReconnectView M F S ME T → Type 0
+  IterationAt Idle old answer new = (readiness : Poll (Result (Unit {0}) ME)) × (polled : M)
       × m.polled old.maker readiness polled × AfterMaker old polled readiness answer new
-  PassAt (Connecting f) old answer new = (connected : Poll (Result S ME)) × (left : F)
+  IterationAt (Connecting f) old answer new = (connected : Poll (Result S ME)) × (left : F)
       × connect.stepped f connected left × AfterConnect old left connected answer new
-  PassAt (Connected service) old answer new = (readiness : Poll (Result (Unit {0}) E)) × (left : S)
+  IterationAt (Connected service) old answer new = (readiness : Poll (Result (Unit {0}) E)) × (left : S)
       × s.polled service readiness left × AfterReadiness old left readiness answer new
 
-  abbrev pub Pass : ReconnectView M F S ME T → Answer → ReconnectView M F S ME T → Type 0
-  Pass old answer new = PassAt old.state old answer new
+  abbrev pub Iteration : ReconnectView M F S ME T → Answer → ReconnectView M F S ME T → Type 0
+  Iteration old answer new = IterationAt old.state old answer new
 
-  -- a poll of readiness: passes up to an answer, or 64 without one, and then it is pending
+  -- a poll of readiness: iterations up to an answer, or 64 without one, and then it is pending
   pub record Polled (old : ReconnectView M F S ME T) (answer : Poll (Result (Unit {0}) (Error E ME))) (new : ReconnectView M F S ME T) : Type 0 where
-    pub passes : Passes Pass Pending old answer new
+    pub passes : Iterations Iteration Pending old answer new
 
 module _ {S F ME Q A E G : Type 0} (s : ServiceOf S Q A E G) where
   -- An error is kept, or the connection is ready.

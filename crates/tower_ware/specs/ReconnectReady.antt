@@ -1,13 +1,13 @@
--- If a poll of a `Reconnect` returns `Ok`, its last pass does, and leaves a ready value.
+-- If a poll of a `Reconnect` returns `Ok`, its last iteration does, and leaves a ready value.
 use Rattle.std.specs.Prelude.{Option, Some, None, Result, Ok, Err}
 use Rattle.std.proofs.Common.{⊎_elim}
 use Rattle.std.specs.declared.clone.Clone.{Ghosts as CloneOf}
 use Rattle.futures.specs.declared.task.Poll.{Poll}
 use Rattle.futures.specs.declared.task.Poll.TheVariants.{Ready, Pending}
-use Rattle.tower_base.specs.PassesLemmas.{passes_last}
+use Rattle.tower_base.specs.IterationsLemmas.{iterations_last}
 use Rattle.tower_base.specs.declared.service.Service.{Ghosts as ServiceOf}
 use Rattle.tower_base.specs.declared.service.Steps.{Ghosts as StepsOf}
-use Rattle.tower_ware.specs.Reconnect.{AfterConnect, AfterMaker, AfterReadiness, IsReady, Pass, PassAt, Polled, ReadyAt, ReconnectView}
+use Rattle.tower_ware.specs.Reconnect.{AfterConnect, AfterMaker, AfterReadiness, IsReady, Iteration, IterationAt, Polled, ReadyAt, ReconnectView}
 use Rattle.tower_ware.specs.declared.reconnect.state.State.{State}
 use Rattle.tower_ware.specs.declared.reconnect.state.State.TheVariants.{Idle, Connecting, Connected}
 
@@ -35,7 +35,7 @@ module _ {M T S F ME Q A E G : Type 0} (m : ServiceOf M T S ME F) (connect : Ste
   after_readiness old new service left (Ready (Ok x)) p h = rw h.1 (ready_at old.error left (readies service left p))
   after_readiness old new service left (Ready (Err e)) p h = absurd (let e = h.0 in cc)
 
-  pass_ok : (state : State F S) (old new : ReconnectView M F S ME T) → PassAt m connect s clones state old (Some (Ready (Ok tt))) new → IsReady s new
+  pass_ok : (state : State F S) (old new : ReconnectView M F S ME T) → IterationAt m connect s clones state old (Some (Ready (Ok tt))) new → IsReady s new
   pass_ok Idle old new h = absurd (after_maker old new h.1 h.0 h.3)
   pass_ok (Connecting f) old new h = after_connect old new h.1 h.0 h.3
   pass_ok (Connected service) old new h = after_readiness old new service h.1 h.0 h.2 h.3
@@ -45,4 +45,4 @@ pub polled_ok : {M T S F ME Q A E G : Type 0} {m : ServiceOf M T S ME F} {connec
     → (old new : ReconnectView M F S ME T) → Polled m connect s clones old (Ready (Ok tt)) new → IsReady s new
 polled_ok {m = m} {connect = connect} {s = s} {clones = clones} readies old new p =
     pass_ok m connect s clones readies p.passes.last.state p.passes.last new
-    (passes_last (Pass m connect s clones) Pending (Ready (Ok tt)) old new (λ e. cc) p.passes)
+    (iterations_last (Iteration m connect s clones) Pending (Ready (Ok tt)) old new (λ e. cc) p.passes)

@@ -55,11 +55,11 @@ module _ {S : Type 0} (needs : S → ℕ → Type 0) where
   abbrev pub Needs : {F : Type 0} → SteerView S F → ℕ → Type 0
   Needs v source = NeedsFront v.listed v.services source
 
--- `Goes` holds after `Ok`, and `Stops` of any other answer.
+-- `Continues` holds after `Ok`, and `Stops` of any other answer.
 abbrev pub OnOk : {E : Type 0} → Type 0 → (Poll (Result (Unit {0}) E) → Type 0) → Poll (Result (Unit {0}) E) → Type 0
-OnOk Goes Stops (Ready (Ok u)) = Goes
-OnOk Goes Stops (Ready (Err e)) = Stops (Ready (Err e))
-OnOk Goes Stops Pending = Stops Pending
+OnOk Continues Stops (Ready (Ok u)) = Continues
+OnOk Continues Stops (Ready (Err e)) = Stops (Ready (Err e))
+OnOk Continues Stops Pending = Stops Pending
 
 module _ {S E : Type 0} (polled : S → Poll (Result (Unit {0}) E) → S → Type 0) where
   -- The listed services are polled one after another, up to the first that doesn't return `Ok`, which stays at the front. The answer, the list and

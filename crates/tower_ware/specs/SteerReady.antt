@@ -6,8 +6,8 @@ use Rattle.tower_base.specs.declared.service.Service.{Ghosts as ServiceOf}
 use Rattle.tower_ware.specs.Steer.{EachPolled, OnOk, Polled, SteerView}
 
 -- A poll that returns `Ok` doesn't stop.
-goes_on : {E X Goes : Type 0} (Stops : Poll (Result (Unit {0}) E) → Type 0) (r : Poll (Result (Unit {0}) E))
-    → OnOk Goes Stops r → ((a : Poll (Result (Unit {0}) E)) → Stops a → Ready (Ok tt) ≡ a) → (Goes → X) → X
+goes_on : {E X Continues : Type 0} (Stops : Poll (Result (Unit {0}) E) → Type 0) (r : Poll (Result (Unit {0}) E))
+    → OnOk Continues Stops r → ((a : Poll (Result (Unit {0}) E)) → Stops a → Ready (Ok tt) ≡ a) → (Continues → X) → X
 goes_on Stops (Ready (Ok u)) h same k = k h
 goes_on Stops (Ready (Err e)) h same k = absurd (let e = same _ h in cc)
 goes_on Stops Pending h same k = absurd (let e = same _ h in cc)

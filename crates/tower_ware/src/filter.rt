@@ -80,7 +80,8 @@ where
 
     ghost called = { FilterCalled S.Service U.Predicate };
 
-    ghost readies = { λ old new p. S.readies old.inner new.inner (let e = answered_ok Inner p.inner tt p.answers in Prim.rw e at p.polled) };
+    ghost readies = { λ old new p. S.readies old.inner new.inner
+        (let e = answered_ok Inner p.inner tt p.answers in Prim.rw e at p.polled) };
 
     fn poll_ready(&mut self, cx: &mut Context<'_>) -> Poll<Result<(), Error<S::Error, U::Error>>> {
         match self.inner.poll_ready(cx) {
@@ -100,7 +101,8 @@ where
 
 /// States that each call makes one call of the inner service, with the checked request, or none.
 pub fn projection<R, P, S: Service<P>, U: Predicate<R, Request = P>>()
-    ensures { Projects (relations ⟦<Filter<S, U> as Service<R>>⟧) (relations S.Service) (λ f. f.inner) (MappedOrNone (LetsThrough U.Predicate)) }
+    ensures { Projects (relations ⟦<Filter<S, U> as Service<R>>⟧) (relations S.Service)
+        (λ f. f.inner) (MappedOrNone (LetsThrough U.Predicate)) }
 {}
 
 /// A `Filter` contains what its inner service contains.
@@ -114,7 +116,8 @@ where
 
     ghost goes = { Through (MappedOrNone (LetsThrough U.Predicate)) S.goes };
 
-    ghost projects = { composed _ _ _ (λ f. f.inner) S.inside _ S.goes (filter_projects _ U.Predicate) S.projects };
+    ghost projects = { composed _ _ _ (λ f. f.inner)
+        S.inside _ S.goes (filter_projects _ U.Predicate) S.projects };
 }
 
 /// Clones the inner service and the predicate.
@@ -219,7 +222,8 @@ where
     type Future = AsyncResponseFuture<U::Future, S, S::Future>;
 
     // A clone of a sound service is sound.
-    ghost sound = { λ f. S.sound f.inner × U.sound f.predicate × ((x y : S) → S.is_clone x y → S.sound x → S.sound y) };
+    ghost sound = { λ f. S.sound f.inner × U.sound f.predicate
+        × ((x y : S) → S.is_clone x y → S.sound x → S.sound y) };
 
     ghost ready = { λ f. S.ready f.inner };
 
@@ -229,7 +233,8 @@ where
 
     ghost called = { AsyncFilterCalled S.Service S.Clone U.AsyncPredicate };
 
-    ghost readies = { λ old new p. S.readies old.inner new.inner (let e = answered_ok Inner p.inner tt p.answers in Prim.rw e at p.polled) };
+    ghost readies = { λ old new p. S.readies old.inner new.inner
+        (let e = answered_ok Inner p.inner tt p.answers in Prim.rw e at p.polled) };
 
     fn poll_ready(&mut self, cx: &mut Context<'_>) -> Poll<Result<(), Error<S::Error, U::Error>>> {
         match self.inner.poll_ready(cx) {
@@ -255,8 +260,12 @@ where
 /// future and leaves a clone, unless cloning fails. The future calls that service at most once, with the
 /// request that the check returned.
 pub fn async_projection<R: Drop, P, S: Service<P> + Clone, U: AsyncPredicate<R, Request = P>>()
-    ensures inside { (old : _) (action : _) (new : _) → Takes (relations ⟦<AsyncFilter<S, U> as Service<R>>⟧) old action new → GoesAside S.Service S.Clone old action new }
-    ensures future { (old new : _) (answer : _) → AsyncResponseFutureStepped S.Service S.Future.Steps.own U.Future.Steps.own old answer new → RunsOfChecked S.Service U.Future.Steps.own old new }
+    ensures inside { (old : _) (action : _) (new : _)
+        → Takes (relations ⟦<AsyncFilter<S, U> as Service<R>>⟧) old action new
+        → GoesAside S.Service S.Clone old action new }
+    ensures future { (old new : _) (answer : _)
+        → AsyncResponseFutureStepped S.Service S.Future.Steps.own U.Future.Steps.own old answer new
+        → RunsOfChecked S.Service U.Future.Steps.own old new }
 {}
 
 /// Clones the inner service and the predicate.
@@ -281,7 +290,7 @@ impl<S, U> AsyncFilter<S, U> {
     where
         U: AsyncPredicate<R>,
         requires { U.sound self.old.predicate }
-        ensures asked { U.asked self.old.predicate request result self.new.predicate }
+        ensures checked { U.checked self.old.predicate request result self.new.predicate }
         ensures fresh { U.Future.can_poll result }
         ensures sound { U.sound self.new.predicate }
         ensures same { self.new.inner ≡ self.old.inner }

@@ -1,6 +1,6 @@
 //! Middleware that refuses a call if the inner service isn't ready: the Rust's `tower::load_shed`.
 ghost use Rattle.std.specs.Prelude.{◌≡◌, true, false, Result};
-ghost use Rattle.tower_ware.specs.LoadShed.{Called, IsClone, IsReady, LoadShedView, Polled, new_of};
+ghost use Rattle.tower_ware.specs.LoadShed.{Called, IsClone, IsReady, LoadShedView, Polled, initial};
 ghost use Rattle.tower_ware.specs.declared.load_shed.error.Error.{Error as ShedError};
 ghost use Rattle.tower_ware.specs.LoadShedReady.{ready_after};
 ghost use Rattle.tower_base.specs.ServiceRun.{relations};
@@ -41,7 +41,7 @@ impl<S> LoadShed<S> {
     /// Creates a `LoadShed`. The inner service counts as not ready until a poll of its readiness returns
     /// `Ok`.
     pub fn new(inner: S) -> LoadShed<S>
-        ensures { result ≡ new_of inner }
+        ensures { result ≡ initial inner }
     {
         LoadShed {
             inner,
@@ -92,7 +92,8 @@ impl<S: Service<Request>, Request: Drop> Service<Request> for LoadShed<S> {
 
 /// States that the inner service gets some of the calls, in their order: those that aren't shed.
 pub fn projection<Request: Drop, S: Service<Request>>()
-    ensures { Projects (relations ⟦<LoadShed<S> as Service<Request>>⟧) (relations S.Service) (λ l. l.inner) AtMostOnce }
+    ensures { Projects (relations ⟦<LoadShed<S> as Service<Request>>⟧) (relations S.Service)
+        (λ l. l.inner) AtMostOnce }
 {}
 
 /// A `LoadShed` contains what its inner service contains.
@@ -106,7 +107,8 @@ where
 
     ghost goes = { Through AtMostOnce S.goes };
 
-    ghost projects = { composed _ _ _ (λ l. l.inner) S.inside AtMostOnce S.goes (load_shed_projects _) S.projects };
+    ghost projects = { composed _ _ _ (λ l. l.inner)
+        S.inside AtMostOnce S.goes (load_shed_projects _) S.projects };
 }
 
 // It isn't known whether the clone of the inner service is ready.
@@ -123,8 +125,11 @@ impl<S: Clone> Clone for LoadShed<S> {
 /// States that a `LoadShed` may be called at any time: when it is new, when it is a clone, after each
 /// poll of readiness, whatever that returns, and after each call.
 pub fn law<S: Service<Request> + Clone, Request: Drop>()
-    ensures new { (inner : S) → IsReady S.Service (new_of inner) }
-    ensures clone { (old clone : LoadShedView S) → IsClone S.is_clone old clone → IsReady S.Service clone }
-    ensures polled { (old : LoadShedView S) (answer : Poll (Result (Unit {0}) (ShedError S.Error))) (new : LoadShedView S) → Polled S.Service old answer new → IsReady S.Service new }
-    ensures called { (old : LoadShedView S) (request : Request) (future : _) (new : LoadShedView S) → Called S.Service old request future new → IsReady S.Service new }
+    ensures new { (inner : S) → IsReady S.Service (initial inner) }
+    ensures clone { (old clone : LoadShedView S) → IsClone S.is_clone old clone
+        → IsReady S.Service clone }
+    ensures polled { (old : LoadShedView S) (answer : Poll (Result (Unit {0}) (ShedError S.Error)))
+        (new : LoadShedView S) → Polled S.Service old answer new → IsReady S.Service new }
+    ensures called { (old : LoadShedView S) (request : Request) (future : _) (new : LoadShedView S)
+        → Called S.Service old request future new → IsReady S.Service new }
 {}

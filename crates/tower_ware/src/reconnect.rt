@@ -2,8 +2,8 @@
 ghost use Rattle.std.specs.Prelude.{◌≡◌, ℕ, Some, None, IfSome};
 ghost use Rattle.futures.specs.Task.{Hears, IsArmed, Keeps};
 ghost use Rattle.futures.specs.Poll.{OnPending};
-ghost use Rattle.tower_base.specs.LastPass.{AnsweredOrWoken};
-ghost use Rattle.tower_ware.specs.Reconnect.{Called, IsReady, Needs, Pass, Polled, Sound, view_of};
+ghost use Rattle.tower_base.specs.LastIteration.{AnsweredOrWoken};
+ghost use Rattle.tower_ware.specs.Reconnect.{Called, IsReady, Needs, Iteration, Polled, Sound, view_of};
 ghost use Rattle.tower_ware.specs.ReconnectReady.{polled_ok};
 ghost use Rattle.tower_ware.specs.Projections.{Continues};
 ghost use Rattle.tower_base.specs.ServiceRun.{Takes, relations};
@@ -27,7 +27,7 @@ use tower_base::service::{Service, Steps};
 /// If a connect fails, the poll returns `Ok`, and the next call returns the error of the connect; the error
 /// of a later failed connect replaces it. If the maker's readiness fails, the poll returns the error as
 /// `Make` and begins no connect. If cloning the target fails, the poll returns `Memory`, and the next poll
-/// tries again. A poll makes at most 64 passes; then it is pending and has woken its own task.
+/// tries again. A poll makes at most 64 iterations; then it is pending and has woken its own task.
 #[derive(Drop)]
 // (A `Model` over the bound couldn't be used at a closure's type, so clauses say `view_of`.)
 pub struct Reconnect<M: Service<Target>, Target> {
@@ -40,7 +40,8 @@ pub struct Reconnect<M: Service<Target>, Target> {
 impl<M: Service<Target>, Target> Reconnect<M, Target> {
     /// Creates a `Reconnect` that connects at its first poll.
     pub fn new(maker: M, target: Target) -> Reconnect<M, Target>
-        ensures { view_of result ≡ record { maker = maker; state = Idle; target = target; error = None } }
+        ensures { view_of result
+            ≡ record { maker = maker; state = Idle; target = target; error = None } }
     {
         Reconnect {
             maker,
@@ -52,7 +53,8 @@ impl<M: Service<Target>, Target> Reconnect<M, Target> {
 
     /// Creates a `Reconnect` that begins with the given connection.
     pub fn with_connection(service: M::Response, maker: M, target: Target) -> Reconnect<M, Target>
-        ensures { view_of result ≡ record { maker = maker; state = Connected service; target = target; error = None } }
+        ensures { view_of result
+            ≡ record { maker = maker; state = Connected service; target = target; error = None } }
     {
         Reconnect {
             maker,
@@ -80,21 +82,27 @@ where
 
     ghost ready = { λ r. IsReady S.Service (view_of r) };
 
-    ghost polled = { λ old answer new. Polled M.Service M.Future.Steps.own S.Service Target.Clone (view_of old) answer (view_of new) };
+    ghost polled = { λ old answer new. Polled M.Service M.Future.Steps.own S.Service Target.Clone
+        (view_of old) answer (view_of new) };
 
     ghost needs = { λ r. Needs M.needs M.Future.needs S.needs (view_of r) };
 
-    ghost called = { λ old request future new. Called S.Service (view_of old) request future (view_of new) };
+    ghost called = { λ old request future new. Called S.Service (view_of old)
+        request future (view_of new) };
 
     ghost readies = { λ old new p. polled_ok S.readies (view_of old) (view_of new) p };
 
     fn poll_ready(&mut self, cx: &mut Context<'_>) -> Poll<Result<(), Self::Error>>
         requires { Sound M.Service M.Future.Steps.own M.Future.can_poll S.sound (view_of self.old) }
-        ensures polled { Polled M.Service M.Future.Steps.own S.Service Target.Clone (view_of self.old) result (view_of self.new) }
-        ensures sound { Sound M.Service M.Future.Steps.own M.Future.can_poll S.sound (view_of self.new) }
-        ensures woken { AnsweredOrWoken (Pass M.Service M.Future.Steps.own S.Service Target.Clone) (view_of self.old) result (view_of self.new) cx.new.is_woken }
+        ensures polled { Polled M.Service M.Future.Steps.own S.Service Target.Clone
+            (view_of self.old) result (view_of self.new) }
+        ensures sound { Sound M.Service M.Future.Steps.own M.Future.can_poll S.sound
+            (view_of self.new) }
+        ensures woken { AnsweredOrWoken (Iteration M.Service M.Future.Steps.own S.Service
+            Target.Clone) (view_of self.old) result (view_of self.new) cx.new.is_woken }
         ensures armed { OnPending result (IsArmed cx.new) }
-        ensures heard { OnPending result ((s : ℕ) → Needs M.needs M.Future.needs S.needs (view_of self.new) s → Hears cx.new s) }
+        ensures heard { OnPending result
+            ((s : ℕ) → Needs M.needs M.Future.needs S.needs (view_of self.new) s → Hears cx.new s) }
         ensures kept { Keeps cx.old cx.new }
     {
         for _pass in 0..TURNS {
@@ -127,13 +135,15 @@ where
     S: Service<Request>,
     Request: Drop,
     Target: Clone + Drop,
-    ensures { (old : _) (action : _) (new : _) → Takes (relations ⟦<Reconnect<M, Target> as Service<Request>>⟧) old action new
-        → Continues S.Service M.Future.Steps.own (ByAction AtMostOnce action) (view_of old).state (view_of new).state }
+    ensures { (old : _) (action : _) (new : _)
+        → Takes (relations ⟦<Reconnect<M, Target> as Service<Request>>⟧) old action new
+        → Continues S.Service M.Future.Steps.own (ByAction AtMostOnce action) (view_of old).state
+        (view_of new).state }
 {}
 
 type Answer<E, M> = Poll<Result<(), Error<E, M>>>;
 
-// Makes one pass. Returns the answer of the poll, or `None` if another pass follows.
+// Makes one iteration. Returns the answer of the poll, or `None` if another iteration follows.
 fn pass<Request, M, S, Target>(
     reconnect: &mut Reconnect<M, Target>,
     cx: &mut Context<'_>,
@@ -142,11 +152,15 @@ where
     M: Service<Target, Response = S>,
     S: Service<Request>,
     Target: Clone + Drop,
-    requires { Sound M.Service M.Future.Steps.own M.Future.can_poll S.sound (view_of reconnect.old) }
-    ensures pass { Pass M.Service M.Future.Steps.own S.Service Target.Clone (view_of reconnect.old) result (view_of reconnect.new) }
-    ensures sound { Sound M.Service M.Future.Steps.own M.Future.can_poll S.sound (view_of reconnect.new) }
+    requires { Sound M.Service M.Future.Steps.own M.Future.can_poll S.sound
+        (view_of reconnect.old) }
+    ensures pass { Iteration M.Service M.Future.Steps.own S.Service Target.Clone
+        (view_of reconnect.old) result (view_of reconnect.new) }
+    ensures sound { Sound M.Service M.Future.Steps.own M.Future.can_poll S.sound
+        (view_of reconnect.new) }
     ensures armed { IfSome result (λ answer. OnPending answer (IsArmed cx.new)) }
-    ensures heard { IfSome result (λ answer. OnPending answer ((s : ℕ) → Needs M.needs M.Future.needs S.needs (view_of reconnect.new) s → Hears cx.new s)) }
+    ensures heard { IfSome result (λ answer. OnPending answer ((s : ℕ)
+        → Needs M.needs M.Future.needs S.needs (view_of reconnect.new) s → Hears cx.new s)) }
     ensures kept { Keeps cx.old cx.new }
 {
     match &mut reconnect.state {

@@ -49,8 +49,10 @@ impl<S: Service<Req>, F: Picker<S, Req>, Req> Steer<S, F, Req> {
     /// fails.
     pub fn new(alloc: Global, services: Vec<S>, picker: F) -> Result<Steer<S, F, Req>, AllocError>
         requires { 0 < length services.items }
-        ensures parts { IfOk result (λ m. (m.picker ≡ picker) × (m.services ≡ services.items) × (m.listed ≡ upto (length services.items))) }
-        ensures sound { F.sound picker → All S.sound services.items → IfOk result (Sound F.sound S.sound S.ready) }
+        ensures parts { IfOk result (λ m. (m.picker ≡ picker) × (m.services ≡ services.items)
+            × (m.listed ≡ upto (length services.items))) }
+        ensures sound { F.sound picker → All S.sound services.items
+            → IfOk result (Sound F.sound S.sound S.ready) }
     {
         let listed = all_indexes(alloc, services.len())?;
         Ok(Steer {
@@ -104,7 +106,8 @@ impl<S: Service<Req>, F: Picker<S, Req>, Req> Service<Req> for Steer<S, F, Req> 
 
 /// States for each of the services that each call makes at most one call of it, with the same request.
 pub fn projection<S: Service<Req>, F: Picker<S, Req>, Req>()
-    ensures { (index : _) (other : S) → Projects (relations ⟦<Steer<S, F, Req> as Service<Req>>⟧) (relations S.Service) (service_at index other) AtMostOnce }
+    ensures { (index : _) (other : S) → Projects (relations ⟦<Steer<S, F, Req> as Service<Req>>⟧)
+        (relations S.Service) (service_at index other) AtMostOnce }
 {}
 
 impl<S: Clone, F: Clone, Req> Clone for Steer<S, F, Req> {
@@ -125,7 +128,8 @@ impl<S: Clone, F: Clone, Req> Clone for Steer<S, F, Req> {
 
 // Returns all indexes below `count`, in a list that has room for `count` indexes.
 fn all_indexes(alloc: Global, count: usize) -> Result<VecDeque<usize>, AllocError>
-    ensures { IfOk result (λ listed. (listed.items ≡ upto count) × (count ≤ deque_capacity listed)) }
+    ensures { IfOk result
+        (λ listed. (listed.items ≡ upto count) × (count ≤ deque_capacity listed)) }
 {
     let mut listed = VecDeque::with_capacity(alloc, count)?;
     for index in 0..count {

@@ -67,7 +67,8 @@ impl<Request, S: Service<Request>, C: Clock> Service<Request> for Timeout<S, C> 
 
     ghost called = { Called S.Service C.Clock };
 
-    ghost readies = { λ old new p. S.readies old.inner new.inner (let e = answered_ok Inner p.inner tt p.answers in Prim.rw e at p.polled) };
+    ghost readies = { λ old new p. S.readies old.inner new.inner
+        (let e = answered_ok Inner p.inner tt p.answers in Prim.rw e at p.polled) };
 
     fn poll_ready(&mut self, cx: &mut Context<'_>) -> Poll<Result<(), Self::Error>> {
         match self.inner.poll_ready(cx) {
@@ -87,7 +88,8 @@ impl<Request, S: Service<Request>, C: Clock> Service<Request> for Timeout<S, C> 
 
 /// States that each call makes exactly one call of the inner service, with the same request.
 pub fn projection<Request, S: Service<Request>, C: Clock>()
-    ensures { Projects (relations ⟦<Timeout<S, C> as Service<Request>>⟧) (relations S.Service) (λ t. t.inner) Once }
+    ensures { Projects (relations ⟦<Timeout<S, C> as Service<Request>>⟧) (relations S.Service)
+        (λ t. t.inner) Once }
 {}
 
 /// A `Timeout` contains what its inner service contains.
@@ -101,7 +103,8 @@ where
 
     ghost goes = { S.goes };
 
-    ghost projects = { composed_once _ _ _ (λ t. t.inner) S.inside S.goes (timeout_projects _ _) S.projects };
+    ghost projects = { composed_once _ _ _ (λ t. t.inner) S.inside S.goes (timeout_projects _ _)
+        S.projects };
 }
 
 /// A clone shares the clock.

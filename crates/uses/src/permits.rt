@@ -1,7 +1,7 @@
 //! Permits of one semaphore, gathered from its shares: never more than it has; those of the responses of a
 //! program that waits; and those inside the responses of a whole stack.
 ghost use Rattle.std.specs.Prelude.{◌≡◌, ◌≤◌, IfOk};
-ghost use Rattle.tower_limit.specs.Concurrency.{idle};
+ghost use Rattle.tower_limit.specs.Concurrency.{initial};
 ghost use Rattle.uses.specs.Permits.{RanWithPermits};
 
 use crate::server::Server;
@@ -71,7 +71,7 @@ where
     L: Latch<LineCore>,
     R: Wait + RandomSource + AllocGlobal,
     F: FnMut(Result<S::Response, Error<S::Error>>) + Drop,
-    requires new { limit.old ≡ idle limit.old.inner limit.old.asking.semaphore }
+    requires new { limit.old ≡ initial limit.old.inner limit.old.asking.semaphore }
     requires sound { S.sound limit.old.inner }
     requires callable { F.IsAlwaysCallable each }
     ensures { IfOk result (λ _. RanWithPermits L.Latch ⟦<ConcurrencyLimit<S, L> as Service<u32>>⟧ requests.items limit.old limit.new) }

@@ -4,7 +4,7 @@ ghost use Rattle.std.specs.Prelude.{IfOk};
 ghost use Rattle.tower_base.specs.Projection.{AtMostOnce, MappedOrNone, Once, Through};
 ghost use Rattle.tower_base.specs.ServiceRun.{made};
 ghost use Rattle.tower.specs.WaitRuns.{WithinRate};
-ghost use Rattle.tower_limit.specs.Rate.{StandsFor, opening};
+ghost use Rattle.tower_limit.specs.Rate.{StandsFor, initial};
 ghost use Rattle.tower_limit.specs.RateRun.{KeepsRate};
 ghost use Rattle.tower_ware.specs.Projections.{LetsThrough};
 
@@ -76,7 +76,7 @@ where
     requires server { S.sound stack.old.inner.inner.inner.inner }
     requires predicate { U.sound stack.old.inner.predicate }
     requires callable { F.IsAlwaysCallable each }
-    requires new { StandsFor stack.old.inner.inner.inner.core (opening 20 1000000000) }
+    requires new { StandsFor stack.old.inner.inner.inner.core (initial 20 1000000000) }
     ensures { IfOk result (λ _. WithinRate 20 1000000000 S.Service C.Clock (Through AtMostOnce (Through (MappedOrNone (LetsThrough U.Predicate)) Once))
         stack.old.inner.inner.inner requests.items) }
 {

@@ -25,7 +25,8 @@ pub trait ServiceExt<Request>: Service<Request> {
     final fn ready(&mut self) -> Ready<'_, Self, Request>
     where
         Self: Sized,
-        ensures { IsSomeAnd result.service (λ lent. (lent.now ≡ self.old) × (lent.ghost_name ≡ self.entry.ghost_name)) }
+        ensures { IsSomeAnd result.service
+            (λ lent. (lent.now ≡ self.old) × (lent.ghost_name ≡ self.entry.ghost_name)) }
     {
         Ready::new(self)
     }
@@ -200,7 +201,8 @@ pub trait BlockOnExt<Request> {
         Request: Drop,
         requires { Self.sound self.old }
         ensures sound { Self.sound self.new }
-        ensures answered { IfOk result (λ answer. Answered Self.Service Self.Future.stepped self.old request answer self.new) }
+        ensures answered { IfOk result
+            (λ answer. Answered Self.Service Self.Future.stepped self.old request answer self.new) }
     {
         util::block_on_call(self, rt, request)
     }
@@ -222,7 +224,8 @@ pub trait BlockOnExt<Request> {
         requires sound { Self.sound self.old }
         requires callable { F.IsAlwaysCallable each }
         ensures sound { Self.sound self.new }
-        ensures told { IfOk result (λ _. (last : F) × Each Self.Service Self.Future.stepped F.step requests.items self.old each self.new last) }
+        ensures told { IfOk result (λ _. (last : F) × Each Self.Service Self.Future.stepped F.step
+            requests.items self.old each self.new last) }
     {
         util::block_on_each(self, rt, requests, each)
     }

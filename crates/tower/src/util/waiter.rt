@@ -86,7 +86,8 @@ impl Waiter {
         Request: Drop,
         requires { S.sound service.old }
         ensures sound { S.sound service.new }
-        ensures answered { IfOk result (λ answer. Answered S.Service S.Future.stepped service.old request answer service.new) }
+        ensures answered { IfOk result
+            (λ answer. Answered S.Service S.Future.stepped service.old request answer service.new) }
     {
         let (cx, ready) = self.until_ready(rt, service)?;
         match ready {
@@ -117,7 +118,8 @@ impl Waiter {
         requires sound { S.sound service.old }
         requires callable { F.IsAlwaysCallable each }
         ensures sound { S.sound service.new }
-        ensures told { IfOk result (λ _. (last : F) × Each S.Service S.Future.stepped F.step requests.items service.old each service.new last) }
+        ensures told { IfOk result (λ _. (last : F) × Each S.Service S.Future.stepped F.step
+            requests.items service.old each service.new last) }
     {
         for request in requests {
             each(self.block_on_call(rt, service, request)?);

@@ -44,7 +44,8 @@ where
     Request: Drop,
     requires { S.sound service.old }
     ensures sound { S.sound service.new }
-    ensures answered { IfOk result (λ answer. Answered S.Service S.Future.stepped service.old request answer service.new) }
+    ensures answered { IfOk result
+        (λ answer. Answered S.Service S.Future.stepped service.old request answer service.new) }
 {
     Waiter::new(rt)?.block_on_call(rt, service, request)
 }
@@ -66,7 +67,8 @@ where
     requires sound { S.sound service.old }
     requires callable { F.IsAlwaysCallable each }
     ensures sound { S.sound service.new }
-    ensures told { IfOk result (λ _. (last : F) × Each S.Service S.Future.stepped F.step requests.items service.old each service.new last) }
+    ensures told { IfOk result (λ _. (last : F)
+        × Each S.Service S.Future.stepped F.step requests.items service.old each service.new last) }
 {
     Waiter::new(rt)?.block_on_each(rt, service, requests, each)
 }

@@ -12,7 +12,7 @@ use std::mem;
 
 /// The place of an entry: between two others in the order, or outside the order.
 #[derive(Clone, Copy, Debug)]
-pub enum Place {
+pub enum LinkState {
     Linked(Option<usize>, Option<usize>),
     Outside,
 }
@@ -21,7 +21,7 @@ pub enum Place {
 #[derive(Drop)]
 pub struct Entry<T> {
     pub value: T,
-    pub place: Place,
+    pub place: LinkState,
 }
 
 /// The entries. They are reached only through these calls.
@@ -56,7 +56,8 @@ impl<T> Cells<T> {
         ensures succeeds { HasRoomFor self.old.slab additional → IsOk result }
         ensures had_room { HasRoomFor self.old.slab additional → self.new.slab ≡ self.old.slab }
         ensures capacity { self.old.slab.capacity ≤ self.new.slab.capacity }
-        ensures rest_kept { self.new.slab ≡ record self.old.slab { capacity = self.new.slab.capacity } }
+        ensures rest_kept { self.new.slab
+            ≡ record self.old.slab { capacity = self.new.slab.capacity } }
         ensures touches { self.new.touches.count ≡ self.old.touches.count }
     {
         self.slab.reserve(additional)
@@ -70,7 +71,7 @@ impl<T> Cells<T> {
         self.slab.capacity()
     }
 
-    pub fn insert(&mut self, value: T, place: Place) -> usize
+    pub fn insert(&mut self, value: T, place: LinkState) -> usize
         requires { HasRoomFor self.old.slab 1 }
         ensures key { result ≡ self.old.slab.vacant_key }
         ensures was_vacant { get self.old.slab result ≡ None }
@@ -85,7 +86,7 @@ impl<T> Cells<T> {
     }
 
     /// Returns the place of the entry, if there is one.
-    pub fn place(&mut self, key: usize) -> Option<Place>
+    pub fn place(&mut self, key: usize) -> Option<LinkState>
         ensures place { result ≡ place_at self.old.slab key }
         ensures same { self.new.slab ≡ self.old.slab }
         ensures touches { self.new.touches.count ≡ self.old.touches.count + 1 }
@@ -110,7 +111,7 @@ impl<T> Cells<T> {
     }
 
     /// Returns the place of the entry, if there is one. Counts no touch.
-    pub fn peek_place(&self, key: usize) -> Option<Place>
+    pub fn peek_place(&self, key: usize) -> Option<LinkState>
         ensures { result ≡ place_at self.now.slab key }
     {
         match self.slab.get(key) {
@@ -133,7 +134,8 @@ impl<T> Cells<T> {
     pub fn replace(&mut self, key: usize, value: T) -> T
         requires { ContainsKey self.old.slab key }
         ensures value { (old : Entry T) → get self.old.slab key ≡ Some old → result ≡ old.value }
-        ensures slab { (old : Entry T) → get self.old.slab key ≡ Some old → self.new.slab ≡ with_value self.old.slab key (entry value old.place) }
+        ensures slab { (old : Entry T) → get self.old.slab key ≡ Some old
+            → self.new.slab ≡ with_value self.old.slab key (entry value old.place) }
         ensures touches { self.new.touches.count ≡ self.old.touches.count + 1 }
     {
         self.touches.tick();
@@ -144,7 +146,7 @@ impl<T> Cells<T> {
     }
 
     /// Moves the entry to another place, and returns its old place.
-    pub fn put(&mut self, key: usize, place: Place) -> Option<Place>
+    pub fn put(&mut self, key: usize, place: LinkState) -> Option<LinkState>
         ensures place { result ≡ place_at self.old.slab key }
         ensures slab { self.new.slab ≡ with_place self.old.slab key (λ _. place) }
         ensures touches { self.new.touches.count ≡ self.old.touches.count + 1 }
@@ -164,8 +166,8 @@ impl<T> Cells<T> {
         self.touches.tick();
         if let Some(entry) = self.slab.get_mut(key) {
             entry.place = match entry.place {
-                Place::Linked(previous, _) => Place::Linked(previous, next),
-                Place::Outside => Place::Outside,
+                LinkState::Linked(previous, _) => LinkState::Linked(previous, next),
+                LinkState::Outside => LinkState::Outside,
             };
         }
     }
@@ -178,8 +180,8 @@ impl<T> Cells<T> {
         self.touches.tick();
         if let Some(entry) = self.slab.get_mut(key) {
             entry.place = match entry.place {
-                Place::Linked(_, next) => Place::Linked(previous, next),
-                Place::Outside => Place::Outside,
+                LinkState::Linked(_, next) => LinkState::Linked(previous, next),
+                LinkState::Outside => LinkState::Outside,
             };
         }
     }

@@ -21,13 +21,16 @@ where
     L: Service<Passed>,
     W: Contains<Request, Passed, L>,
     O: FnMut(T) -> U,
-    ensures { DrivesProject W.Service W.Future.stepped O.step (relations L.Service) W.inside W.goes }
+    ensures { DrivesProject W.Service W.Future.stepped O.step (relations L.Service)
+        W.inside W.goes }
 {}
 
 /// Projections compose: a service inside of the service inside is itself inside.
 pub fn compose<Request, S: Service<Request>, M: Service<Request>, I: Service<Request>>()
-    ensures { (outside : S → M) (inside : M → I) → Projects (relations S.Service) (relations M.Service) outside Once
-        → Projects (relations M.Service) (relations I.Service) inside Once → Projects (relations S.Service) (relations I.Service) (λ s. inside (outside s)) Once }
+    ensures { (outside : S → M) (inside : M → I)
+        → Projects (relations S.Service) (relations M.Service) outside Once
+        → Projects (relations M.Service) (relations I.Service) inside Once
+        → Projects (relations S.Service) (relations I.Service) (λ s. inside (outside s)) Once }
 {}
 
 /// If each request is passed inside once, the inner requests are the outer ones, in their order.

@@ -44,7 +44,8 @@ impl<C: Clock> Future for Sleep<C> {
 
     #[tactic(auto, using(crate::specs::GivesLemmas::one_step))]
     fn poll(&mut self, cx: &mut Context<'_>) -> Poll<()>
-        ensures { IsStep (Stepped C.Clock) (λ _. ⊤) (λ s. C.hears s.clock) self.old result self.new cx.old cx.new }
+        ensures { IsStep (Stepped C.Clock) (λ _. ⊤) (λ s. C.hears s.clock)
+            self.old result self.new cx.old cx.new }
     {
         self.step(cx)
     }
@@ -61,7 +62,8 @@ impl<C: Clock> Steps for Sleep<C> {
         ensures step { Stepped C.Clock self.old result self.new }
         ensures again { OnPending result ⊤ }
         ensures registered { OnPending result (Covers cx.new (C.hears self.new.clock)) }
-        ensures timed { OnPending result ((cx.new.is_woken ≡ true) ⊎ C.wakes_by self.new.clock self.new.deadline cx.new) }
+        ensures timed { OnPending result
+            ((cx.new.is_woken ≡ true) ⊎ C.wakes_by self.new.clock self.new.deadline cx.new) }
         ensures kept { Keeps cx.old cx.new }
     {
         let moment = self.clock.now();

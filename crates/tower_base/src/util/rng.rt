@@ -23,7 +23,8 @@ pub trait Rng: Drop {
     /// Returns a number in the range, made from one word by taking the remainder of a division.
     fn next_range(&mut self, range: Range<u64>) -> u64
         requires { range.start < range.end }
-        ensures { (word : ℕ) × drew self.old word self.new × (result ≡ word % (range.end - range.start) + range.start) }
+        ensures { (word : ℕ) × drew self.old word self.new
+            × (result ≡ word % (range.end - range.start) + range.start) }
     {
         let word = self.next_u64();
         word % (range.end - range.start) + range.start

@@ -4,14 +4,14 @@ ghost use Rattle.futures.specs.Poll.{OnPending};
 ghost use Rattle.futures.specs.Task.{Covers, Keeps};
 ghost use Rattle.tower_base.specs.Gives.{IsStep, MayGive};
 ghost use Rattle.tower_buffer.specs.Buffer.{CanPoll, Carries, Forgets, Needs, Stepped};
-ghost use Rattle.tower_buffer.specs.declared.buffer.seat.ResponseState.{ResponseState};
-ghost use Rattle.tower_buffer.specs.declared.buffer.seat.ResponseState.TheVariants.{Told, Sent as IsSent};
+ghost use Rattle.tower_buffer.specs.declared.buffer.reservation.ResponseState.{ResponseState};
+ghost use Rattle.tower_buffer.specs.declared.buffer.reservation.ResponseState.TheVariants.{Told, Sent as IsSent};
 ghost use Rattle.tower_buffer.specs.declared.buffer.error.Error.{Error as BufferError};
 
 use crate::buffer::error::{Error, ServiceError};
 use crate::buffer::mail::{MailReply, MailStep};
 use crate::buffer::mail_core::{Mail, waited};
-use crate::buffer::seat::ResponseState;
+use crate::buffer::reservation::ResponseState;
 use futures::future::Future;
 use futures::task::{Context, Poll};
 use std::marker::{Model, PhantomData};
@@ -90,7 +90,8 @@ where
     #[tactic(auto, using(tower_base::specs::GivesLemmas::one_step))]
     fn poll(&mut self, cx: &mut Context<'_>) -> Poll<Self::Output>
         requires { CanPoll F.can_poll self.old }
-        ensures { IsStep (Stepped L.gave F.stepped) (CanPoll F.can_poll) (Needs L.source F.needs) self.old result self.new cx.old cx.new }
+        ensures { IsStep (Stepped L.gave F.stepped) (CanPoll F.can_poll) (Needs L.source F.needs)
+            self.old result self.new cx.old cx.new }
     {
         self.step(cx)
     }

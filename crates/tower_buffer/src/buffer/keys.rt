@@ -50,7 +50,8 @@ pub(crate) fn one(key: usize) -> Wakes
 pub(crate) fn named(wakes: Wakes) -> Wakes
     ensures named { (key : ℕ) → IsNamed wakes key → IsNamed result (ticket_key key) }
     ensures waits { (key : ℕ) → result ≡ Wakes.Wait key → ⊥ }
-    ensures one { (key : ℕ) → result ≡ Wakes.One key → (at : ℕ) × (wakes ≡ Wakes.One at) × (ticket_key at ≢ 2 ^ 64 - 1) × (ticket_key at ≡ key) }
+    ensures one { (key : ℕ) → result ≡ Wakes.One key
+        → (at : ℕ) × (wakes ≡ Wakes.One at) × (ticket_key at ≢ 2 ^ 64 - 1) × (ticket_key at ≡ key) }
 {
     match wakes {
         Wakes::One(key) => one(ticket(key as u64)),

@@ -1,6 +1,6 @@
 //! The layer that puts a `Buffer` before a service.
 ghost use Rattle.std.specs.Prelude.{◌≡◌, ◌<◌, IfOk};
-ghost use Rattle.tower_buffer.specs.Making.{BufferLayerView, ClonesLayer, Tries, Wraps, idle};
+ghost use Rattle.tower_buffer.specs.Making.{BufferLayerView, ClonesLayer, Tries, Wraps, initial_worker};
 
 use crate::buffer::mail_core::{Mail, MailCore};
 use crate::buffer::service::Buffer;
@@ -83,9 +83,11 @@ where
 {
     type Service = Buffer<Request, F, E, L>;
 
-    ghost can_layer = { λ l service. (latch : _) → X.can_spawn l.executor (idle latch service) };
+    ghost can_layer = { λ l service. (latch : _)
+        → X.can_spawn l.executor (initial_worker latch service) };
 
-    ghost made = { λ l service buffer. Wraps L.shares X.spawned l.executor service buffer × (L.terms buffer.latch ≡ l.bound) };
+    ghost made = { λ l service buffer. Wraps L.shares X.spawned l.executor service buffer
+        × (L.terms buffer.latch ≡ l.bound) };
 
     fn layer(&self, service: S) -> Result<Self::Service, AllocError> {
         let core = MailCore::new(self.alloc, self.bound);

@@ -60,7 +60,7 @@ impl<Request: Drop, F: Drop, E: Clone> Drop for MailCore<Request, F, E> {
 }
 
 impl<Request, F, E: Clone> MailCore<Request, F, E> {
-    ghost use Rattle.tower_buffer.specs.Mail.{blank};
+    ghost use Rattle.tower_buffer.specs.Mail.{initial};
     ghost use Rattle.tower_buffer.specs.Mailbox.{StandsFor};
 
     /// Creates mail of `bound` places, for one `Buffer` and its worker. Requires a bound that isn't 0,
@@ -68,7 +68,7 @@ impl<Request, F, E: Clone> MailCore<Request, F, E> {
     pub fn new(alloc: Global, bound: usize) -> MailCore<Request, F, E>
         requires positive { 0 < bound }
         requires same { (x y : E) → E.is_clone x y → y ≡ x }
-        ensures { StandsFor result (blank bound) }
+        ensures { StandsFor result (initial bound) }
     {
         MailCore {
             mail: Mailbox::new(alloc, bound),
@@ -124,8 +124,10 @@ impl<Request: Drop, F: Drop, E: Clone> Core for MailCore<Request, F, E> {
         ensures waits { is_waiting result.0 ≡ true → result.1 ≡ Wakes.Wait (key_of step result.0) }
         ensures names { NamesAll stalls self.old self.new result.1 }
         ensures one { OneGoesOn stalls self.new result.1 }
-        ensures told { (key : ℕ) → Asks step key → stalls self.old key → is_waiting result.0 ≡ true }
-        ensures excused { step ≡ MailStep.Reserve → result.0 ≡ MailReply.Memory → self.old.closed ≡ false → ¬ (HasRoom self.old) }
+        ensures told { (key : ℕ) → Asks step key → stalls self.old key
+            → is_waiting result.0 ≡ true }
+        ensures excused { step ≡ MailStep.Reserve → result.0 ≡ MailReply.Memory
+            → self.old.closed ≡ false → ¬ (HasRoom self.old) }
         ensures touches { Few self.old step self.new }
     {
         match step {
@@ -180,7 +182,8 @@ impl<Request: Drop, F: Drop, E: Clone> Core for MailCore<Request, F, E> {
 // Where the response of this message waits, if the reply is that it has no outcome yet.
 fn pending<Request, F, E>(reply: &MailReply<Request, F, E>, id: u64) -> Wakes
     ensures pending { is_waiting reply.now ≡ true → result ≡ Wakes.Wait (response_key id) }
-    ensures waits { (key : ℕ) → result ≡ Wakes.Wait key → (is_waiting reply.now ≡ true) × (response_key id ≡ key) }
+    ensures waits { (key : ℕ) → result ≡ Wakes.Wait key
+        → (is_waiting reply.now ≡ true) × (response_key id ≡ key) }
     ensures one { (key : ℕ) → result ≡ Wakes.One key → ⊥ }
 {
     match reply {
@@ -193,7 +196,8 @@ fn pending<Request, F, E>(reply: &MailReply<Request, F, E>, id: u64) -> Wakes
 fn decided<Request, F, E>(reply: &MailReply<Request, F, E>, id: u64) -> Wakes
     ensures named { reply.now ≡ MailReply.Done → IsNamed result (response_key id) }
     ensures waits { (key : ℕ) → result ≡ Wakes.Wait key → ⊥ }
-    ensures one { (key : ℕ) → result ≡ Wakes.One key → (reply.now ≡ MailReply.Done) × (response_key id ≢ 2 ^ 64 - 1) × (response_key id ≡ key) }
+    ensures one { (key : ℕ) → result ≡ Wakes.One key
+        → (reply.now ≡ MailReply.Done) × (response_key id ≢ 2 ^ 64 - 1) × (response_key id ≡ key) }
 {
     match reply {
         MailReply::Done => one(response(id)),

@@ -13,7 +13,7 @@ use crate::buffer::mail::{MailReply, MailStep};
 use crate::buffer::messages::Messages;
 use std::alloc::{AllocError, Global};
 use tower_latch::Wakes;
-use tower_latch::wait_queue::{Turn, WaitQueue};
+use tower_latch::wait_queue::{WaitQueue, WaitState};
 
 /// The reserved places, the queue of those who wait for places, and the messages that still have their
 /// ids, which are their keys.
@@ -41,11 +41,11 @@ impl<Request, F, E> Mailbox<Request, F, E> {
     ghost use Rattle.tower_buffer.specs.Mail.{is_waiting};
     ghost use Rattle.tower_buffer.specs.MailKeys.{key_of};
     ghost use Rattle.tower_buffer.specs.MailWakes.{NamesPlaces, Stalls, Waiter, WaitsWell, is_over, stalls};
-    ghost use Rattle.tower_buffer.specs.Mail.{blank};
+    ghost use Rattle.tower_buffer.specs.Mail.{initial};
     ghost use Rattle.tower_buffer.specs.Mailbox.{Follows, StandsFor, touches};
 
     pub(crate) fn new(alloc: Global, bound: usize) -> Mailbox<Request, F, E>
-        ensures { StandsFor result (blank bound) }
+        ensures { StandsFor result (initial bound) }
     {
         Mailbox {
             alloc,
@@ -93,7 +93,8 @@ impl<Request, F, E> Mailbox<Request, F, E> {
 
     // Returns whether no further message will be queued.
     fn is_over(&self) -> bool
-        ensures { result ≡ (nat_eq self.now.reserved 0 && (self.now.closed || nat_eq self.now.buffers 0)) }
+        ensures { result
+            ≡ (nat_eq self.now.reserved 0 && (self.now.closed || nat_eq self.now.buffers 0)) }
     {
         self.reserved == 0 && (self.closed || self.buffers == 0)
     }
@@ -146,7 +147,8 @@ impl<Request, F, E> Mailbox<Request, F, E> {
 
     // Returns how many places are free.
     fn free(&self) -> usize
-        ensures { result + (self.now.reserved + queued self.now.messages + granted self.now.queue) ≡ self.now.bound }
+        ensures { result + (self.now.reserved + queued self.now.messages + granted self.now.queue)
+            ≡ self.now.bound }
     {
         self.bound - (self.reserved + self.messages.queued() + self.queue.granted())
     }
@@ -187,13 +189,16 @@ impl<Request, F, E> Mailbox<Request, F, E> {
     // Adds a waiter, since no place is free. There is room for its message.
     fn queue_up(&mut self) -> (MailReply<Request, F, E>, Wakes)
         requires closed { self.old.closed ≡ false }
-        requires full { self.old.bound ≤ self.old.reserved + queued self.old.messages + granted self.old.queue }
-        requires room { len self.old.messages + self.old.reserved + size self.old.queue < capacity self.old.messages }
+        requires full { self.old.bound
+            ≤ self.old.reserved + queued self.old.messages + granted self.old.queue }
+        requires room { len self.old.messages + self.old.reserved + size self.old.queue
+            < capacity self.old.messages }
         ensures follows { Follows self.old MailStep.Reserve result.0 self.new }
         ensures names { NamesPlaces self.old self.new result.1 }
         ensures pending { WaitsWell self.new result.1 }
         ensures one { OneGoesOn stalls self.new result.1 }
-        ensures waits { is_waiting result.0 ≡ true → result.1 ≡ Wakes.Wait (key_of MailStep.Reserve result.0) }
+        ensures waits { is_waiting result.0 ≡ true
+            → result.1 ≡ Wakes.Wait (key_of MailStep.Reserve result.0) }
         ensures excused { result.0 ≡ MailReply.Memory → room self.old.queue ≤ size self.old.queue }
         ensures touches { touches self.new ≤ touches self.old + 6 }
     {
@@ -218,8 +223,10 @@ impl<Request: Drop, F, E: Clone> Mailbox<Request, F, E> {
         ensures names { NamesPlaces self.old self.new result.1 }
         ensures pending { WaitsWell self.new result.1 }
         ensures one { OneGoesOn stalls self.new result.1 }
-        ensures waits { is_waiting result.0 ≡ true → result.1 ≡ Wakes.Wait (key_of MailStep.Reserve result.0) }
-        ensures excused { result.0 ≡ MailReply.Memory → self.old.closed ≡ false → ¬ (HasRoom self.old) }
+        ensures waits { is_waiting result.0 ≡ true
+            → result.1 ≡ Wakes.Wait (key_of MailStep.Reserve result.0) }
+        ensures excused { result.0 ≡ MailReply.Memory → self.old.closed ≡ false
+            → ¬ (HasRoom self.old) }
         ensures touches { touches self.new ≤ touches self.old + 6 }
     {
         if self.closed {
@@ -247,7 +254,8 @@ impl<Request: Drop, F, E: Clone> Mailbox<Request, F, E> {
         ensures names { NamesPlaces self.old self.new result.1 }
         ensures pending { WaitsWell self.new result.1 }
         ensures one { OneGoesOn stalls self.new result.1 }
-        ensures waits { is_waiting result.0 ≡ true → result.1 ≡ Wakes.Wait (key_of (MailStep.Look key) result.0) }
+        ensures waits { is_waiting result.0 ≡ true
+            → result.1 ≡ Wakes.Wait (key_of (MailStep.Look key) result.0) }
         ensures told { Stalls self.old (Waiter.ticket key) → is_waiting result.0 ≡ true }
         ensures touches { touches self.new ≤ touches self.old + 6 }
     {
@@ -255,12 +263,12 @@ impl<Request: Drop, F, E: Clone> Mailbox<Request, F, E> {
             return (self.messages.shut(), Wakes::Nobody);
         }
         match self.queue.look(key) {
-            Turn::Granted => {
+            WaitState::Granted => {
                 self.reserved += 1;
                 (MailReply::Place, Wakes::Nobody)
             }
-            Turn::Waiting => (MailReply::Waiting(key), Wakes::Wait(ticket(key))),
-            Turn::Unknown => (MailReply::Unknown, Wakes::Nobody),
+            WaitState::Waiting => (MailReply::Waiting(key), Wakes::Wait(ticket(key))),
+            WaitState::Unknown => (MailReply::Unknown, Wakes::Nobody),
         }
     }
 
@@ -318,7 +326,8 @@ impl<Request: Drop, F: Drop, E: Drop> Mailbox<Request, F, E> {
         ensures names { NamesPlaces self.old self.new result.1 }
         ensures pending { WaitsWell self.new result.1 }
         ensures one { OneGoesOn stalls self.new result.1 }
-        ensures waits { is_waiting result.0 ≡ true → result.1 ≡ Wakes.Wait (key_of MailStep.Take result.0) }
+        ensures waits { is_waiting result.0 ≡ true
+            → result.1 ≡ Wakes.Wait (key_of MailStep.Take result.0) }
         ensures told { Stalls self.old Waiter.worker → is_waiting result.0 ≡ true }
         ensures few { FewEach self.old self.new }
     {
@@ -344,7 +353,8 @@ impl<Request: Drop, F: Drop, E: Drop> Mailbox<Request, F, E> {
     // Removes the oldest queued message, which nobody waits for.
     fn clear_first(&mut self, id: usize) -> Wakes
         requires oldest { first_or self.old.messages.links.order None ≡ Some id }
-        requires cancelled { (message : Message Request F) → get self.old.messages.links.entries id ≡ Some message → message.fate ≡ Fate.Cancelled }
+        requires cancelled { (message : Message Request F) → get self.old.messages.links.entries id
+            ≡ Some message → message.fate ≡ Fate.Cancelled }
         ensures clears { Changes ClearsOldest self.old self.new }
         ensures same { (is_over self.new ≡ is_over self.old) × (self.new.closed ≡ self.old.closed) }
         ensures tickets { NamesTickets self.old self.new result }
@@ -361,8 +371,10 @@ impl<Request: Drop, F: Drop, E: Drop> Mailbox<Request, F, E> {
     // Takes the oldest queued message, which somebody waits for.
     fn take_first(&mut self, id: usize) -> (MailReply<Request, F, E>, Wakes)
         requires oldest { first_or self.old.messages.links.order None ≡ Some id }
-        requires open { (message : Message Request F) → get self.old.messages.links.entries id ≡ Some message → message.fate ≡ Fate.Open }
-        ensures takes { (request : Request) × (result.0 ≡ MailReply.Message id request) × Changes (λ old new. TakesOldest old id request new) self.old self.new }
+        requires open { (message : Message Request F)
+            → get self.old.messages.links.entries id ≡ Some message → message.fate ≡ Fate.Open }
+        ensures takes { (request : Request) × (result.0 ≡ MailReply.Message id request)
+            × Changes (λ old new. TakesOldest old id request new) self.old self.new }
         ensures tickets { NamesTickets self.old self.new result.1 }
         ensures one { TicketGoesOn self.new.queue result.1 }
         ensures stalls { StallsOn queue_stalls self.new.queue self.old.queue }

@@ -1,6 +1,6 @@
 //! How a `Buffer` and its worker are created.
 ghost use Rattle.std.specs.Prelude.{◌≡◌, ◌<◌, ◌↔◌, IfErr, IfOk, IsTrue, Err};
-ghost use Rattle.tower_buffer.specs.Making.{Begins, HandsOver, Paired, PairedOver, idle};
+ghost use Rattle.tower_buffer.specs.Making.{Begins, HandsOver, Paired, PairedOver, initial_worker};
 
 use crate::buffer::error::Error;
 use crate::buffer::mail_core::{Mail, MailCore};
@@ -37,7 +37,7 @@ impl<Request: Drop, F: Steps + Drop, E: Clone, L: Latch<Mail<Request, F, E>>> Bu
     where
         S: Service<Request, Error = E, Future = F>,
         X: Executor<Worker<S, Request, F, E, L>>,
-        requires can_spawn { (share : _) → X.can_spawn executor.now (idle share service) }
+        requires can_spawn { (share : _) → X.can_spawn executor.now (initial_worker share service) }
         ensures begins { Begins L.shares X.spawned executor.now service result }
         ensures latch { IfOk result (λ buffer. buffer.latch ≡ latch) }
     {
@@ -80,8 +80,12 @@ impl<Request: Drop, F: Steps + Drop, E: Clone, R: Wait + Copy> Buffer<
         S: Service<Request, Error = E, Future = F>,
         requires positive { 0 < bound }
         requires same { (x y : E) → E.is_clone x y → y ≡ x }
-        ensures pair { IfOk result (λ made. Paired ⟦<Guarded<Mail<Request, F, E>, R> as Latch<Mail<Request, F, E>>>⟧.shares service made.0 made.1) }
-        ensures bound { IfOk result (λ made. ⟦<Guarded<Mail<Request, F, E>, R> as Latch<Mail<Request, F, E>>>⟧.terms made.0.latch ≡ bound) }
+        ensures pair { IfOk result
+            (λ made. Paired ⟦<Guarded<Mail<Request, F, E>, R> as Latch<Mail<Request, F, E>>>⟧.shares
+            service made.0 made.1) }
+        ensures bound { IfOk result
+            (λ made. ⟦<Guarded<Mail<Request, F, E>, R> as Latch<Mail<Request, F, E>>>⟧.terms
+            made.0.latch ≡ bound) }
     {
         let latch = Guarded::new(rt, alloc, MailCore::new(alloc, bound))?;
         Buffer::with_latch(latch, service)
@@ -102,9 +106,13 @@ impl<Request: Drop, F: Steps + Drop, E: Clone, R: Wait + Copy> Buffer<
         X: Executor<Worker<S, Request, F, E, Guarded<Mail<Request, F, E>, R>>>,
         requires positive { 0 < bound }
         requires same { (x y : E) → E.is_clone x y → y ≡ x }
-        requires can_spawn { (latch : _) → X.can_spawn executor.now (idle latch service) }
-        ensures begins { Begins ⟦<Guarded<Mail<Request, F, E>, R> as Latch<Mail<Request, F, E>>>⟧.shares X.spawned executor.now service result }
-        ensures bound { IfOk result (λ buffer. ⟦<Guarded<Mail<Request, F, E>, R> as Latch<Mail<Request, F, E>>>⟧.terms buffer.latch ≡ bound) }
+        requires can_spawn { (latch : _) → X.can_spawn executor.now (initial_worker latch service) }
+        ensures begins { Begins
+            ⟦<Guarded<Mail<Request, F, E>, R> as Latch<Mail<Request, F, E>>>⟧.shares X.spawned
+            executor.now service result }
+        ensures bound { IfOk result
+            (λ buffer. ⟦<Guarded<Mail<Request, F, E>, R> as Latch<Mail<Request, F, E>>>⟧.terms
+            buffer.latch ≡ bound) }
     {
         let Ok(latch) = Guarded::new(rt, alloc, MailCore::new(alloc, bound)) else {
             return Err(Error::Memory);

@@ -25,7 +25,8 @@ pub(crate) struct Messages<Request, F, E> {
     stored: Option<E>,
     ghost differ: { are_apart links.order ≡ true },
     ghost linked: { (id : ℕ) → has links.order id ≡ is_queued (get links.entries id) },
-    ghost sent: { (id : ℕ) (message : Message Request F) → get links.entries id ≡ Some message → Fits stored message },
+    ghost sent: { (id : ℕ) (message : Message Request F) → get links.entries id ≡ Some message
+        → Fits stored message },
 }
 
 impl<Request, F, E> Messages<Request, F, E> {
@@ -69,7 +70,8 @@ impl<Request, F, E> Messages<Request, F, E> {
         ensures succeeds { len self.old + additional ≤ capacity self.old → IsOk result }
         ensures capacity { capacity self.old ≤ capacity self.new }
         ensures follows { Becomes self.old (λ old new. new ≡ old) self.new }
-        ensures same { (queued self.new ≡ queued self.old) × (len self.new ≡ len self.old) × (self.new.stored ≡ self.old.stored) }
+        ensures same { (queued self.new ≡ queued self.old) × (len self.new ≡ len self.old)
+            × (self.new.stored ≡ self.old.stored) }
         ensures touches { touches self.new ≡ touches self.old }
     {
         self.links.reserve(additional)
@@ -93,8 +95,10 @@ impl<Request, F, E> Messages<Request, F, E> {
 
     /// Returns whether this message has no outcome yet, and somebody waits for it. Counts no touch.
     pub(crate) fn is_open(&self, id: u64) -> bool
-        ensures open { result ≡ true → (message : Message Request F) × (get self.now.links.entries id ≡ Some message) × (message.fate ≡ Fate.Open) }
-        ensures exact { (message : Message Request F) → get self.now.links.entries id ≡ Some message → message.fate ≡ Fate.Open → result ≡ true }
+        ensures open { result ≡ true → (message : Message Request F)
+            × (get self.now.links.entries id ≡ Some message) × (message.fate ≡ Fate.Open) }
+        ensures exact { (message : Message Request F) → get self.now.links.entries id ≡ Some message
+            → message.fate ≡ Fate.Open → result ≡ true }
     {
         match self.links.peek(id as usize) {
             Some(message) => matches!(message.fate, Fate::Open),
@@ -104,7 +108,8 @@ impl<Request, F, E> Messages<Request, F, E> {
 
     /// Returns whether nobody waits for this message.
     pub(crate) fn is_cancelled(&mut self, id: usize) -> bool
-        ensures cancelled { (message : Message Request F) → get self.old.links.entries id ≡ Some message → result ≡ is_cancelled message.fate }
+        ensures cancelled { (message : Message Request F)
+            → get self.old.links.entries id ≡ Some message → result ≡ is_cancelled message.fate }
         ensures order { self.new.links.order ≡ self.old.links.order }
         ensures entries { self.new.links.entries ≡ self.old.links.entries }
         ensures stored { self.new.stored ≡ self.old.stored }
@@ -137,7 +142,8 @@ impl<Request: Drop, F: Drop, E: Drop> Messages<Request, F, E> {
     /// Removes the oldest queued message, which nobody waits for.
     pub(crate) fn clear(&mut self, id: usize)
         requires oldest { first_or self.old.links.order None ≡ Some id }
-        requires cancelled { (message : Message Request F) → get self.old.links.entries id ≡ Some message → message.fate ≡ Fate.Cancelled }
+        requires cancelled { (message : Message Request F)
+            → get self.old.links.entries id ≡ Some message → message.fate ≡ Fate.Cancelled }
         ensures follows { Becomes self.old Clears self.new }
         ensures queued { queued self.old ≡ queued self.new + 1 }
         ensures room { (len self.old ≡ len self.new + 1) × (capacity self.new ≡ capacity self.old) }
@@ -150,7 +156,8 @@ impl<Request: Drop, F: Drop, E: Drop> Messages<Request, F, E> {
     /// Takes the oldest queued message, which somebody waits for, out of the queue, and returns its request.
     pub(crate) fn open(&mut self, id: usize) -> Request
         requires oldest { first_or self.old.links.order None ≡ Some id }
-        requires open { (message : Message Request F) → get self.old.links.entries id ≡ Some message → message.fate ≡ Fate.Open }
+        requires open { (message : Message Request F) → get self.old.links.entries id ≡ Some message
+            → message.fate ≡ Fate.Open }
         ensures follows { Becomes self.old (λ old new. Opens old id result new) self.new }
         ensures queued { queued self.old ≡ queued self.new + 1 }
         ensures room { (len self.new ≡ len self.old) × (capacity self.new ≡ capacity self.old) }
@@ -234,8 +241,11 @@ impl<Request: Drop, F: Drop, E: Drop> Messages<Request, F, E> {
     /// Returns whether the worker holds this message unsettled. If so, it stores the first error for
     /// good, and the message fails, or is removed if nobody waits for it.
     pub(crate) fn fail(&mut self, id: u64, error: E) -> bool
-        ensures unknown { result ≡ false → Becomes self.old (λ old new. NoneWith IsTaken old id × (new ≡ old)) self.new × (self.new.stored ≡ self.old.stored) }
-        ensures fails { result ≡ true → Becomes self.old (λ old new. Settles Fate.Failed old id new) self.new × (self.new.stored ≡ Some (unwrap_or self.old.stored error)) }
+        ensures unknown { result ≡ false
+            → Becomes self.old (λ old new. NoneWith IsTaken old id × (new ≡ old)) self.new
+            × (self.new.stored ≡ self.old.stored) }
+        ensures fails { result ≡ true → Becomes self.old (λ old new. Settles Fate.Failed old id new)
+            self.new × (self.new.stored ≡ Some (unwrap_or self.old.stored error)) }
         ensures queued { queued self.new ≡ queued self.old }
         ensures room { (len self.new ≤ len self.old) × (capacity self.new ≡ capacity self.old) }
         ensures touches { touches self.new ≤ 4 + touches self.old }
@@ -270,7 +280,8 @@ impl<Request: Drop, F: Drop, E: Clone> Messages<Request, F, E> {
     pub(crate) fn outcome(&mut self, id: u64) -> MailReply<Request, F, E>
         requires { (x y : E) → E.is_clone x y → y ≡ x }
         ensures follows { Follows self.old (MailStep.Outcome id) result self.new }
-        ensures told { (message : Message Request F) → get self.old.links.entries id ≡ Some message → message.fate ≡ Fate.Open → is_waiting result ≡ true }
+        ensures told { (message : Message Request F) → get self.old.links.entries id ≡ Some message
+            → message.fate ≡ Fate.Open → is_waiting result ≡ true }
         ensures rest { KeepsRest self.old self.new }
         ensures touches { touches self.new ≤ touches self.old + 6 }
     {
@@ -288,7 +299,8 @@ impl<Request: Drop, F: Drop, E: Clone> Messages<Request, F, E> {
     // Returns the stored error. If allocation of its clone fails, the message stays.
     fn tell_failure(&mut self, id: u64) -> MailReply<Request, F, E>
         requires same { (x y : E) → E.is_clone x y → y ≡ x }
-        requires failed { (message : Message Request F) × (get self.old.links.entries id ≡ Some message) × (message.fate ≡ Fate.Failed) }
+        requires failed { (message : Message Request F)
+            × (get self.old.links.entries id ≡ Some message) × (message.fate ≡ Fate.Failed) }
         ensures follows { Follows self.old (MailStep.Outcome id) result self.new }
         ensures rest { KeepsRest self.old self.new }
         ensures touches { touches self.new ≤ touches self.old + 5 }
@@ -304,7 +316,8 @@ impl<Request: Drop, F: Drop, E: Clone> Messages<Request, F, E> {
 
     // Returns the future of a message that was answered, or that the message was lost.
     fn hand_out(&mut self, id: u64) -> MailReply<Request, F, E>
-        requires ended { (message : Message Request F) × (get self.old.links.entries id ≡ Some message) × Ended message.fate }
+        requires ended { (message : Message Request F)
+            × (get self.old.links.entries id ≡ Some message) × Ended message.fate }
         ensures follows { Follows self.old (MailStep.Outcome id) result self.new }
         ensures rest { KeepsRest self.old self.new }
         ensures touches { touches self.new ≤ touches self.old + 5 }
@@ -367,7 +380,8 @@ fn settle<Request: Drop, F: Drop>(links: &mut Linked<Request, F>, id: usize, fat
 // nobody waits for it.
 fn fail_taken<Request: Drop, F: Drop>(links: &mut Linked<Request, F>, id: usize) -> bool
     ensures unknown { result ≡ false → taken_at (get links.old.entries id) ≡ None }
-    ensures kept { result ≡ false → (links.new.order ≡ links.old.order) × (links.new.entries ≡ links.old.entries) }
+    ensures kept { result ≡ false
+        → (links.new.order ≡ links.old.order) × (links.new.entries ≡ links.old.entries) }
     ensures fails { result ≡ true → FailsTaken links.old id links.new }
     ensures len { slab_len links.new.entries ≤ slab_len links.old.entries }
     ensures capacity { links.new.entries.capacity ≡ links.old.entries.capacity }
@@ -386,7 +400,8 @@ fn fail_taken<Request: Drop, F: Drop>(links: &mut Linked<Request, F>, id: usize)
 
 fn lose_at<Request: Drop, F: Drop>(links: &mut Linked<Request, F>, id: usize)
     ensures order { links.new.order ≡ without links.old.order id }
-    ensures entries { Updates links.old.entries links.new.entries id (lost (get links.old.entries id)) }
+    ensures entries { Updates links.old.entries links.new.entries id
+        (lost (get links.old.entries id)) }
     ensures len { slab_len links.new.entries ≤ slab_len links.old.entries }
     ensures capacity { links.new.entries.capacity ≡ links.old.entries.capacity }
 {

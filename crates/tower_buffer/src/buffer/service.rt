@@ -2,13 +2,13 @@
 ghost use Rattle.std.specs.Prelude.{◌≡◌, Some, None, IfErr, IsSome, MatchResult};
 ghost use Rattle.tower_buffer.specs.Buffer.{BufferView, Called, CloneRefused, GivesUp, IsClone, Polled};
 ghost use Rattle.tower_buffer.specs.BufferReady.{ready_after};
-ghost use Rattle.tower_buffer.specs.declared.buffer.seat.Seat.TheVariants.{Away, Reserved};
+ghost use Rattle.tower_buffer.specs.declared.buffer.reservation.Reservation.TheVariants.{Away, Reserved};
 
 use crate::buffer::error::{Error, ServiceError};
 use crate::buffer::future::ResponseFuture;
 use crate::buffer::mail::{MailReply, MailStep};
 use crate::buffer::mail_core::{Mail, waited};
-use crate::buffer::seat::{ResponseState, Seat};
+use crate::buffer::reservation::{Reservation, ResponseState};
 use futures::task::{Context, Poll};
 use std::alloc::AllocError;
 use std::marker::{Model, PhantomData};
@@ -24,7 +24,7 @@ use tower_latch::Latch;
 /// cancels its wait.
 pub struct Buffer<Request: Drop, F: Steps + Drop, E: Clone, L: Latch<Mail<Request, F, E>>> {
     latch: L,
-    seat: Seat,
+    reservation: Reservation,
     share: Option<L>,
     of: PhantomData<(Request, F, E)>,
 }
@@ -33,32 +33,32 @@ impl<Request: Drop, F: Steps + Drop, E: Clone, L: Latch<Mail<Request, F, E>>> Mo
     for Buffer<Request, F, E, L> {
     ghost Value = { BufferView L };
 
-    ghost view = { λ b. record { latch = b.latch; seat = b.seat; share = b.share } };
+    ghost view = { λ b. record { latch = b.latch; reservation = b.reservation; share = b.share } };
 
     // If a place is reserved, the response's share is there.
-    ghost invariant = { λ b. b.seat ≡ Reserved → IsSome b.share };
+    ghost invariant = { λ b. b.reservation ≡ Reserved → IsSome b.share };
 }
 
 /// Dropping a `Buffer` gives its place back or cancels its wait, and counts one `Buffer` less.
 impl<Request: Drop, F: Steps + Drop, E: Clone, L: Latch<Mail<Request, F, E>>> Drop
     for Buffer<Request, F, E, L> {
     fn drop(self)
-        ensures gives_up { GivesUp L.gave self.latch self.seat }
+        ensures gives_up { GivesUp L.gave self.latch self.reservation }
         ensures part { (reply : _) × L.gave self.latch MailStep.Part reply }
     {
-        match self.seat {
-            Seat::Away => {}
-            Seat::Asking(key) => {
+        match self.reservation {
+            Reservation::Away => {}
+            Reservation::Asking(key) => {
                 self.latch.step(MailStep::Cancel(key));
             }
-            Seat::Reserved => {
+            Reservation::Reserved => {
                 self.latch.step(MailStep::Unreserve);
             }
         }
         self.latch.step(MailStep::Part);
         let Buffer {
             latch: _,
-            seat: _,
+            reservation: _,
             share: _,
             of: _,
         } = self;
@@ -79,7 +79,7 @@ where
 
     type Future = ResponseFuture<Request, F, E, L>;
 
-    ghost ready = { λ b. b.seat ≡ Reserved };
+    ghost ready = { λ b. b.reservation ≡ Reserved };
 
     ghost polled = { Polled L.gave L.shares };
 
@@ -90,7 +90,7 @@ where
     ghost readies = { λ old new p. ready_after {Q = Request} {F = F} L.gave L.shares old new p };
 
     fn poll_ready(&mut self, cx: &mut Context<'_>) -> Poll<Result<(), Error<E>>> {
-        if let Seat::Reserved = self.seat {
+        if let Reservation::Reserved = self.reservation {
             return Poll::Ready(Ok(()));
         }
         if self.share.is_none() {
@@ -99,26 +99,26 @@ where
             };
             self.share = Some(share);
         }
-        let step = match self.seat {
-            Seat::Asking(key) => MailStep::Look(key),
+        let step = match self.reservation {
+            Reservation::Asking(key) => MailStep::Look(key),
             _ => MailStep::Reserve,
         };
         match waited(&self.latch, step, cx) {
             MailReply::Place => {
-                self.seat = Seat::Reserved;
+                self.reservation = Reservation::Reserved;
                 Poll::Ready(Ok(()))
             }
             MailReply::Waiting(key) => {
-                self.seat = Seat::Asking(key);
+                self.reservation = Reservation::Asking(key);
                 Poll::Pending
             }
             MailReply::Memory => Poll::Ready(Err(Error::Memory)),
             MailReply::Failed(error) => {
-                self.seat = Seat::Away;
+                self.reservation = Reservation::Away;
                 Poll::Ready(Err(Error::Service(ServiceError { error })))
             }
             MailReply::Closed => {
-                self.seat = Seat::Away;
+                self.reservation = Reservation::Away;
                 Poll::Ready(Err(Error::Closed))
             }
             MailReply::Unknown => cx.yield_now(),
@@ -129,15 +129,15 @@ where
     fn call(&mut self, request: Request) -> Self::Future {
         match self.latch.step(MailStep::Send(request)) {
             MailReply::Sent(id) => {
-                self.seat = Seat::Away;
+                self.reservation = Reservation::Away;
                 ResponseFuture::sent(self.share.take().unwrap(), id)
             }
             MailReply::Failed(error) => {
-                self.seat = Seat::Away;
+                self.reservation = Reservation::Away;
                 ResponseFuture::told(Error::Service(ServiceError { error }))
             }
             MailReply::Closed | MailReply::Unknown => {
-                self.seat = Seat::Away;
+                self.reservation = Reservation::Away;
                 ResponseFuture::told(Error::Closed)
             }
             MailReply::Memory => ResponseFuture::told(Error::Memory),
@@ -173,11 +173,11 @@ impl<Request: Drop, F: Steps + Drop, E: Clone, L: Latch<Mail<Request, F, E>>> Bu
 > {
     // Creates a `Buffer` that has no place and waits for none.
     pub(crate) fn away(latch: L) -> Self
-        ensures { result ≡ record { latch = latch; seat = Away; share = None } }
+        ensures { result ≡ record { latch = latch; reservation = Away; share = None } }
     {
         Buffer {
             latch,
-            seat: Seat::Away,
+            reservation: Reservation::Away,
             share: None,
             of: PhantomData,
         }

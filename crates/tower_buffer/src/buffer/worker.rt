@@ -4,9 +4,9 @@ ghost use Rattle.futures.specs.Poll.{OnPending};
 ghost use Rattle.futures.specs.Task.{Covers, Hears, IsArmed, Keeps};
 ghost use Rattle.futures.specs.declared.task.Poll.TheVariants.{Pending};
 ghost use Rattle.tower_base.specs.Gives.{IsStep, MayGive};
-ghost use Rattle.tower_base.specs.LastPass.{AnsweredOrWoken};
+ghost use Rattle.tower_base.specs.LastIteration.{AnsweredOrWoken};
 ghost use Rattle.tower_buffer.specs.WorkerOrder.{Orderly};
-ghost use Rattle.tower_buffer.specs.Worker.{HandsOn, Needs, Pass, Serves, Stepped, WorkerView};
+ghost use Rattle.tower_buffer.specs.Worker.{HandsOn, Needs, Iteration, Serves, Stepped, WorkerView};
 
 use crate::buffer::mail::{MailReply, MailStep};
 use crate::buffer::mail_core::{Mail, waited};
@@ -23,7 +23,7 @@ use tower_latch::held::Pollable;
 /// come.
 ///
 /// After a failure of the service each message that it takes gets that error. A poll makes at most
-/// `TURNS` passes; then it is pending and has woken its own task. If a worker is dropped, the messages
+/// `TURNS` iterations; then it is pending and has woken its own task. If a worker is dropped, the messages
 /// without an outcome are lost.
 pub struct Worker<
     S: Drop,
@@ -43,7 +43,12 @@ impl<S: Drop, Request: Drop, F: Steps + Drop, E: Clone, L: Latch<Mail<Request, F
     for Worker<S, Request, F, E, L> {
     ghost Value = { WorkerView L S Request };
 
-    ghost view = { λ w. record { latch = w.latch; service = w.service; message = w.message; has_failed = w.has_failed } };
+    ghost view = { λ w. record {
+      latch = w.latch;
+      service = w.service;
+      message = w.message;
+      has_failed = w.has_failed;
+    } };
 }
 
 /// Dropping a worker reports to the mail that it is gone, by one step at the latch.
@@ -73,7 +78,8 @@ where
 {
     // Creates a worker that has taken no message.
     pub(crate) fn idle(latch: L, service: S) -> Self
-        ensures { result ≡ record { latch = latch; service = service; message = None; has_failed = false } }
+        ensures { result
+            ≡ record { latch = latch; service = service; message = None; has_failed = false } }
     {
         Worker {
             latch,
@@ -84,13 +90,14 @@ where
         }
     }
 
-    // Makes one pass. Returns `None` if the next one follows.
+    // Makes one iteration. Returns `None` if the next one follows.
     fn pass(&mut self, cx: &mut Context<'_>) -> Option<Poll<()>>
         requires { S.sound self.old.service }
-        ensures pass { Pass L.gave S.Service self.old result self.new }
+        ensures pass { Iteration L.gave S.Service self.old result self.new }
         ensures sound { S.sound self.new.service }
         ensures armed { result ≡ Some Pending → IsArmed cx.new }
-        ensures heard { result ≡ Some Pending → (s : ℕ) → Needs L.source S.needs self.new s → Hears cx.new s }
+        ensures heard { result ≡ Some Pending → (s : ℕ) → Needs L.source S.needs self.new s
+            → Hears cx.new s }
         ensures kept { Keeps cx.old cx.new }
     {
         let Some((id, request)) = self.message.take() else {
@@ -103,14 +110,15 @@ where
         }
     }
 
-    // Makes one pass if no message is kept.
+    // Makes one iteration if no message is kept.
     fn take(&mut self, cx: &mut Context<'_>) -> Option<Poll<()>>
         requires sound { S.sound self.old.service }
         requires none { self.old.message ≡ None }
-        ensures pass { Pass L.gave S.Service self.old result self.new }
+        ensures pass { Iteration L.gave S.Service self.old result self.new }
         ensures sound { S.sound self.new.service }
         ensures armed { result ≡ Some Pending → IsArmed cx.new }
-        ensures heard { result ≡ Some Pending → (s : ℕ) → Needs L.source S.needs self.new s → Hears cx.new s }
+        ensures heard { result ≡ Some Pending → (s : ℕ) → Needs L.source S.needs self.new s
+            → Hears cx.new s }
         ensures kept { Keeps cx.old cx.new }
     {
         match waited(&self.latch, MailStep::Take, cx) {
@@ -135,7 +143,8 @@ where
         ensures serves { Serves L.gave S.Service self.old id request result self.new }
         ensures sound { S.sound self.new.service }
         ensures armed { result ≡ Some Pending → IsArmed cx.new }
-        ensures heard { result ≡ Some Pending → (s : ℕ) → Needs L.source S.needs self.new s → Hears cx.new s }
+        ensures heard { result ≡ Some Pending → (s : ℕ) → Needs L.source S.needs self.new s
+            → Hears cx.new s }
         ensures kept { Keeps cx.old cx.new }
     {
         match self.service.poll_ready(cx) {
@@ -166,14 +175,16 @@ where
         self.latch.step(MailStep::Answer(id, Pollable::new(future)));
     }
 
-    // Makes passes until one returns a result, at most `TURNS`.
+    // Makes iterations until one returns a result, at most `TURNS`.
     fn passes(&mut self, cx: &mut Context<'_>) -> Poll<()>
         requires { S.sound self.old.service }
         ensures passes { Stepped L.gave S.Service self.old result self.new }
-        ensures woken { AnsweredOrWoken (Pass L.gave S.Service) self.old result self.new cx.new.is_woken }
+        ensures woken { AnsweredOrWoken (Iteration L.gave S.Service)
+            self.old result self.new cx.new.is_woken }
         ensures sound { S.sound self.new.service }
         ensures armed { OnPending result (IsArmed cx.new) }
-        ensures heard { OnPending result ((s : ℕ) → Needs L.source S.needs self.new s → Hears cx.new s) }
+        ensures heard { OnPending result
+            ((s : ℕ) → Needs L.source S.needs self.new s → Hears cx.new s) }
         ensures kept { Keeps cx.old cx.new }
     {
         for _pass in 0..TURNS {
@@ -204,9 +215,11 @@ where
     #[tactic(auto, using(tower_base::specs::GivesLemmas::one_step))]
     fn poll(&mut self, cx: &mut Context<'_>) -> Poll<()>
         requires { S.sound self.old.service }
-        ensures step { IsStep (Stepped L.gave S.Service) (λ w. S.sound w.service) (Needs L.source S.needs) self.old result self.new cx.old cx.new }
+        ensures step { IsStep (Stepped L.gave S.Service) (λ w. S.sound w.service)
+            (Needs L.source S.needs) self.old result self.new cx.old cx.new }
         ensures orderly { Orderly L.gave self.old result self.new }
-        ensures woken { AnsweredOrWoken (Pass L.gave S.Service) self.old result self.new cx.new.is_woken }
+        ensures woken { AnsweredOrWoken (Iteration L.gave S.Service)
+            self.old result self.new cx.new.is_woken }
     {
         self.step(cx)
     }
@@ -231,7 +244,8 @@ where
     fn step(&mut self, cx: &mut Context<'_>) -> Poll<()>
         requires { S.sound self.old.service }
         ensures step { Stepped L.gave S.Service self.old result self.new }
-        ensures woken { AnsweredOrWoken (Pass L.gave S.Service) self.old result self.new cx.new.is_woken }
+        ensures woken { AnsweredOrWoken (Iteration L.gave S.Service)
+            self.old result self.new cx.new.is_woken }
         ensures again { OnPending result (S.sound self.new.service) }
         ensures registered { OnPending result (Covers cx.new (Needs L.source S.needs self.new)) }
         ensures kept { Keeps cx.old cx.new }

@@ -105,7 +105,8 @@ impl Crowd {
 
     // Returns the index of the task at this share. If it has none, adds a waiter for it.
     fn place(&mut self, share: u64, task: usize) -> Result<usize, AllocError>
-        ensures place { IfOk result (λ place. IsSomeAnd (slice_get self.new place) (λ w. (w.share ≡ share) × (w.task ≡ task))) }
+        ensures place { IfOk result (λ place. IsSomeAnd (slice_get self.new place)
+            (λ w. (w.share ≡ share) × (w.task ≡ task))) }
         ensures refused { OnErr result (self.new ≡ self.old) }
     {
         let is_its_own = |waiter: &Waiter| waiter.share == share && waiter.task == task;

@@ -18,11 +18,11 @@ pub struct Counts;
 
 impl<C: Core> TableRule<Kept<C>, View, C::Terms> for Counts {
     ghost use Rattle.std.specs.Prelude.{◌≡◌};
-    ghost use Rattle.tower_latch.specs.CoreTable.{Agree, fresh};
+    ghost use Rattle.tower_latch.specs.CoreTable.{Agree, initial};
 
     ghost holds = { λ terms. Agree (λ k. C.terms k.core ≡ terms) (λ k. C.out k.core) };
 
-    ghost first = { λ _. fresh };
+    ghost first = { λ _. initial };
 }
 
 /// A type that says which terms they are, for one call.
@@ -60,11 +60,11 @@ impl<C: Core> Play<Kept<C>, View> for Frees {
 pub struct Gathers;
 
 impl Join<View> for Gathers {
-    ghost use Rattle.tower_latch.specs.CoreTable.{with_those, fresh};
+    ghost use Rattle.tower_latch.specs.CoreTable.{with_those, initial};
 
     ghost both = { with_those };
 
-    ghost spent = { fresh };
+    ghost spent = { initial };
 }
 
 pub type CoreTable<C> = Table<Kept<C>, View, <C as Core>::Terms, Counts, Global>;

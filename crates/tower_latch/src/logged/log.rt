@@ -4,7 +4,7 @@ ghost use Rattle.crossbeam_utils.specs.Seq.{cell_view};
 ghost use Rattle.atomic_table.specs.Seated.{TableId};
 ghost use Rattle.tower_latch.specs.Tokens.{knower};
 
-use crate::logged::rule::{Cell, Token};
+use crate::logged::rule::{Cell, PassToken};
 use std::alloc::{AllocError, Global};
 use std::marker::{Brand, Model, PhantomData};
 use std::sync::ledger::Ledger;
@@ -33,7 +33,7 @@ impl<C> Log<C> for Brand {
 pub struct LogTable<S, R> {
     cell: Cell<S, R>,
     // Knows the history, which is still empty.
-    keeper: Token<S, R>,
+    keeper: PassToken<S, R>,
 }
 
 impl<S, R> Model for LogTable<S, R> {
@@ -41,7 +41,8 @@ impl<S, R> Model for LogTable<S, R> {
 
     ghost view = { λ t. t.cell.table.shared.table_id };
 
-    ghost invariant = { λ t. (t.keeper.table_id ≡ t.cell.table.shared.table_id) × (cell_view t.keeper ≡ knower []) };
+    ghost invariant = { λ t. (t.keeper.table_id ≡ t.cell.table.shared.table_id)
+        × (cell_view t.keeper ≡ knower []) };
 }
 
 impl<S, R> LogTable<S, R> {
@@ -51,7 +52,7 @@ impl<S, R> LogTable<S, R> {
         Ok(LogTable { cell, keeper })
     }
 
-    pub(crate) fn into_parts(self) -> (Cell<S, R>, Token<S, R>)
+    pub(crate) fn into_parts(self) -> (Cell<S, R>, PassToken<S, R>)
         ensures cell { result.0.table.shared.table_id ≡ self }
         ensures keeper { (result.1.table_id ≡ self) × (cell_view result.1 ≡ knower []) }
     {

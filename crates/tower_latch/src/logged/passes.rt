@@ -7,7 +7,7 @@ ghost use Rattle.tower_latch.specs.Tokens.{knower, claimer};
 
 use crate::Core;
 use crate::logged::log::Log;
-use crate::logged::rule::{Cell, Claims, Token};
+use crate::logged::rule::{Cell, Claims, PassToken};
 use crate::logged::tokens::{compare, gather, stamp};
 use std::alloc::{AllocError, Global};
 use std::marker::{Model, PhantomData};
@@ -25,7 +25,7 @@ pub struct Receipt<R> {
 #[derive(Drop)]
 pub struct Pass<C: Core, K: Log<C>> {
     receipts: Vec<(usize, C::Step, C::Reply)>,
-    token: Token<C::Step, C::Reply>,
+    token: PassToken<C::Step, C::Reply>,
     share: Share<K>,
     of: PhantomData<C>,
 }
@@ -35,7 +35,9 @@ impl<C: Core, K: Log<C>> Model for Pass<C, K> {
 
     ghost view = { λ p. p.receipts.items };
 
-    ghost invariant = { λ p. (p.share.parts ≡ 1) × (p.share.amount ≡ length p.receipts.items) × (p.token.table_id ≡ K.table) × (cell_view p.token ≡ claimer p.receipts.items) × Rises p.receipts.items };
+    ghost invariant = { λ p. (p.share.parts ≡ 1) × (p.share.amount ≡ length p.receipts.items)
+        × (p.token.table_id ≡ K.table) × (cell_view p.token ≡ claimer p.receipts.items)
+        × Rises p.receipts.items };
 }
 
 impl<C: Core, K: Log<C>> Pass<C, K> {
@@ -55,7 +57,7 @@ pub struct Held<C: Core, K: Log<C>> {
     history: Vec<(C::Step, C::Reply)>,
     book: Book<K>,
     rest: Share<K>,
-    keeper: Token<C::Step, C::Reply>,
+    keeper: PassToken<C::Step, C::Reply>,
 }
 
 impl<C: Core, K: Log<C>> Model for Held<C, K> {
@@ -63,7 +65,10 @@ impl<C: Core, K: Log<C>> Model for Held<C, K> {
 
     ghost view = { λ h. h.history.items };
 
-    ghost invariant = { λ h. LeadsTo C.opens C.steps K.opening h.history.items h.core × (h.book.total ≡ length h.history.items) × (h.keeper.table_id ≡ K.table) × (cell_view h.keeper ≡ knower h.history.items) × (h.rest.parts ≡ 0) × (h.rest.amount ≡ 0) };
+    ghost invariant = { λ h. LeadsTo C.opens C.steps K.opening h.history.items h.core
+        × (h.book.total ≡ length h.history.items) × (h.keeper.table_id ≡ K.table)
+        × (cell_view h.keeper ≡ knower h.history.items) × (h.rest.parts ≡ 0)
+        × (h.rest.amount ≡ 0) };
 }
 
 fn push_in_room<T: Drop>(items: &mut Vec<T>, item: T)
@@ -164,7 +169,7 @@ where
         alloc: Global,
         blank: Blank,
         cell: &Cell<C::Step, C::Reply>,
-        mut keeper: Token<C::Step, C::Reply>,
+        mut keeper: PassToken<C::Step, C::Reply>,
         core: C,
         count: usize,
     ) -> Result<(Held<C, K>, Vec<Pass<C, K>>), AllocError>
@@ -175,7 +180,8 @@ where
         requires opens { C.opens core }
         requires table { cell.now.table.shared.table_id ≡ K.table }
         requires keeper { (keeper.table_id ≡ K.table) × (cell_view keeper ≡ knower []) }
-        ensures { IfOk result (λ r. (r.0 ≡ []) × (vec_len r.1 ≡ count) × AllByRecursion (λ p. p ≡ []) r.1.items) }
+        ensures { IfOk result
+            (λ r. (r.0 ≡ []) × (vec_len r.1 ≡ count) × AllByRecursion (λ p. p ≡ []) r.1.items) }
     {
         let (book, mut rest) = blank.open::<K>();
         let mut passes = Vec::new(alloc);

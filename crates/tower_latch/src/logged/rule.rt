@@ -91,4 +91,4 @@ impl<S, R> Join<View<S, R>> for Gathers {
 pub type Cell<S, R> = RuledSeqCell<[u64; 1], View<S, R>, Journal, 1>;
 
 /// A token of the cell. It has no bytes.
-pub type Token<S, R> = Pass<[u64; 1], View<S, R>>;
+pub type PassToken<S, R> = Pass<[u64; 1], View<S, R>>;

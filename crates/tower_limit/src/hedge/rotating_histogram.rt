@@ -38,7 +38,8 @@ impl<R: Wait + Copy, C: Clock> RotatingHistogram<Guarded<HistoCore, R>, C> {
     pub fn new(rt: R, alloc: Global, period: u64, mut clock: C) -> Result<Self, AllocError>
         requires { period ≢ 0 }
         ensures clock { IfOk result (λ histogram. C.read clock histogram.clock) }
-        ensures period { IfOk result (λ histogram. ⟦<Guarded<HistoCore, R> as Latch<HistoCore>>⟧.terms histogram.latch ≡ period) }
+        ensures period { IfOk result (λ histogram.
+            ⟦<Guarded<HistoCore, R> as Latch<HistoCore>>⟧.terms histogram.latch ≡ period) }
     {
         let core = HistoCore::new(alloc, period, clock.now());
         let latch = Guarded::new(rt, alloc, core)?;

@@ -64,12 +64,17 @@ pub struct TrackCompletionFuture<F, C, H> {
 impl<F, C, H> Model for TrackCompletionFuture<F, C, H> {
     ghost Value = { TrackCompletionFutureView F C H };
 
-    ghost view = { λ f. record { future = f.future; completion = f.completion; handle = f.handle } };
+    ghost view = { λ f. record {
+      future = f.future;
+      completion = f.completion;
+      handle = f.handle;
+    } };
 }
 
 impl<F, C, H> TrackCompletionFuture<F, C, H> {
     pub fn new(completion: C, handle: H, future: F) -> TrackCompletionFuture<F, C, H>
-        ensures { result ≡ record { future = future; completion = completion; handle = Some handle } }
+        ensures { result
+            ≡ record { future = future; completion = completion; handle = Some handle } }
     {
         TrackCompletionFuture {
             future,
@@ -95,8 +100,11 @@ where
 
     #[tactic(auto, using(tower_base::specs::GivesLemmas::one_step))]
     fn poll(&mut self, cx: &mut Context<'_>) -> Poll<Self::Output>
-        requires { F.can_poll self.old.future × C.sound self.old.completion × IsSome self.old.handle }
-        ensures { IsStep (Stepped C.tracked F.Steps.own) (λ v. F.can_poll v.future × C.sound v.completion × IsSome v.handle) (λ v. F.needs v.future) self.old result self.new cx.old cx.new }
+        requires { F.can_poll self.old.future × C.sound self.old.completion
+            × IsSome self.old.handle }
+        ensures { IsStep (Stepped C.tracked F.Steps.own)
+            (λ v. F.can_poll v.future × C.sound v.completion × IsSome v.handle)
+            (λ v. F.needs v.future) self.old result self.new cx.old cx.new }
     {
         self.step(cx)
     }

@@ -75,7 +75,8 @@ impl<Request, S: Service<Request>, M: Copy> Service<Request> for Constant<S, M> 
 
 /// States that each call makes one call of the inner service, with the same request.
 pub fn projection<Request, S: Service<Request>, M: Copy>()
-    ensures { Projects (relations ⟦<Constant<S, M> as Service<Request>>⟧) (relations S.Service) (λ k. k.inner) Once }
+    ensures { Projects (relations ⟦<Constant<S, M> as Service<Request>>⟧) (relations S.Service)
+        (λ k. k.inner) Once }
 {}
 
 /// A `Constant` contains what its inner service contains.
@@ -89,7 +90,8 @@ where
 
     ghost goes = { S.goes };
 
-    ghost projects = { composed_once _ _ _ (λ k. k.inner) S.inside S.goes (constant_projects _) S.projects };
+    ghost projects = { composed_once _ _ _ (λ k. k.inner) S.inside S.goes (constant_projects _)
+        S.projects };
 }
 
 impl<D: Discover, M: Copy> Discover for Constant<D, M> {

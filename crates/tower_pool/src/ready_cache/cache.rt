@@ -9,8 +9,8 @@ ghost use Rattle.futures.specs.Task.{IsArmed, Keeps};
 ghost use Rattle.futures.specs.declared.task.Poll.TheVariants.{Ready};
 ghost use Rattle.indexmap.specs.IndexMap.{spare, swap_remove_entry};
 ghost use Rattle.tower_pool.specs.declared.ready_cache.error.Error.TheVariants.{Memory};
-ghost use Rattle.tower_pool.specs.ReadyCache.{awaited, cancel, place, waiting, Apart, MayRefuse, At, AtKey, Called, Checked, CheckedKey, HeardFrom, Sound};
-ghost use Rattle.tower_pool.specs.ReadyCachePoll.{AskedFirst, PendingPolled};
+ghost use Rattle.tower_pool.specs.ReadyCache.{is_pending, cancel, place, pending_entry, Apart, MayRefuse, At, AtKey, Called, Checked, CheckedKey, HeardFrom, Sound};
+ghost use Rattle.tower_pool.specs.ReadyCachePoll.{PolledFirst, PendingPolled};
 ghost use Rattle.tower_pool.specs.Pending.{Holds, cache_of};
 
 use crate::ready_cache::error::{Error, Failed};
@@ -45,9 +45,21 @@ impl<K: Eq + Hash + Clone, S, Req> Model for ReadyCache<K, S, Req> {
 
     ghost Value = { CountedView K S };
 
-    ghost view = { λ c. record { lists = record { ready = c.ready.entries; pending = c.pending.items }; room = record { endpoints = c.pending.room; keys = c.pending.spare; ready = spare c.ready }; touches = c.pending.touches } };
+    ghost view = { λ c. record {
+      lists = record {
+        ready = c.ready.entries;
+        pending = c.pending.items;
+      };
+      room = record {
+        endpoints = c.pending.room;
+        keys = c.pending.spare;
+        ready = spare c.ready;
+      };
+      touches = c.pending.touches;
+    } };
 
-    ghost invariant = { λ c. CacheInvariant K.eq K.is_clone c.ready.entries c.pending.items (knows K.eq c.pending) c.pending.room };
+    ghost invariant = { λ c. CacheInvariant K.eq K.is_clone c.ready.entries c.pending.items
+        (knows K.eq c.pending) c.pending.room };
 }
 
 impl<K: Eq + Hash + Clone + Drop, S: Service<Req>, Req> ReadyCache<K, S, Req> {
@@ -73,7 +85,8 @@ impl<K: Eq + Hash + Clone + Drop, S: Service<Req>, Req> ReadyCache<K, S, Req> {
 
     /// Returns whether there are no endpoints, not even cancelled ones.
     pub fn is_empty(&self) -> bool
-        ensures { IsTrue result ↔ (length self.now.lists.ready + length self.now.lists.pending ≡ 0) }
+        ensures { IsTrue result
+            ↔ (length self.now.lists.ready + length self.now.lists.pending ≡ 0) }
     {
         self.len() == 0
     }
@@ -96,7 +109,7 @@ impl<K: Eq + Hash + Clone + Drop, S: Service<Req>, Req> ReadyCache<K, S, Req> {
 
     /// Returns whether an endpoint of the key is pending and isn't cancelled.
     pub fn pending_contains(&self, key: &K) -> bool
-        ensures { result ≡ awaited K.eq key.now self.now.lists.pending }
+        ensures { result ≡ is_pending K.eq key.now self.now.lists.pending }
     {
         self.pending.awaited(key)
     }
@@ -104,7 +117,8 @@ impl<K: Eq + Hash + Clone + Drop, S: Service<Req>, Req> ReadyCache<K, S, Req> {
     /// Returns the key's ready endpoint: its index, the key that it stands under, and its service.
     pub fn get_ready(&self, key: &K) -> Option<(usize, &K, &S)>
         ensures index { option_map (λ p. p.0) result ≡ place K.eq key.now self.now.lists.ready }
-        ensures entry { IfSome result (λ p. slice_get self.now.lists.ready p.0 ≡ Some (p.1.now, p.2.now)) }
+        ensures entry { IfSome result
+            (λ p. slice_get self.now.lists.ready p.0 ≡ Some (p.1.now, p.2.now)) }
     {
         self.ready.get_full(key)
     }
@@ -127,12 +141,16 @@ impl<K: Eq + Hash + Clone + Drop, S: Service<Req>, Req> ReadyCache<K, S, Req> {
     /// ready endpoints become pending again. If that or the key's clone fails, returns the key and the
     /// service, and the cache is unchanged.
     pub fn push(&mut self, key: K, service: S) -> Result<(), (K, S)>
+        // The endpoint becomes the last pending one, in the place of an older one of its key.
         ensures ready { self.new.lists.ready ≡ self.old.lists.ready }
-        ensures pending { OnOk result (self.new.lists.pending ≡ cancel K.eq key self.old.lists.pending ++ waiting key service ∷ []) }
+        ensures pending { OnOk result (self.new.lists.pending
+            ≡ cancel K.eq key self.old.lists.pending ++ pending_entry key service ∷ []) }
+        // It fails only if room or a clone of the key is refused, and then the endpoints are as before.
         ensures same { OnErr result (self.new.lists ≡ self.old.lists) }
         ensures given_back { IfErr result (λ back. back ≡ (key, service)) }
         ensures excused { OnErr result (MayRefuse K.eq K.Clone self.old key) }
-        ensures sound { Sound S.sound self.old.lists → S.sound service → Sound S.sound self.new.lists }
+        ensures sound { Sound S.sound self.old.lists → S.sound service
+            → Sound S.sound self.new.lists }
         ensures touches { self.new.touches ≤ self.old.touches + 2 }
     {
         self.pending.push(key, service, self.ready.len() + 1)
@@ -141,8 +159,10 @@ impl<K: Eq + Hash + Clone + Drop, S: Service<Req>, Req> ReadyCache<K, S, Req> {
     /// Cancels the key's pending endpoint and removes its ready one, whose index the last ready one
     /// takes. Returns whether there was one of them.
     pub fn evict(&mut self, key: &K) -> bool
-        ensures found { result ≡ (awaited K.eq key.now self.old.lists.pending || is_some (lookup (K.eq key.now) self.old.lists.ready)) }
-        ensures ready { self.new.lists.ready ≡ swap_remove_entry (K.eq key.now) self.old.lists.ready }
+        ensures found { result ≡ (is_pending K.eq key.now self.old.lists.pending
+            || is_some (lookup (K.eq key.now) self.old.lists.ready)) }
+        ensures ready { self.new.lists.ready
+            ≡ swap_remove_entry (K.eq key.now) self.old.lists.ready }
         ensures pending { self.new.lists.pending ≡ cancel K.eq key.now self.old.lists.pending }
         ensures sound { Sound S.sound self.old.lists → Sound S.sound self.new.lists }
         ensures touches { self.new.touches ≡ self.old.touches }
@@ -163,12 +183,14 @@ impl<K: Eq + Hash + Clone + Drop, S: Service<Req>, Req> ReadyCache<K, S, Req> {
         requires sound { Sound S.sound (cache_of ready.old.entries pending.old) }
         requires some { 0 < length pending.old.items }
         ensures held { Holds K.eq K.is_clone ready.new.entries pending.new }
-        ensures asked { AskedFirst K.eq S.Service (cache_of ready.old.entries pending.old) result (cache_of ready.new.entries pending.new) }
+        ensures asked { PolledFirst K.eq S.Service (cache_of ready.old.entries pending.old)
+            result (cache_of ready.new.entries pending.new) }
         ensures sound { Sound S.sound (cache_of ready.new.entries pending.new) }
         ensures full { result ≡ Err Memory → spare ready.old ≡ 0 }
         ensures used { spare ready.old ≤ spare ready.new + 1 }
         ensures armed { result ≡ Ok true → IsArmed cx.new }
-        ensures heard { OnOk result ((n : ℕ) → HeardFrom S.needs cx.old (suc n) pending.old.items → HeardFrom S.needs cx.new n pending.new.items) }
+        ensures heard { OnOk result ((n : ℕ) → HeardFrom S.needs cx.old (suc n) pending.old.items
+            → HeardFrom S.needs cx.new n pending.new.items) }
         ensures kept { Keeps cx.old cx.new }
         ensures touches { pending.new.touches ≤ pending.old.touches + 5 }
     {
@@ -206,7 +228,8 @@ impl<K: Eq + Hash + Clone + Drop, S: Service<Req>, Req> ReadyCache<K, S, Req> {
         requires held { Holds K.eq K.is_clone ready.old.entries pending.old }
         requires sound { Sound S.sound (cache_of ready.old.entries pending.old) }
         ensures held { Holds K.eq K.is_clone ready.new.entries pending.new }
-        ensures polled { PendingPolled K.eq S.Service (cache_of ready.old.entries pending.old) result (cache_of ready.new.entries pending.new) }
+        ensures polled { PendingPolled K.eq S.Service (cache_of ready.old.entries pending.old)
+            result (cache_of ready.new.entries pending.new) }
         ensures done { result ≡ Ready (Ok tt) → pending.new.items ≡ [] }
         ensures full { result ≡ Ready (Err Memory) → spare ready.old < length pending.old.items }
         ensures sound { Sound S.sound (cache_of ready.new.entries pending.new) }
@@ -247,7 +270,8 @@ impl<K: Eq + Hash + Clone + Drop, S: Service<Req>, Req> ReadyCache<K, S, Req> {
         requires { Sound S.sound self.old.lists }
         ensures polled { PendingPolled K.eq S.Service self.old.lists result self.new.lists }
         ensures done { result ≡ Ready (Ok tt) → self.new.lists.pending ≡ [] }
-        ensures full { result ≡ Ready (Err Memory) → self.old.room.ready < length self.old.lists.pending }
+        ensures full { result ≡ Ready (Err Memory)
+            → self.old.room.ready < length self.old.lists.pending }
         ensures sound { Sound S.sound self.new.lists }
         ensures armed { OnPending result (IsArmed cx.new) }
         ensures heard { OnPending result (HeardFrom S.needs cx.new 0 self.new.lists.pending) }
@@ -267,9 +291,11 @@ impl<K: Eq + Hash + Clone + Drop, S: Service<Req>, Req> ReadyCache<K, S, Req> {
     ) -> Result<bool, Failed<K, S::Error>>
         requires { Sound S.sound self.old.lists }
         ensures checked { CheckedKey K.eq S.Service self.old.lists key.now result self.new.lists }
-        ensures ready { IfOk result (λ is_ready. is_ready ≡ true → AtKey K.eq key.now self.new.lists.ready (λ index. At self.new.lists.ready index (λ e. S.ready e.1))) }
+        ensures ready { IfOk result (λ is_ready. is_ready ≡ true → AtKey K.eq key.now
+            self.new.lists.ready (λ index. At self.new.lists.ready index (λ e. S.ready e.1))) }
         ensures sound { Sound S.sound self.new.lists }
-        ensures heard { HeardFrom S.needs cx.old 0 self.old.lists.pending → HeardFrom S.needs cx.new 0 self.new.lists.pending }
+        ensures heard { HeardFrom S.needs cx.old 0 self.old.lists.pending
+            → HeardFrom S.needs cx.new 0 self.new.lists.pending }
         ensures kept { Keeps cx.old cx.new }
         ensures touches { self.new.touches ≤ self.old.touches + 2 }
     {
@@ -290,10 +316,13 @@ impl<K: Eq + Hash + Clone + Drop, S: Service<Req>, Req> ReadyCache<K, S, Req> {
     ) -> Result<bool, Failed<K, S::Error>>
         requires { Sound S.sound self.old.lists }
         ensures checked { Checked K.eq S.Service self.old.lists index result self.new.lists }
-        ensures ready { IfOk result (λ is_ready. is_ready ≡ true → At self.new.lists.ready index (λ e. S.ready e.1)) }
+        ensures ready { IfOk result
+            (λ is_ready. is_ready ≡ true → At self.new.lists.ready index (λ e. S.ready e.1)) }
         ensures sound { Sound S.sound self.new.lists }
-        ensures armed { IfOk result (λ is_ready. is_ready ≡ false → index < length self.old.lists.ready → IsArmed cx.new) }
-        ensures heard { HeardFrom S.needs cx.old 0 self.old.lists.pending → HeardFrom S.needs cx.new 0 self.new.lists.pending }
+        ensures armed { IfOk result
+            (λ is_ready. is_ready ≡ false → index < length self.old.lists.ready → IsArmed cx.new) }
+        ensures heard { HeardFrom S.needs cx.old 0 self.old.lists.pending
+            → HeardFrom S.needs cx.new 0 self.new.lists.pending }
         ensures kept { Keeps cx.old cx.new }
         ensures touches { self.new.touches ≤ self.old.touches + 2 }
     {
@@ -320,8 +349,10 @@ impl<K: Eq + Hash + Clone + Drop, S: Service<Req>, Req> ReadyCache<K, S, Req> {
     /// key is pending. `check_ready` returns whether the key has an endpoint that may be called.
     pub fn call_ready(&mut self, key: &K, request: Req) -> S::Future
         requires sound { Sound S.sound self.old.lists }
-        requires ready { AtKey K.eq key.now self.old.lists.ready (λ index. At self.old.lists.ready index (λ e. S.ready e.1)) }
-        ensures called { AtKey K.eq key.now self.old.lists.ready (λ index. Called K.eq S.Service self.old.lists index request result self.new.lists) }
+        requires ready { AtKey K.eq key.now self.old.lists.ready
+            (λ index. At self.old.lists.ready index (λ e. S.ready e.1)) }
+        ensures called { AtKey K.eq key.now self.old.lists.ready
+            (λ index. Called K.eq S.Service self.old.lists index request result self.new.lists) }
         ensures sound { Sound S.sound self.new.lists }
         ensures fresh { S.Future.can_poll result }
         ensures touches { self.new.touches ≤ self.old.touches + 2 }
@@ -355,7 +386,8 @@ impl<K: Eq + Hash + Clone + Drop, S: Service<Req>, Req> ReadyCache<K, S, Req> {
 
     /// Returns the service of the key's ready endpoint as a mutable reference.
     pub fn get_ready_mut(&mut self, key: &K) -> Option<&mut S>
-        ensures* writes_back { sem 𝓛 (LendsReady K.row S.row Req.row K.Hash K.Clone self.entry (place K.eq key.now self.old.lists.ready) result) }
+        ensures* writes_back { sem 𝓛 (LendsReady K.row S.row Req.row K.Hash K.Clone self.entry
+            (place K.eq key.now self.old.lists.ready) result) }
         ensures value { option_copied_mut result ≡ lookup (K.eq key.now) self.old.lists.ready }
     {
         let index = self.ready.get_index_of(key)?;
@@ -364,8 +396,10 @@ impl<K: Eq + Hash + Clone + Drop, S: Service<Req>, Req> ReadyCache<K, S, Req> {
 
     /// Returns the service of the ready endpoint at the index as a mutable reference.
     pub fn get_ready_index_mut(&mut self, index: usize) -> Option<&mut S>
-        ensures* writes_back { sem 𝓛 (LendsReady K.row S.row Req.row K.Hash K.Clone self.entry (Some index) result) }
-        ensures value { option_copied_mut result ≡ option_map (λ e. e.1) (slice_get self.old.lists.ready index) }
+        ensures* writes_back { sem 𝓛
+            (LendsReady K.row S.row Req.row K.Hash K.Clone self.entry (Some index) result) }
+        ensures value { option_copied_mut result
+            ≡ option_map (λ e. e.1) (slice_get self.old.lists.ready index) }
     {
         self.ready.get_index_mut(index)
     }

@@ -1,7 +1,7 @@
 //! The endpoints that aren't ready yet, in the order of waiting.
 ghost use Rattle.std.specs.Prelude.{◌≡◌, ◌≢◌, cond, Some, None, ◌+◌, ◌*◌, ◌<◌, ◌≤◌, ◌^◌, ◌++◌, ◌&&◌, ◌||◌, not, [], ◌∷◌, false, true, length, is_some, IfErr, OnErr, OnOk, OnSome, IfNone, IfSome, if◌then◌else◌};
 ghost use Rattle.std.specs.Option.{option_map_or};
-ghost use Rattle.tower_pool.specs.ReadyCache.{awaited, cancel, put_back, waiting, Apart};
+ghost use Rattle.tower_pool.specs.ReadyCache.{is_pending, cancel, put_back, pending_entry, Apart};
 ghost use Rattle.std.specs.Map.{lookup};
 ghost use Rattle.tower_pool.specs.ReadyCachePoll.{rotated};
 ghost use Rattle.tower_pool.specs.Pending.{MayRefuse, entry_of, knows, last_of, marked, names};
@@ -47,7 +47,8 @@ impl<K: Eq + Hash, S> Model for Pending<K, S> {
 // Clears the key's place if it names this entry. Returns whether it did.
 fn release<K: Eq + Hash>(places: &mut IndexMap<K, Option<usize>>, key: &K, entry: usize) -> bool
     ensures named { result ≡ names entry (lookup (K.eq key.now) places.old.entries) }
-    ensures released { result ≡ true → (q : K) → lookup (K.eq q) places.new.entries ≡ cond (K.eq key.now q) (Some None) (lookup (K.eq q) places.old.entries) }
+    ensures released { result ≡ true → (q : K) → lookup (K.eq q) places.new.entries
+        ≡ cond (K.eq key.now q) (Some None) (lookup (K.eq q) places.old.entries) }
     ensures same { result ≡ false → places.new.entries ≡ places.old.entries }
 {
     match places.get_mut(key) {
@@ -58,7 +59,7 @@ fn release<K: Eq + Hash>(places: &mut IndexMap<K, Option<usize>>, key: &K, entry
 
 // Cancels the endpoint if it is the key's. Returns whether it was the key's and wasn't cancelled yet.
 fn cancel<K: Eq, S>(last: &mut Option<Endpoint<K, S>>, key: &K) -> bool
-    ensures found { result ≡ awaited K.eq key.now (last_of last.old) }
+    ensures found { result ≡ is_pending K.eq key.now (last_of last.old) }
     ensures marked { last.new ≡ marked K.eq key.now last.old }
 {
     match last {
@@ -92,7 +93,7 @@ impl<K: Eq + Hash + Clone + Drop, S: Drop> Pending<K, S> {
 
     /// Returns whether an endpoint of the key is pending and isn't cancelled.
     pub(crate) fn awaited(&self, key: &K) -> bool
-        ensures { result ≡ awaited K.eq key.now self.now.items }
+        ensures { result ≡ is_pending K.eq key.now self.now.items }
     {
         matches!(&self.last, Some((last, _, false)) if *key == *last)
             || self.entries.len() > 0 && matches!(self.places.get(key), Some(Some(_)))
@@ -104,7 +105,7 @@ impl<K: Eq + Hash + Clone + Drop, S: Drop> Pending<K, S> {
     pub(crate) fn append(&mut self, last: Endpoint<K, S>)
         requires room { length self.old.items < self.old.room }
         requires known { last.2 ≡ false → knows K.eq self.old last.0 ≡ true }
-        requires alone { last.2 ≡ false → awaited K.eq last.0 self.old.items ≡ false }
+        requires alone { last.2 ≡ false → is_pending K.eq last.0 self.old.items ≡ false }
         ensures items { self.new.items ≡ self.old.items ++ entry_of last ∷ [] }
         ensures knows { (k : K) → knows K.eq self.new k ≡ knows K.eq self.old k }
         ensures room { self.new.room ≡ self.old.room }
@@ -125,8 +126,10 @@ impl<K: Eq + Hash + Clone + Drop, S: Drop> Pending<K, S> {
     fn make_room(&mut self, key: &K, more: usize) -> Option<()>
         requires apart { Apart K.eq self.old.items }
         requires clones { (x y : K) → K.is_clone x y → y ≡ x }
-        ensures items { self.new.items ≡ (if is_some result then cancel K.eq key.now self.old.items else self.old.items) }
-        ensures knows { (k : K) → knows K.eq self.new k ≡ (knows K.eq self.old k || (is_some result && K.eq key.now k)) }
+        ensures items { self.new.items
+            ≡ (if is_some result then cancel K.eq key.now self.old.items else self.old.items) }
+        ensures knows { (k : K) → knows K.eq self.new k
+            ≡ (knows K.eq self.old k || (is_some result && K.eq key.now k)) }
         ensures fits { OnSome result (length self.old.items + more ≤ self.new.room) }
         ensures excused { IfNone result (MayRefuse K.Clone K.eq self.old key.now more) }
         ensures room { self.old.room ≤ self.new.room }
@@ -144,7 +147,8 @@ impl<K: Eq + Hash + Clone + Drop, S: Drop> Pending<K, S> {
     /// is cancelled.
     #[inline(always)]
     pub(crate) fn take_first(&mut self) -> Option<Endpoint<K, S>>
-        ensures items { self.old.items ≡ option_map_or (λ e. entry_of e ∷ self.new.items) result [] }
+        ensures items { self.old.items
+            ≡ option_map_or (λ e. entry_of e ∷ self.new.items) result [] }
         ensures same { IfNone result (self.new.items ≡ self.old.items) }
         ensures known { IfSome result (λ e. e.2 ≡ false → knows K.eq self.new e.0 ≡ true) }
         ensures knows { (k : K) → knows K.eq self.new k ≡ knows K.eq self.old k }
@@ -179,9 +183,10 @@ impl<K: Eq + Hash + Clone + Drop, S: Drop> Pending<K, S> {
     /// endpoint.
     pub(crate) fn evict(&mut self, key: &K) -> bool
         requires apart { Apart K.eq self.old.items }
-        ensures found { result ≡ awaited K.eq key.now self.old.items }
+        ensures found { result ≡ is_pending K.eq key.now self.old.items }
         ensures items { self.new.items ≡ cancel K.eq key.now self.old.items }
-        ensures knows { (k : K) → knows K.eq self.new k ≡ (knows K.eq self.old k && not (K.eq key.now k)) }
+        ensures knows { (k : K)
+            → knows K.eq self.new k ≡ (knows K.eq self.old k && not (K.eq key.now k)) }
         ensures room { self.new.room ≡ self.old.room }
         ensures touches { self.new.touches ≡ self.old.touches }
     {
@@ -191,7 +196,8 @@ impl<K: Eq + Hash + Clone + Drop, S: Drop> Pending<K, S> {
     /// Removes the key's place, unless an endpoint of the key waits or the key is ready.
     pub(crate) fn let_go(&mut self, key: &K, is_ready: bool)
         ensures items { self.new.items ≡ self.old.items }
-        ensures knows { (k : K) → knows K.eq self.new k ≡ (knows K.eq self.old k && not (K.eq key.now k && not (is_ready || awaited K.eq key.now self.old.items))) }
+        ensures knows { (k : K) → knows K.eq self.new k ≡ (knows K.eq self.old k
+            && not (K.eq key.now k && not (is_ready || is_pending K.eq key.now self.old.items))) }
         ensures room { self.new.room ≡ self.old.room }
         ensures touches { self.new.touches ≡ self.old.touches }
     {
@@ -220,8 +226,10 @@ impl<K: Eq + Hash + Clone + Drop, S: Drop> Pending<K, S> {
         requires apart { Apart K.eq self.old.items }
         requires some { 0 < more }
         requires clones { (x y : K) → K.is_clone x y → y ≡ x }
-        ensures items { OnOk result (self.new.items ≡ cancel K.eq key self.old.items ++ waiting key service ∷ []) }
-        ensures knows { OnOk result ((k : K) → knows K.eq self.new k ≡ (knows K.eq self.old k || K.eq key k)) }
+        ensures items { OnOk result
+            (self.new.items ≡ cancel K.eq key self.old.items ++ pending_entry key service ∷ []) }
+        ensures knows { OnOk result
+            ((k : K) → knows K.eq self.new k ≡ (knows K.eq self.old k || K.eq key k)) }
         ensures fits { OnOk result (length self.old.items + more ≤ self.new.room) }
         ensures room { self.old.room ≤ self.new.room }
         ensures same { OnErr result (self.new.items ≡ self.old.items) }

@@ -46,7 +46,8 @@ impl<T, E, F: Steps<Output = Result<T, E>>> Future for ResponseFuture<F> {
     #[tactic(auto, using(tower_base::specs::GivesLemmas::one_step))]
     fn poll(&mut self, cx: &mut Context<'_>) -> Poll<Self::Output>
         requires { CanPoll F.can_poll self.old }
-        ensures { IsStep (Stepped F.Steps.own) (CanPoll F.can_poll) (needs_of F.needs) self.old result self.new cx.old cx.new }
+        ensures { IsStep (Stepped F.Steps.own) (CanPoll F.can_poll) (needs_of F.needs)
+            self.old result self.new cx.old cx.new }
     {
         self.step(cx)
     }

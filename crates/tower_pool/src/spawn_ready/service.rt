@@ -2,8 +2,8 @@
 ghost use Rattle.std.specs.Prelude.{◌≡◌, ℕ, IfOk, IfSome, IsSome, IsSomeAnd, None, Some, true, false};
 ghost use Rattle.futures.specs.Task.{Hears, IsArmed, Keeps};
 ghost use Rattle.futures.specs.Poll.{OnPending};
-ghost use Rattle.tower_base.specs.LastPass.{AnsweredOrWoken};
-ghost use Rattle.tower_pool.specs.SpawnReady.{Called, HandsOver, HandsTo, Looks, New, Pass, Polled, Sound, Starts, view_of};
+ghost use Rattle.tower_base.specs.LastIteration.{AnsweredOrWoken};
+ghost use Rattle.tower_pool.specs.SpawnReady.{Called, HandsOver, HandsTo, Looks, New, Iteration, Polled, Sound, Starts, view_of};
 ghost use Rattle.tower_pool.specs.SpawnReadyReady.{polled_ok};
 ghost use Rattle.tower_pool.specs.declared.spawn_ready.slot_core.SlotStep.{SlotStep as Step};
 
@@ -27,7 +27,7 @@ use tower_latch::{Guarded, Latch};
 /// A service that comes back is polled again before a call. If it failed in the task, one poll returns its
 /// error, and later polls return `Gone`. They also return `Gone` if the task was dropped. If the task's
 /// share of the slot can't be allocated (`Memory`), or the executor gives the task back (`NotSpawned`), the
-/// service is kept and the next poll polls it again. A poll makes 64 passes at most, and is then pending
+/// service is kept and the next poll polls it again. A poll makes 64 iterations at most, and is then pending
 /// with its own task woken. Dropping the `SpawnReady` aborts the task, which ends at its next poll.
 // (A generic function couldn't drop a `SpawnReady` that had a `Model`, so clauses say `view_of`.)
 pub struct SpawnReady<
@@ -77,7 +77,12 @@ where
 {
     /// Creates a `SpawnReady` with a slot behind the caller's latch.
     pub fn with_latch(service: S, executor: X, latch: L) -> SpawnReady<S, Request, E, X, L>
-        ensures { view_of result ≡ record { service = Some service; is_running = false; executor = executor; latch = latch } }
+        ensures { view_of result ≡ record {
+          service = Some service;
+          is_running = false;
+          executor = executor;
+          latch = latch;
+        } }
     {
         SpawnReady {
             service: Some(service),
@@ -128,19 +133,23 @@ where
 
     ghost ready = { λ v. IsSomeAnd v.service S.ready };
 
-    ghost polled = { λ old answer new. Polled S.Service L.Latch X.Executor (view_of old) answer (view_of new) };
+    ghost polled = { λ old answer new. Polled S.Service L.Latch X.Executor (view_of old)
+        answer (view_of new) };
 
     ghost needs = { λ v. L.source v.latch };
 
-    ghost called = { λ old request future new. Called S.Service (view_of old) request future (view_of new) };
+    ghost called = { λ old request future new. Called S.Service (view_of old)
+        request future (view_of new) };
 
     ghost readies = { λ old new p. polled_ok S.readies (view_of old) (view_of new) p };
 
     fn poll_ready(&mut self, cx: &mut Context<'_>) -> Poll<Result<(), Self::Error>>
         requires { Sound S.sound X.Executor (view_of self.old) }
-        ensures polled { Polled S.Service L.Latch X.Executor (view_of self.old) result (view_of self.new) }
+        ensures polled { Polled S.Service L.Latch X.Executor (view_of self.old)
+            result (view_of self.new) }
         ensures sound { Sound S.sound X.Executor (view_of self.new) }
-        ensures woken { AnsweredOrWoken (Pass S.Service L.Latch X.Executor) (view_of self.old) result (view_of self.new) cx.new.is_woken }
+        ensures woken { AnsweredOrWoken (Iteration S.Service L.Latch X.Executor) (view_of self.old)
+            result (view_of self.new) cx.new.is_woken }
         ensures armed { OnPending result (IsArmed cx.new) }
         ensures heard { OnPending result ((s : ℕ) → L.source self.new.latch s → Hears cx.new s) }
         ensures kept { Keeps cx.old cx.new }
@@ -170,13 +179,15 @@ where
     X: Executor<ReadyTask<S, Request, E, L>> + Drop,
     L: Latch<SlotCore<Viewed<S, Request>, E>>,
 {
-    // Makes one pass. Returns an answer, or `None` to go on with the next pass.
+    // Makes one iteration. Returns an answer, or `None` to go on with the next iteration.
     fn pass(&mut self, cx: &mut Context<'_>) -> Answer<E>
         requires { Sound S.sound X.Executor (view_of self.old) }
-        ensures pass { Pass S.Service L.Latch X.Executor (view_of self.old) result (view_of self.new) }
+        ensures pass { Iteration S.Service L.Latch X.Executor (view_of self.old)
+            result (view_of self.new) }
         ensures sound { Sound S.sound X.Executor (view_of self.new) }
         ensures armed { IfSome result (λ answer. OnPending answer (IsArmed cx.new)) }
-        ensures heard { IfSome result (λ answer. OnPending answer ((s : ℕ) → L.source self.new.latch s → Hears cx.new s)) }
+        ensures heard { IfSome result
+            (λ answer. OnPending answer ((s : ℕ) → L.source self.new.latch s → Hears cx.new s)) }
         ensures kept { Keeps cx.old cx.new }
     {
         let Some(service) = &mut self.service else {
@@ -193,10 +204,12 @@ where
     fn look(&mut self, cx: &mut Context<'_>) -> Answer<E>
         requires sound { Sound S.sound X.Executor (view_of self.old) }
         requires away { self.old.service ≡ None }
-        ensures looks { Looks S.Service L.Latch X.Executor (view_of self.old) result (view_of self.new) }
+        ensures looks { Looks S.Service L.Latch X.Executor (view_of self.old)
+            result (view_of self.new) }
         ensures sound { Sound S.sound X.Executor (view_of self.new) }
         ensures armed { IfSome result (λ answer. OnPending answer (IsArmed cx.new)) }
-        ensures heard { IfSome result (λ answer. OnPending answer ((s : ℕ) → L.source self.new.latch s → Hears cx.new s)) }
+        ensures heard { IfSome result
+            (λ answer. OnPending answer ((s : ℕ) → L.source self.new.latch s → Hears cx.new s)) }
         ensures kept { Keeps cx.old cx.new }
     {
         let (reply, token) = self.latch.wait(SlotStep::Look, cx);
@@ -218,7 +231,8 @@ where
     fn hand_over(&mut self) -> Answer<E>
         requires sound { Sound S.sound X.Executor (view_of self.old) }
         requires here { IsSome self.old.service }
-        ensures hands { IfSome self.old.service (λ service. HandsOver S.Service L.Latch X.Executor (view_of self.old) service result (view_of self.new)) }
+        ensures hands { IfSome self.old.service (λ service. HandsOver S.Service L.Latch X.Executor
+            (view_of self.old) service result (view_of self.new)) }
         ensures sound { Sound S.sound X.Executor (view_of self.new) }
         ensures ready { IfSome result (λ answer. OnPending answer ⊥) }
     {
@@ -248,7 +262,8 @@ where
         requires inner { S.sound service }
         requires away { self.old.service ≡ None }
         requires runs { self.old.is_running ≡ true }
-        ensures hands { HandsTo S.Service L.Latch X.Executor (view_of self.old) share service result (view_of self.new) }
+        ensures hands { HandsTo S.Service L.Latch X.Executor (view_of self.old)
+            share service result (view_of self.new) }
         ensures sound { Sound S.sound X.Executor (view_of self.new) }
         ensures ready { IfSome result (λ answer. OnPending answer ⊥) }
     {

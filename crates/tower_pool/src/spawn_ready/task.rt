@@ -90,10 +90,12 @@ where
         requires looked { IsWaitedFor L.Latch latch }
         requires heard { (s : ℕ) → L.source latch s → Hears cx.old s }
         requires taken { held_of self.old ≡ None }
-        ensures drives { Drives L.Latch S.Service false (record { service = service; latch = latch }) result (held_of self.new) }
+        ensures drives { Drives L.Latch S.Service false
+            (record { service = service; latch = latch }) result (held_of self.new) }
         ensures again { OnPending result (CanPoll S.sound (held_of self.new)) }
         ensures armed { OnPending result (IsArmed cx.new) }
-        ensures heard { OnPending result ((s : ℕ) → TaskNeeds S.needs L.source (held_of self.new) s → Hears cx.new s) }
+        ensures heard { OnPending result
+            ((s : ℕ) → TaskNeeds S.needs L.source (held_of self.new) s → Hears cx.new s) }
         ensures kept { Keeps cx.old cx.new }
     {
         match service.poll_ready(cx) {
@@ -127,7 +129,8 @@ where
     L: Latch<SlotCore<Viewed<S, Request>, E>>,
 {
     fn drop(self)
-        ensures { IfSome (held_of self) (λ held. (reply : _) × L.gave held.latch Step.TaskGone reply) }
+        ensures { IfSome (held_of self)
+            (λ held. (reply : _) × L.gave held.latch Step.TaskGone reply) }
     {
         if let Some(held) = &self.held {
             held.latch.step(SlotStep::TaskGone);
@@ -146,14 +149,19 @@ where
 
     ghost can_poll = { λ task. CanPoll S.sound (held_of task) };
 
-    ghost gives = { MayGive (λ old answer new. TaskStepped L.Latch S.Service (held_of old) answer (held_of new)) };
+    ghost gives = { MayGive
+        (λ old answer new. TaskStepped L.Latch S.Service (held_of old) answer (held_of new)) };
 
     ghost needs = { λ task. TaskNeeds S.needs L.source (held_of task) };
 
     #[tactic(auto, using(tower_base::specs::GivesLemmas::one_step))]
     fn poll(&mut self, cx: &mut Context<'_>) -> Poll<()>
         requires { CanPoll S.sound (held_of self.old) }
-        ensures { IsStep (λ old answer new. TaskStepped L.Latch S.Service (held_of old) answer (held_of new)) (λ task. CanPoll S.sound (held_of task)) (λ task. TaskNeeds S.needs L.source (held_of task)) self.old result self.new cx.old cx.new }
+        ensures { IsStep
+            (λ old answer new. TaskStepped L.Latch S.Service (held_of old) answer (held_of new))
+            (λ task. CanPoll S.sound (held_of task))
+            (λ task. TaskNeeds S.needs L.source (held_of task))
+            self.old result self.new cx.old cx.new }
     {
         self.step(cx)
     }
@@ -171,7 +179,8 @@ where
 
     ghost needs = { λ task. TaskNeeds S.needs L.source (held_of task) };
 
-    ghost stepped = { λ old answer new. TaskStepped L.Latch S.Service (held_of old) answer (held_of new) };
+    ghost stepped = { λ old answer new. TaskStepped L.Latch S.Service (held_of old)
+        answer (held_of new) };
 
     fn step(&mut self, cx: &mut Context<'_>) -> Poll<()> {
         let Some(Held { service, latch }) = self.held.take() else {

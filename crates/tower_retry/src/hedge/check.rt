@@ -55,7 +55,8 @@ impl<Request: Drop> Future for CheckFuture<Request> {
     #[tactic(auto, using(tower_base::specs::GivesLemmas::one_step))]
     fn poll(&mut self, cx: &mut Context<'_>) -> Poll<Self::Output>
         requires { CanPoll self.old }
-        ensures { IsStep CheckStepped CanPoll (Needs ⟦<Pending<()> as Future>⟧.needs) self.old result self.new cx.old cx.new }
+        ensures { IsStep CheckStepped CanPoll (Needs ⟦<Pending<()> as Future>⟧.needs)
+            self.old result self.new cx.old cx.new }
     {
         self.step(cx)
     }

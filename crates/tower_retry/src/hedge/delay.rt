@@ -62,7 +62,8 @@ where
     type Future = ResponseFuture<Request, S, Oneshot<S, Request>, C>;
 
     // A clone of a sound service is sound.
-    ghost sound = { λ d. P.sound d.policy × S.sound d.service × ((x y : S) → S.is_clone x y → S.sound x → S.sound y) };
+    ghost sound = { λ d. P.sound d.policy × S.sound d.service
+        × ((x y : S) → S.is_clone x y → S.sound x → S.sound y) };
 
     ghost ready = { λ _. ⊤ };
 

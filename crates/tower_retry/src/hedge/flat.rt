@@ -58,7 +58,8 @@ where
 
     ghost called = { N.called };
 
-    ghost readies = { λ old new p. N.readies old new (let e = answered_ok flat p.inner tt p.answers in Prim.rw e at p.polled) };
+    ghost readies = { λ old new p. N.readies old new
+        (let e = answered_ok flat p.inner tt p.answers in Prim.rw e at p.polled) };
 
     fn poll_ready(&mut self, cx: &mut Context<'_>) -> Poll<Result<(), Self::Error>> {
         outer(self.inner.poll_ready(cx))

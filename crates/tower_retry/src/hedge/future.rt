@@ -7,7 +7,7 @@ ghost use Rattle.tower_base.specs.Gives.{IsStep, MayGive};
 ghost use Rattle.tower_retry.specs.Hedge.{Stepped, flat};
 
 use crate::hedge::{Error, delay, select};
-use futures::future::Future as Polled;
+use futures::future::Future as KitFuture;
 use futures::task::{Context, Poll};
 use std::convert::Infallible;
 use std::marker::Model;
@@ -35,7 +35,7 @@ impl<F> Future<F> {
     }
 }
 
-impl<T, E, F> Polled for Future<F>
+impl<T, E, F> KitFuture for Future<F>
 where
     F: Steps<Output = Result<T, select::Error<E, delay::Error<filter::Error<E, Infallible>>>>>,
 {
@@ -50,7 +50,8 @@ where
     #[tactic(auto, using(tower_base::specs::GivesLemmas::one_step))]
     fn poll(&mut self, cx: &mut Context<'_>) -> Poll<Self::Output>
         requires { F.can_poll self.old }
-        ensures { IsStep (Stepped F.Steps.own) F.can_poll F.needs self.old result self.new cx.old cx.new }
+        ensures { IsStep (Stepped F.Steps.own)
+            F.can_poll F.needs self.old result self.new cx.old cx.new }
     {
         self.step(cx)
     }

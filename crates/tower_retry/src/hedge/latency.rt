@@ -57,7 +57,8 @@ where
     type Future = ResponseFuture<R, S::Future, C>;
 
     // A clone of a sound recorder is sound.
-    ghost sound = { λ l. R.sound l.rec × S.sound l.service × ((x y : R) → R.is_clone x y → R.sound x → R.sound y) };
+    ghost sound = { λ l. R.sound l.rec × S.sound l.service
+        × ((x y : R) → R.is_clone x y → R.sound x → R.sound y) };
 
     ghost ready = { λ l. S.ready l.service };
 
@@ -89,7 +90,8 @@ impl<Q, P, R: Record + Clone, S: Contains<Q, P, L>, C: Clock, L: Service<P>> Con
 
     ghost goes = { S.goes };
 
-    ghost projects = { composed_once _ _ _ (λ l. l.service) S.inside S.goes (latency _ R.Clone C.Clock) S.projects };
+    ghost projects = { composed_once _ _ _ (λ l. l.service)
+        S.inside S.goes (latency _ R.Clone C.Clock) S.projects };
 }
 
 /// A clone shares the clock.

@@ -1,6 +1,6 @@
 //! The constructors of `Hedge`.
 ghost use Rattle.std.specs.Prelude.{◌≡◌, ◌≢◌, IfOk, []};
-ghost use Rattle.tower_retry.specs.HedgeMade.{Made, MadeAt, MadeFrom};
+ghost use Rattle.tower_retry.specs.HedgeMade.{Made, NewAt, NewFrom};
 
 use crate::hedge::Hedge;
 use crate::hedge::delay::Delay;
@@ -40,7 +40,11 @@ where
         mut clock: C,
     ) -> Result<Self, AllocError>
         requires { period ≢ 0 }
-        ensures { IfOk result (λ hedge. MadeAt S.is_clone P.is_clone ⟦<Guarded<HistoCore, R> as Latch<HistoCore>>⟧.gave ⟦<Guarded<HistoCore, R> as Latch<HistoCore>>⟧.shares C.Clock ⟦<Guarded<HistoCore, R> as Latch<HistoCore>>⟧.terms [] service policy min_data_points percentile period clock hedge) }
+        ensures { IfOk result
+            (λ hedge. NewAt S.is_clone P.is_clone ⟦<Guarded<HistoCore, R> as Latch<HistoCore>>⟧.gave
+            ⟦<Guarded<HistoCore, R> as Latch<HistoCore>>⟧.shares C.Clock
+            ⟦<Guarded<HistoCore, R> as Latch<HistoCore>>⟧.terms []
+            service policy min_data_points percentile period clock hedge) }
     {
         let core = HistoCore::new(alloc, period, clock.now());
         let latch = Guarded::new(rt, alloc, core)?;
@@ -61,7 +65,11 @@ where
         latencies_ms: &[u64],
     ) -> Result<Self, AllocError>
         requires { period ≢ 0 }
-        ensures { IfOk result (λ hedge. MadeAt S.is_clone P.is_clone ⟦<Guarded<HistoCore, R> as Latch<HistoCore>>⟧.gave ⟦<Guarded<HistoCore, R> as Latch<HistoCore>>⟧.shares C.Clock ⟦<Guarded<HistoCore, R> as Latch<HistoCore>>⟧.terms latencies_ms.now service policy min_data_points percentile period clock hedge) }
+        ensures { IfOk result
+            (λ hedge. NewAt S.is_clone P.is_clone ⟦<Guarded<HistoCore, R> as Latch<HistoCore>>⟧.gave
+            ⟦<Guarded<HistoCore, R> as Latch<HistoCore>>⟧.shares C.Clock
+            ⟦<Guarded<HistoCore, R> as Latch<HistoCore>>⟧.terms latencies_ms.now service policy
+            min_data_points percentile period clock hedge) }
     {
         let core = HistoCore::new(alloc, period, clock.now());
         let latch = Guarded::new(rt, alloc, core)?;
@@ -93,7 +101,8 @@ where
         percentile: Fraction,
         clock: C,
     ) -> Result<Self, AllocError>
-        ensures { IfOk result (λ hedge. MadeFrom S.is_clone P.is_clone L.gave L.shares C.Clock [] latch service policy min_data_points percentile clock hedge) }
+        ensures { IfOk result (λ hedge. NewFrom S.is_clone P.is_clone L.gave L.shares C.Clock []
+            latch service policy min_data_points percentile clock hedge) }
     {
         let histogram = RotatingHistogram::with_latch(latch, clock.share());
         Hedge::with_histogram(
@@ -117,7 +126,8 @@ where
         clock: C,
         latencies_ms: &[u64],
     ) -> Result<Self, AllocError>
-        ensures { IfOk result (λ hedge. MadeFrom S.is_clone P.is_clone L.gave L.shares C.Clock latencies_ms.now latch service policy min_data_points percentile clock hedge) }
+        ensures { IfOk result (λ hedge. NewFrom S.is_clone P.is_clone L.gave L.shares C.Clock
+            latencies_ms.now latch service policy min_data_points percentile clock hedge) }
     {
         let mut histogram = RotatingHistogram::with_latch(latch, clock.share());
         histogram.seed_all(latencies_ms);
@@ -139,7 +149,8 @@ where
         percentile: Fraction,
         clock: C,
     ) -> Result<Self, AllocError>
-        ensures { IfOk result (λ hedge. Made S.is_clone P.is_clone L.gave L.shares C.Clock histogram service policy min_data_points percentile clock hedge) }
+        ensures { IfOk result (λ hedge. Made S.is_clone P.is_clone L.gave L.shares C.Clock histogram
+            service policy min_data_points percentile clock hedge) }
     {
         let first = Latency::new(histogram.clone()?, service.clone()?, clock.share());
         let second = Latency::new(histogram.clone()?, service, clock.share());

@@ -1,6 +1,6 @@
 //! The policies of a hedge: how long a second request waits, and whether there is one.
 ghost use Rattle.std.specs.Prelude.{◌≡◌};
-ghost use Rattle.tower_retry.specs.HedgePolicies.{DelayPolicyView, Delayed, SelectPolicyView, Copied};
+ghost use Rattle.tower_retry.specs.HedgePolicies.{DelayPolicyView, DelayComputed, SelectPolicyView, Copied};
 
 use crate::hedge::policy::Policy;
 use crate::hedge::rotating_histogram::{HistoCore, RotatingHistogram};
@@ -35,7 +35,7 @@ impl<L: Latch<HistoCore>, C> DelayPolicy<L, C> {
 }
 
 impl<Request, L: Latch<HistoCore>, C: Clock> delay::Policy<Request> for DelayPolicy<L, C> {
-    ghost delayed = { Delayed L.gave C.Clock };
+    ghost delayed = { DelayComputed L.gave C.Clock };
 
     fn delay(&mut self, _request: &Request) -> u64 {
         let millis = self.histogram.quantile(self.percentile);
@@ -55,7 +55,11 @@ pub struct SelectPolicy<P, L: Latch<HistoCore>, C> {
 impl<P, L: Latch<HistoCore>, C> Model for SelectPolicy<P, L, C> {
     ghost Value = { SelectPolicyView P L C };
 
-    ghost view = { λ p. record { policy = p.policy; histogram = p.histogram; min_data_points = p.min_data_points } };
+    ghost view = { λ p. record {
+      policy = p.policy;
+      histogram = p.histogram;
+      min_data_points = p.min_data_points;
+    } };
 }
 
 impl<P, L: Latch<HistoCore>, C> SelectPolicy<P, L, C> {
@@ -64,7 +68,8 @@ impl<P, L: Latch<HistoCore>, C> SelectPolicy<P, L, C> {
         histogram: RotatingHistogram<L, C>,
         min_data_points: u64,
     ) -> SelectPolicy<P, L, C>
-        ensures { result ≡ record { policy = policy; histogram = histogram; min_data_points = min_data_points } }
+        ensures { result
+            ≡ record { policy = policy; histogram = histogram; min_data_points = min_data_points } }
     {
         SelectPolicy {
             policy,

@@ -40,7 +40,7 @@ impl<Request: Drop, P: Policy<Request>> AsyncPredicate<Request> for PolicyPredic
 
     ghost sound = { P.sound };
 
-    ghost asked = { Checked P.Policy };
+    ghost checked = { Checked P.Policy };
 
     fn check(&mut self, request: Request) -> CheckFuture<Request> {
         if self.policy.can_retry(&request) {

@@ -64,8 +64,10 @@ where
     ghost called = { Called P.Policy A.Service B.Service };
 
     ghost readies = { λ old new p.
-        let both = both_ready p.first p.second p.answers in
-        (A.readies old.a new.a (let e = both.0 in Prim.rw e at p.first_polled), B.readies old.b new.b (let e = both.1 in Prim.rw e at p.second_polled)) };
+        let both = both_ready p.first p.second p.answers in (
+          A.readies old.a new.a (let e = both.0 in Prim.rw e at p.first_polled),
+          B.readies old.b new.b (let e = both.1 in Prim.rw e at p.second_polled),
+        ) };
 
     /// Polls both services, whatever the first returns.
     fn poll_ready(&mut self, cx: &mut Context<'_>) -> Poll<Result<(), Self::Error>> {

@@ -1,6 +1,6 @@
 //! Waits between retries: the Rust's `tower::retry::backoff`.
 ghost use Rattle.std.specs.Prelude.{◌≡◌, ◌<◌, ◌+◌, ◌^◌, ⊤, IfOk, Result, nat_eq};
-ghost use Rattle.tower_retry.specs.Backoff.{Begins, IsClone, Jitters, ExponentialBackoffMakerView, Made, ExponentialBackoffView, base_of, maker_of};
+ghost use Rattle.tower_retry.specs.Backoff.{Begins, IsClone, Jitters, ExponentialBackoffMakerView, Made, ExponentialBackoffView, base_of, new_maker};
 ghost use Rattle.std.specs.declared.alloc.AllocError.{AllocError};
 ghost use Rattle.tower_base.specs.Rng.{New};
 
@@ -77,7 +77,13 @@ pub struct ExponentialBackoff<R, C> {
 impl<R, C> Model for ExponentialBackoffMaker<R, C> {
     ghost Value = { ExponentialBackoffMakerView R C };
 
-    ghost view = { λ maker. record { least = maker.min; most = maker.max; jitter = maker.jitter; rng = maker.rng; clock = maker.clock } };
+    ghost view = { λ maker. record {
+      least = maker.min;
+      most = maker.max;
+      jitter = maker.jitter;
+      rng = maker.rng;
+      clock = maker.clock;
+    } };
 }
 
 impl<R, C> Model for ExponentialBackoff<R, C> {
@@ -99,7 +105,8 @@ impl<R: Rng, C: Clock> ExponentialBackoffMaker<R, C> {
         rng: R,
         clock: C,
     ) -> Result<ExponentialBackoffMaker<R, C>, InvalidBackoff>
-        ensures { result ≡ maker_of (record { least = min; most = max; jitter = jitter; rng = rng; clock = clock }) }
+        ensures { result ≡ new_maker
+            (record { least = min; most = max; jitter = jitter; rng = rng; clock = clock }) }
     {
         if min > max {
             return Err(InvalidBackoff::MaximumBelowMinimum);
@@ -165,9 +172,11 @@ impl<R: Rng, C: Clock> ExponentialBackoff<R, C> {
 
     fn jitter(&mut self, base: u64) -> u64
         requires { base ≡ base_of self.old }
-        ensures jitters { Jitters R.Rng (nat_eq self.old.maker.jitter.numerator 0) self.old result self.new }
+        ensures jitters { Jitters R.Rng (nat_eq self.old.maker.jitter.numerator 0)
+            self.old result self.new }
         ensures fits { base + result < 2 ^ 64 }
-        ensures same { self.new ≡ record self.old { maker = record self.old.maker { rng = self.new.maker.rng } } }
+        ensures same { self.new
+            ≡ record self.old { maker = record self.old.maker { rng = self.new.maker.rng } } }
     {
         let jitter = self.maker.jitter;
         let room = self.maker.max - base;
@@ -213,7 +222,8 @@ impl<R: Clone, C: Clock> Clone for ExponentialBackoffMaker<R, C> {
 }
 
 impl<R: Clone, C: Clock> Clone for ExponentialBackoff<R, C> {
-    ghost is_clone = { λ old new. IsClone R.Clone C.Clock old.maker new.maker × (new.count ≡ old.count) };
+    ghost is_clone = { λ old new. IsClone R.Clone C.Clock old.maker new.maker
+        × (new.count ≡ old.count) };
 
     ghost is_infallible = { λ backoff. R.is_infallible backoff.maker.rng };
 

@@ -4,10 +4,10 @@ ghost use Rattle.futures.specs.Poll.{IfReady, OnPending};
 ghost use Rattle.futures.specs.Task.{Covers, Keeps};
 ghost use Rattle.futures.specs.declared.task.Poll.TheVariants.{Pending, Ready};
 ghost use Rattle.tower_base.specs.Gives.{IsStep, MayGive};
-ghost use Rattle.tower_base.specs.Passes.{Passes};
+ghost use Rattle.tower_base.specs.Iterations.{Iterations};
 ghost use Rattle.tower_base.specs.Answers.{answered};
-ghost use Rattle.tower_base.specs.LastPass.{AnsweredOrWoken};
-ghost use Rattle.tower_retry.specs.Retry.{AfterResult, Again, Needs, NeedsAt, Pass, ResponseFutureView, Sound, Stepped, Unanswered};
+ghost use Rattle.tower_base.specs.LastIteration.{AnsweredOrWoken};
+ghost use Rattle.tower_retry.specs.Retry.{AfterResult, Again, Needs, NeedsAt, Iteration, ResponseFutureView, Sound, Stepped, Unanswered};
 ghost use Rattle.tower_retry.specs.declared.retry.error.Error.TheVariants.{Inner};
 
 use crate::retry::state::{Attempts, State};
@@ -20,7 +20,7 @@ use tower_base::service::{Service, Steps};
 
 /// The future of a `Retry`, which resolves to a response after as many calls as the policy requires.
 ///
-/// A result, the end of a wait and a call take one pass each. A poll makes at most `TURNS` passes; then it is
+/// A result, the end of a wait and a call take one iteration each. A poll makes at most `TURNS` iterations; then it is
 /// pending and has woken its own task.
 #[derive(Drop)]
 pub struct ResponseFuture<P, S, Request, F, W> {
@@ -58,7 +58,8 @@ where
 {
     type Output = Result<S::Response, Error<S::Error>>;
 
-    ghost can_poll = { λ future. IfSome future (Sound P.sound S.sound S.Future.can_poll P.Future.can_poll) };
+    ghost can_poll = { λ future. IfSome future
+        (Sound P.sound S.sound S.Future.can_poll P.Future.can_poll) };
 
     ghost gives = { MayGive (Stepped S.Service S.Future.stepped P.Policy P.Future.stepped) };
 
@@ -67,7 +68,9 @@ where
     #[tactic(auto, using(tower_base::specs::GivesLemmas::one_step))]
     fn poll(&mut self, cx: &mut Context<'_>) -> Poll<Self::Output>
         requires { IfSome self.old (Sound P.sound S.sound S.Future.can_poll P.Future.can_poll) }
-        ensures { IsStep (Stepped S.Service S.Future.stepped P.Policy P.Future.stepped) (λ v. IfSome v (Sound P.sound S.sound S.Future.can_poll P.Future.can_poll)) (Needs S.Future.needs P.Future.needs S.needs) self.old result self.new cx.old cx.new }
+        ensures { IsStep (Stepped S.Service S.Future.stepped P.Policy P.Future.stepped)
+            (λ v. IfSome v (Sound P.sound S.sound S.Future.can_poll P.Future.can_poll))
+            (Needs S.Future.needs P.Future.needs S.needs) self.old result self.new cx.old cx.new }
     {
         self.step(cx)
     }
@@ -81,7 +84,8 @@ where
 {
     type Output = Result<S::Response, Error<S::Error>>;
 
-    ghost can_poll = { λ future. IfSome future (Sound P.sound S.sound S.Future.can_poll P.Future.can_poll) };
+    ghost can_poll = { λ future. IfSome future
+        (Sound P.sound S.sound S.Future.can_poll P.Future.can_poll) };
 
     ghost needs = { Needs S.Future.needs P.Future.needs S.needs };
 
@@ -90,10 +94,15 @@ where
     #[inline(always)]
     fn step(&mut self, cx: &mut Context<'_>) -> Poll<Self::Output>
         requires { IfSome self.old (Sound P.sound S.sound S.Future.can_poll P.Future.can_poll) }
-        ensures step { Stepped S.Service S.Future.stepped P.Policy P.Future.stepped self.old result self.new }
-        ensures woken { IfSome self.old (λ old. IfSome self.new (λ new. AnsweredOrWoken (Pass S.Service S.Future.stepped P.Policy P.Future.stepped) old result new cx.new.is_woken)) }
-        ensures again { OnPending result (IfSome self.new (Sound P.sound S.sound S.Future.can_poll P.Future.can_poll)) }
-        ensures registered { OnPending result (Covers cx.new (Needs S.Future.needs P.Future.needs S.needs self.new)) }
+        ensures step { Stepped S.Service S.Future.stepped P.Policy P.Future.stepped self.old
+            result self.new }
+        ensures woken { IfSome self.old (λ old. IfSome self.new
+            (λ new. AnsweredOrWoken (Iteration S.Service S.Future.stepped P.Policy P.Future.stepped)
+            old result new cx.new.is_woken)) }
+        ensures again { OnPending result
+            (IfSome self.new (Sound P.sound S.sound S.Future.can_poll P.Future.can_poll)) }
+        ensures registered { OnPending result
+            (Covers cx.new (Needs S.Future.needs P.Future.needs S.needs self.new)) }
         ensures kept { Keeps cx.old cx.new }
     {
         let Some(attempts) = &mut self.attempts else {
@@ -113,10 +122,14 @@ where
     S: Service<Request>,
     Request: Drop,
     requires { Sound P.sound S.sound S.Future.can_poll P.Future.can_poll attempts.old }
-    ensures passes { Passes (Pass S.Service S.Future.stepped P.Policy P.Future.stepped) Pending attempts.old result attempts.new }
-    ensures woken { AnsweredOrWoken (Pass S.Service S.Future.stepped P.Policy P.Future.stepped) attempts.old result attempts.new cx.new.is_woken }
-    ensures again { OnPending result (Sound P.sound S.sound S.Future.can_poll P.Future.can_poll attempts.new) }
-    ensures registered { OnPending result (Covers cx.new (NeedsAt S.Future.needs P.Future.needs (S.needs attempts.new.service) attempts.new.state)) }
+    ensures passes { Iterations (Iteration S.Service S.Future.stepped P.Policy P.Future.stepped)
+        Pending attempts.old result attempts.new }
+    ensures woken { AnsweredOrWoken (Iteration S.Service S.Future.stepped P.Policy P.Future.stepped)
+        attempts.old result attempts.new cx.new.is_woken }
+    ensures again { OnPending result
+        (Sound P.sound S.sound S.Future.can_poll P.Future.can_poll attempts.new) }
+    ensures registered { OnPending result (Covers cx.new
+        (NeedsAt S.Future.needs P.Future.needs (S.needs attempts.new.service) attempts.new.state)) }
     ensures kept { Keeps cx.old cx.new }
 {
     for _pass in 0..TURNS {
@@ -137,9 +150,12 @@ where
     S: Service<Request>,
     Request: Drop,
     requires { Sound P.sound S.sound S.Future.can_poll P.Future.can_poll attempts.old }
-    ensures pass { Pass S.Service S.Future.stepped P.Policy P.Future.stepped attempts.old result attempts.new }
-    ensures again { Unanswered result (Sound P.sound S.sound S.Future.can_poll P.Future.can_poll attempts.new) }
-    ensures registered { result ≡ Some Pending → Covers cx.new (NeedsAt S.Future.needs P.Future.needs (S.needs attempts.new.service) attempts.new.state) }
+    ensures pass { Iteration S.Service S.Future.stepped P.Policy P.Future.stepped attempts.old
+        result attempts.new }
+    ensures again { Unanswered result
+        (Sound P.sound S.sound S.Future.can_poll P.Future.can_poll attempts.new) }
+    ensures registered { result ≡ Some Pending → Covers cx.new
+        (NeedsAt S.Future.needs P.Future.needs (S.needs attempts.new.service) attempts.new.state) }
     ensures kept { Keeps cx.old cx.new }
 {
     match &mut attempts.state {
@@ -177,8 +193,10 @@ where
     Request: Drop,
     requires policy { P.sound attempts.old.policy }
     requires service { S.sound attempts.old.service }
-    ensures after { AfterResult P.Policy attempts.old.request attempts.old outcome result attempts.new }
-    ensures again { Unanswered result (Sound P.sound S.sound S.Future.can_poll P.Future.can_poll attempts.new) }
+    ensures after { AfterResult P.Policy attempts.old.request attempts.old outcome result
+        attempts.new }
+    ensures again { Unanswered result
+        (Sound P.sound S.sound S.Future.can_poll P.Future.can_poll attempts.new) }
     ensures answers { ¬ (result ≡ Some Pending) }
 {
     let Some(request) = &mut attempts.request else {

@@ -15,13 +15,16 @@ use tower_base::service::Service;
 /// wait ended, and then the service was ready. The answer is the last result as the policy left it, an
 /// error of readiness after a wait, or `Memory` if cloning failed.
 pub fn law<P: Policy<Q, S::Response, S::Error> + Clone, S: Service<Q> + Clone, Q>()
-    ensures attempts { GivesAnswers S.Service S.Future.stepped P.Policy P.Future.stepped P.Clone S.Clone }
+    ensures attempts { GivesAnswers S.Service S.Future.stepped P.Policy P.Future.stepped
+        P.Clone S.Clone }
 {}
 
 /// States that each call makes exactly one call of the inner service, with the same request. The future
 /// makes retries at the clone that it holds: each of its polls is a run of that clone.
 pub fn projection<P: Policy<Q, S::Response, S::Error> + Clone, S: Service<Q> + Clone, Q: Drop>()
-    ensures inside { Projects (relations ⟦<Retry<P, S> as Service<Q>>⟧) (relations S.Service) (λ r. r.service) Once }
-    ensures future { (old new : _) (answer : _) → Stepped S.Service S.Future.stepped P.Policy P.Future.stepped (Some old) answer (Some new)
+    ensures inside { Projects (relations ⟦<Retry<P, S> as Service<Q>>⟧) (relations S.Service)
+        (λ r. r.service) Once }
+    ensures future { (old new : _) (answer : _)
+        → Stepped S.Service S.Future.stepped P.Policy P.Future.stepped (Some old) answer (Some new)
         → RunInside (relations S.Service) (λ _. Unit {0}) old.service new.service }
 {}

@@ -14,7 +14,8 @@ pub trait Policy<Request, Response, Error>: Drop {
     // For a request and its result, `retry` may return this wait, or none, and leave the second policy,
     // request and result. If left out, it isn't known which requests are made again, nor what becomes of
     // a result.
-    ghost asked: { Self → Request → Result Response Error → Option Self.Future → Self → Request → Result Response Error → Type 0 } = { λ _ _ _ _ _ _ _. ⊤ };
+    ghost decided: { Self → Request → Result Response Error → Option Self.Future → Self → Request
+        → Result Response Error → Type 0 } = { λ _ _ _ _ _ _ _. ⊤ };
 
     // `clone_request` may return this copy of the request, or none, and leave the second value. If left
     // out, it isn't known what the copy is.
@@ -30,7 +31,8 @@ pub trait Policy<Request, Response, Error>: Drop {
         outcome: &mut Result<Response, Error>,
     ) -> Option<Self::Future>
         requires { sound self.old }
-        ensures asked { asked self.old request.old outcome.old result self.new request.new outcome.new }
+        ensures decided { decided self.old request.old outcome.old result self.new request.new
+            outcome.new }
         ensures fresh { IfSome result Self.Future.can_poll }
         ensures sound { sound self.new };
 

@@ -24,7 +24,8 @@ pub struct State {
     is_running: bool,
     is_closed: bool,
     ghost room: { (key : ℕ) → get wakers key ≢ None → key < key_limit wheel },
-    ghost woken_when_fired: { (key : ℕ) (slot : _) → get wakers key ≡ Some slot → deadline_of wheel key ≡ None → slot ≡ None },
+    ghost woken_when_fired: { (key : ℕ) (slot : _) → get wakers key ≡ Some slot
+        → deadline_of wheel key ≡ None → slot ≡ None },
     ghost in_time: { EachDeadline wheel (λ when. next ≤ when) },
 }
 
@@ -110,8 +111,10 @@ impl State {
     }
 
     fn wait_at(&mut self, key: usize, when: u64, cx: &mut Context<'_>, source: &Source) -> bool
-        ensures left { get self.old.wakers key ≢ None → self.old.is_running ≡ true → self.old.wheel.elapsed < when
-            → (deadline_of self.new.wheel key ≡ Some when) × IsLeftIn cx.old cx.new (unwrap_or (get self.new.wakers key) None) }
+        ensures left { get self.old.wakers key ≢ None → self.old.is_running ≡ true
+            → self.old.wheel.elapsed < when
+            → (deadline_of self.new.wheel key ≡ Some when)
+            × IsLeftIn cx.old cx.new (unwrap_or (get self.new.wakers key) None) }
         ensures unheard { result ≡ false → self.new.next ≡ self.old.next }
         ensures registered { Covers cx.new (λ s. s ≡ source.now.id) }
         ensures kept { Keeps cx.old cx.new }
@@ -140,11 +143,14 @@ impl State {
 
     /// Fires one timer that is due at `now`, and returns the waker that it had. `None` if no timer is due.
     pub fn fire(&mut self, now: u64) -> Option<Option<Waker>>
-        ensures fires { IfSome result (λ waker. FiresOne self.old.wheel self.new.wheel (λ key. waker ≡ unwrap_or (get self.old.wakers key) None)) }
-        ensures none_due { IfNone result (EachDeadline self.new.wheel (λ when. self.new.wheel.elapsed < when)) }
+        ensures fires { IfSome result (λ waker. FiresOne self.old.wheel self.new.wheel
+            (λ key. waker ≡ unwrap_or (get self.old.wakers key) None)) }
+        ensures none_due { IfNone result
+            (EachDeadline self.new.wheel (λ when. self.new.wheel.elapsed < when)) }
         ensures reached { IfNone result (self.new.wheel.elapsed ≡ max self.old.wheel.elapsed now) }
         ensures kept { IfNone result (SameDeadlines self.old.wheel self.new.wheel) }
-        ensures same { (self.new.is_closed ≡ self.old.is_closed) × (self.new.is_running ≡ self.old.is_running) }
+        ensures same { (self.new.is_closed ≡ self.old.is_closed)
+            × (self.new.is_running ≡ self.old.is_running) }
     {
         let key = self.wheel.poll(now)?;
         match self.wakers.get_mut(key) {

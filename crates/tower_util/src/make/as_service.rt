@@ -42,11 +42,13 @@ where
 
     ghost ready = { λ v. M.ready v.make.now };
 
-    ghost polled = { λ old answer new. M.polled old.make.now answer new.make.now × (new.make.ghost_name ≡ old.make.ghost_name) };
+    ghost polled = { λ old answer new. M.polled old.make.now answer new.make.now
+        × (new.make.ghost_name ≡ old.make.ghost_name) };
 
     ghost needs = { λ v. M.needs v.make.now };
 
-    ghost called = { λ old target future new. M.ready old.make.now × M.called old.make.now target future new.make.now × (new.make.ghost_name ≡ old.make.ghost_name) };
+    ghost called = { λ old target future new. M.ready old.make.now × M.called old.make.now target
+        future new.make.now × (new.make.ghost_name ≡ old.make.ghost_name) };
 
     ghost readies = { λ old new polled. M.readies old.make.now new.make.now polled.0 };
 
@@ -71,5 +73,7 @@ where
 
     ghost goes = { M.goes };
 
-    ghost projects = { composed_once _ _ _ (λ v. v.make.now) M.inside M.goes (forwards _ _ (λ v. v.make.now) (λ _ _ answer p. (answer, p.0)) (λ _ _ _ future c. (future, c.0, c.1))) M.projects };
+    ghost projects = { composed_once _ _ _ (λ v. v.make.now) M.inside M.goes (forwards _ _
+        (λ v. v.make.now) (λ _ _ answer p. (answer, p.0)) (λ _ _ _ future c. (future, c.0, c.1)))
+        M.projects };
 }

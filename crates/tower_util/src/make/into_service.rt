@@ -76,5 +76,7 @@ where
 
     ghost goes = { M.goes };
 
-    ghost projects = { composed_once _ _ _ (λ m. m) M.inside M.goes (forwards _ _ (λ m. m) (λ _ _ answer p. (answer, p)) (λ _ _ _ future c. (future, c.0, c.1))) M.projects };
+    ghost projects = { composed_once _ _ _ (λ m. m) M.inside M.goes
+        (forwards _ _ (λ m. m) (λ _ _ answer p. (answer, p)) (λ _ _ _ future c. (future, c.0, c.1)))
+        M.projects };
 }

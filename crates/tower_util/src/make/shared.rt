@@ -78,7 +78,8 @@ pub fn projection<S, T, Request>()
 where
     S: Service<Request> + Clone + Drop,
     T: Drop,
-    ensures { Projects (relations ⟦<Shared<S> as Service<T>>⟧) (relations S.Service) (λ s. s) Never }
+    ensures { Projects (relations ⟦<Shared<S> as Service<T>>⟧) (relations S.Service)
+        (λ s. s) Never }
 {}
 
 /// The response future of a `Shared`: the Rust's `tower::make::future::SharedFuture`. It returns the
@@ -104,7 +105,8 @@ impl<S: Drop> Future for SharedFuture<S> {
     #[tactic(auto, using(tower_base::specs::GivesLemmas::one_step))]
     fn poll(&mut self, cx: &mut Context<'_>) -> Poll<Result<S, Error>>
         requires { ⟦<SharedFuture<S> as Future>⟧.can_poll self.old }
-        ensures { IsStep Stepped ⟦<SharedFuture<S> as Future>⟧.can_poll ⟦<SharedFuture<S> as Future>⟧.needs self.old result self.new cx.old cx.new }
+        ensures { IsStep Stepped ⟦<SharedFuture<S> as Future>⟧.can_poll
+            ⟦<SharedFuture<S> as Future>⟧.needs self.old result self.new cx.old cx.new }
     {
         self.step(cx)
     }

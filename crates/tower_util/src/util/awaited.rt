@@ -71,7 +71,8 @@ where
 
     // The future may be polled, and any service that it may return is sound.
     ghost sound = { elim [
-      | Coming future ↦ F.can_poll future × ((service : S) → MayGive F.stepped future (Ok service) → S.sound service)
+      | Coming future ↦ F.can_poll future
+          × ((service : S) → MayGive F.stepped future (Ok service) → S.sound service)
       | There service ↦ S.sound service
       | Lost ↦ ⊤
     ] };
@@ -80,7 +81,11 @@ where
 
     ghost polled = { Polled F.stepped S.polled };
 
-    ghost needs = { elim [ Coming future ↦ F.needs future | There service ↦ S.needs service | Lost ↦ λ _. ⊥ ] };
+    ghost needs = { elim [
+      | Coming future ↦ F.needs future
+      | There service ↦ S.needs service
+      | Lost ↦ λ _. ⊥
+    ] };
 
     ghost called = { Called S.ready S.called };
 
@@ -123,7 +128,8 @@ fn serve<R, S: Service<R>>(
 ) -> Poll<Result<(), Error<S::Error>>>
     requires { S.sound service.old }
     ensures sound { S.sound service.new }
-    ensures served { (inner : _) × S.polled service.old inner service.new × (result ≡ answered Inner inner) }
+    ensures served { (inner : _) × S.polled service.old inner service.new
+        × (result ≡ answered Inner inner) }
     ensures armed { OnPending result (IsArmed cx.new) }
     ensures heard { OnPending result ((s : ℕ) → S.needs service.new s → Hears cx.new s) }
     ensures kept { Keeps cx.old cx.new }
@@ -158,7 +164,8 @@ impl<N: Steps<Output = Result<A, E>>, A, E> Future for FutureServiceFuture<N> {
     #[tactic(auto, using(tower_base::specs::GivesLemmas::one_step))]
     fn poll(&mut self, cx: &mut Context<'_>) -> Poll<Result<A, Error<E>>>
         requires { ⟦<FutureServiceFuture<N> as Future>⟧.can_poll self.old }
-        ensures { IsStep (Stepped N.stepped) ⟦<FutureServiceFuture<N> as Future>⟧.can_poll ⟦<FutureServiceFuture<N> as Future>⟧.needs self.old result self.new cx.old cx.new }
+        ensures { IsStep (Stepped N.stepped) ⟦<FutureServiceFuture<N> as Future>⟧.can_poll
+            ⟦<FutureServiceFuture<N> as Future>⟧.needs self.old result self.new cx.old cx.new }
     {
         self.step(cx)
     }

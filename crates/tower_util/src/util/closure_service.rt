@@ -44,7 +44,8 @@ where
 
     // The closure may always be called again, and the futures that it returns may be polled.
     ghost sound = { λ s. T.IsAlwaysCallable s.f
-        × ((old : T) (request : Request) (future : F) (new : T) → T.step old request future new → F.can_poll future) };
+        × ((old : T) (request : Request) (future : F) (new : T) → T.step old request future new
+        → F.can_poll future) };
 
     ghost ready = { λ _. Unit {0} };
 

@@ -46,8 +46,10 @@ where
 
     // A call calls the side that is present.
     ghost called = { λ old request future new. elim old [
-      | Left a ↦ (left : A) × (inner : _) × A.ready a × A.called a request inner left × (future ≡ First inner) × (new ≡ Left left)
-      | Right b ↦ (left : B) × (inner : _) × B.ready b × B.called b request inner left × (future ≡ Second inner) × (new ≡ Right left)
+      | Left a ↦ (left : A) × (inner : _) × A.ready a × A.called a request inner left
+          × (future ≡ First inner) × (new ≡ Left left)
+      | Right b ↦ (left : B) × (inner : _) × B.ready b × B.called b request inner left
+          × (future ≡ Second inner) × (new ≡ Right left)
     ] };
 
     ghost readies = { elim [
@@ -81,13 +83,15 @@ where
 
     ghost goes = { EitherGoes A.goes B.goes };
 
-    ghost projects = { either_projects _ _ _ A.inside B.inside A.goes B.goes A.projects B.projects };
+    ghost projects = { either_projects _ _ _ A.inside B.inside A.goes B.goes A.projects
+        B.projects };
 }
 
 impl<S, A: Layer<S>, B: Layer<S>> Layer<S> for Either<A, B> {
     type Service = Either<A::Service, B::Service>;
 
-    ghost can_layer = { λ layer service. elim layer [ Left a ↦ A.can_layer a service | Right b ↦ B.can_layer b service ] };
+    ghost can_layer = { λ layer service. elim layer
+        [ Left a ↦ A.can_layer a service | Right b ↦ B.can_layer b service ] };
 
     // The layer makes what the side that is present makes.
     ghost made = { λ layer service made. elim layer [
@@ -132,7 +136,9 @@ impl<A: Steps, B: Steps<Output = A::Output>> Future for EitherResponseFuture<A, 
     #[tactic(auto, using(tower_base::specs::GivesLemmas::one_step))]
     fn poll(&mut self, cx: &mut Context<'_>) -> Poll<A::Output>
         requires { ⟦<EitherResponseFuture<A, B> as Future>⟧.can_poll self.old }
-        ensures { IsStep (Stepped A.stepped B.stepped) ⟦<EitherResponseFuture<A, B> as Future>⟧.can_poll ⟦<EitherResponseFuture<A, B> as Future>⟧.needs self.old result self.new cx.old cx.new }
+        ensures { IsStep (Stepped A.stepped B.stepped)
+            ⟦<EitherResponseFuture<A, B> as Future>⟧.can_poll
+            ⟦<EitherResponseFuture<A, B> as Future>⟧.needs self.old result self.new cx.old cx.new }
     {
         self.step(cx)
     }

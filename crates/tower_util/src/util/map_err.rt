@@ -108,7 +108,8 @@ impl<F: Steps<Output = Result<A, E>>, N: Fn(E) -> U + Copy, A, E, U> Future for 
     #[tactic(auto, using(tower_base::specs::GivesLemmas::one_step))]
     fn poll(&mut self, cx: &mut Context<'_>) -> Poll<Result<A, U>>
         requires { ⟦<MapErrFuture<F, N> as Future>⟧.can_poll self.old }
-        ensures { IsStep (MapErrStepped F.stepped N.post) ⟦<MapErrFuture<F, N> as Future>⟧.can_poll ⟦<MapErrFuture<F, N> as Future>⟧.needs self.old result self.new cx.old cx.new }
+        ensures { IsStep (MapErrStepped F.stepped N.post) ⟦<MapErrFuture<F, N> as Future>⟧.can_poll
+            ⟦<MapErrFuture<F, N> as Future>⟧.needs self.old result self.new cx.old cx.new }
     {
         self.step(cx)
     }

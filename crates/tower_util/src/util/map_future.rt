@@ -56,7 +56,8 @@ where
 
     // From a future that may be polled, the closure makes one that may be polled.
     ghost sound = { λ m. S.sound m.inner × F.IsAlwaysCallable m.f
-        × ((f g : F) (inner : _) (future : Fut) → S.Future.can_poll inner → F.step f inner future g → Fut.can_poll future) };
+        × ((f g : F) (inner : _) (future : Fut) → S.Future.can_poll inner → F.step f inner future g
+        → Fut.can_poll future) };
 
     ghost ready = { λ m. S.ready m.inner };
 
@@ -65,7 +66,8 @@ where
     ghost needs = { λ m. S.needs m.inner };
 
     // A call calls the inner service once, and the closure once with the future that this returned.
-    ghost called = { λ old request future new. (inner : _) × S.ready old.inner × S.called old.inner request inner new.inner × F.step old.f inner future new.f };
+    ghost called = { λ old request future new. (inner : _) × S.ready old.inner
+        × S.called old.inner request inner new.inner × F.step old.f inner future new.f };
 
     ghost readies = { polled_ready S.polled (λ _. E.from_gives) S.ready S.readies };
 

@@ -104,7 +104,9 @@ impl<F: Steps<Output = Result<A, E>>, N: Fn(A) -> B + Copy, A, B, E> Future
     #[tactic(auto, using(tower_base::specs::GivesLemmas::one_step))]
     fn poll(&mut self, cx: &mut Context<'_>) -> Poll<Result<B, E>>
         requires { ⟦<MapResponseFuture<F, N> as Future>⟧.can_poll self.old }
-        ensures { IsStep (MapResponseStepped F.stepped N.post) ⟦<MapResponseFuture<F, N> as Future>⟧.can_poll ⟦<MapResponseFuture<F, N> as Future>⟧.needs self.old result self.new cx.old cx.new }
+        ensures { IsStep (MapResponseStepped F.stepped N.post)
+            ⟦<MapResponseFuture<F, N> as Future>⟧.can_poll
+            ⟦<MapResponseFuture<F, N> as Future>⟧.needs self.old result self.new cx.old cx.new }
     {
         self.step(cx)
     }

@@ -113,7 +113,9 @@ where
     #[tactic(auto, using(tower_base::specs::GivesLemmas::one_step))]
     fn poll(&mut self, cx: &mut Context<'_>) -> Poll<Result<T, U>>
         requires { ⟦<MapResultFuture<F, N> as Future>⟧.can_poll self.old }
-        ensures { IsStep (MapResultStepped F.stepped N.post) ⟦<MapResultFuture<F, N> as Future>⟧.can_poll ⟦<MapResultFuture<F, N> as Future>⟧.needs self.old result self.new cx.old cx.new }
+        ensures { IsStep (MapResultStepped F.stepped N.post)
+            ⟦<MapResultFuture<F, N> as Future>⟧.can_poll ⟦<MapResultFuture<F, N> as Future>⟧.needs
+            self.old result self.new cx.old cx.new }
     {
         self.step(cx)
     }

@@ -43,16 +43,28 @@ impl<S: Service<Request>, Request> Oneshot<S, Request> {
 impl<S: Service<Request>, Request: Drop> Future for Oneshot<S, Request> {
     type Output = Result<S::Response, S::Error>;
 
-    ghost can_poll = { λ o. elim o.state [ NotReady service request ↦ S.sound service | InFlight future ↦ S.Future.can_poll future | Done ↦ ⊥ ] };
+    ghost can_poll = { λ o. elim o.state [
+      | NotReady service request ↦ S.sound service
+      | InFlight future ↦ S.Future.can_poll future
+      | Done ↦ ⊥
+    ] };
 
-    ghost gives = { MayGive (λ old answer new. Stepped S.Service S.Future.stepped old.state answer new.state) };
+    ghost gives = { MayGive
+        (λ old answer new. Stepped S.Service S.Future.stepped old.state answer new.state) };
 
-    ghost needs = { λ o. elim o.state [ NotReady service request ↦ S.needs service | InFlight future ↦ S.Future.needs future | Done ↦ λ _. ⊥ ] };
+    ghost needs = { λ o. elim o.state [
+      | NotReady service request ↦ S.needs service
+      | InFlight future ↦ S.Future.needs future
+      | Done ↦ λ _. ⊥
+    ] };
 
     #[tactic(auto, using(tower_base::specs::GivesLemmas::one_step))]
     fn poll(&mut self, cx: &mut Context<'_>) -> Poll<Self::Output>
         requires { ⟦<Oneshot<S, Request> as Future>⟧.can_poll self.old }
-        ensures { IsStep (λ old answer new. Stepped S.Service S.Future.stepped old.state answer new.state) ⟦<Oneshot<S, Request> as Future>⟧.can_poll ⟦<Oneshot<S, Request> as Future>⟧.needs self.old result self.new cx.old cx.new }
+        ensures { IsStep
+            (λ old answer new. Stepped S.Service S.Future.stepped old.state answer new.state)
+            ⟦<Oneshot<S, Request> as Future>⟧.can_poll ⟦<Oneshot<S, Request> as Future>⟧.needs
+            self.old result self.new cx.old cx.new }
     {
         self.step(cx)
     }
@@ -61,11 +73,20 @@ impl<S: Service<Request>, Request: Drop> Future for Oneshot<S, Request> {
 impl<S: Service<Request>, Request: Drop> Steps for Oneshot<S, Request> {
     type Output = Result<S::Response, S::Error>;
 
-    ghost can_poll = { λ o. elim o.state [ NotReady service request ↦ S.sound service | InFlight future ↦ S.Future.can_poll future | Done ↦ ⊥ ] };
+    ghost can_poll = { λ o. elim o.state [
+      | NotReady service request ↦ S.sound service
+      | InFlight future ↦ S.Future.can_poll future
+      | Done ↦ ⊥
+    ] };
 
-    ghost needs = { λ o. elim o.state [ NotReady service request ↦ S.needs service | InFlight future ↦ S.Future.needs future | Done ↦ λ _. ⊥ ] };
+    ghost needs = { λ o. elim o.state [
+      | NotReady service request ↦ S.needs service
+      | InFlight future ↦ S.Future.needs future
+      | Done ↦ λ _. ⊥
+    ] };
 
-    ghost stepped = { λ old answer new. Stepped S.Service S.Future.stepped old.state answer new.state };
+    ghost stepped = { λ old answer new. Stepped S.Service S.Future.stepped old.state answer
+        new.state };
 
     fn step(&mut self, cx: &mut Context<'_>) -> Poll<Self::Output> {
         match mem::replace(&mut self.state, State::Done) {
@@ -98,9 +119,11 @@ impl<S: Service<Request>, Request: Drop> Oneshot<S, Request> {
         cx: &mut Context<'_>,
     ) -> Poll<Result<S::Response, S::Error>>
         requires { S.Future.can_poll response }
-        ensures stepped { ResponseStepped S.Service S.Future.stepped response result self.new.state }
+        ensures stepped { ResponseStepped S.Service S.Future.stepped response result
+            self.new.state }
         ensures again { OnPending result (⟦<Oneshot<S, Request> as Steps>⟧.can_poll self.new) }
-        ensures registered { OnPending result (Covers cx.new (⟦<Oneshot<S, Request> as Steps>⟧.needs self.new)) }
+        ensures registered { OnPending result
+            (Covers cx.new (⟦<Oneshot<S, Request> as Steps>⟧.needs self.new)) }
         ensures kept { Keeps cx.old cx.new }
     {
         let answer = response.step(cx);

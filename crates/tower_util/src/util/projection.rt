@@ -13,7 +13,8 @@ use tower_base::service::{Service, Steps};
 pub fn map_request<S: Service<R2>, F, R1, R2>()
 where
     F: FnMut(R1) -> R2 + Drop,
-    ensures { Projects (relations ⟦<MapRequest<S, F> as Service<R1>>⟧) (relations S.Service) (λ m. m.inner) (Mapped (ClosureMakes F.step)) }
+    ensures { Projects (relations ⟦<MapRequest<S, F> as Service<R1>>⟧) (relations S.Service)
+        (λ m. m.inner) (Mapped (ClosureMakes F.step)) }
 {}
 
 /// Each call is passed inside, once.
@@ -21,7 +22,8 @@ pub fn map_response<S: Service<Request>, F, Request, T>()
 where
     F: Fn(S::Response) -> T + Copy,
     T: Drop,
-    ensures { Projects (relations ⟦<MapResponse<S, F> as Service<Request>>⟧) (relations S.Service) (λ m. m.inner) Once }
+    ensures { Projects (relations ⟦<MapResponse<S, F> as Service<Request>>⟧) (relations S.Service)
+        (λ m. m.inner) Once }
 {}
 
 /// Each call is passed inside, once.
@@ -29,7 +31,8 @@ pub fn map_err<S: Service<Request>, F, Request, U>()
 where
     F: Fn(S::Error) -> U + Copy,
     U: Drop,
-    ensures { Projects (relations ⟦<MapErr<S, F> as Service<Request>>⟧) (relations S.Service) (λ m. m.inner) Once }
+    ensures { Projects (relations ⟦<MapErr<S, F> as Service<Request>>⟧) (relations S.Service)
+        (λ m. m.inner) Once }
 {}
 
 /// Each call is passed inside, once.
@@ -38,7 +41,8 @@ where
     F: Fn(Result<S::Response, S::Error>) -> Result<T, U> + Copy,
     T: Drop,
     U: From<S::Error> + Drop,
-    ensures { Projects (relations ⟦<MapResult<S, F> as Service<Request>>⟧) (relations S.Service) (λ m. m.inner) Once }
+    ensures { Projects (relations ⟦<MapResult<S, F> as Service<Request>>⟧) (relations S.Service)
+        (λ m. m.inner) Once }
 {}
 
 /// Each call is passed inside, once.
@@ -48,7 +52,8 @@ where
     E: From<S::Error> + Drop,
     Fut: Steps<Output = Result<T, E>>,
     T: Drop,
-    ensures { Projects (relations ⟦<MapFuture<S, F> as Service<R>>⟧) (relations S.Service) (λ m. m.inner) Once }
+    ensures { Projects (relations ⟦<MapFuture<S, F> as Service<R>>⟧) (relations S.Service)
+        (λ m. m.inner) Once }
 {}
 
 /// Each call is passed inside, once.
@@ -58,7 +63,8 @@ where
     Fut: Steps<Output = Result<T, U>>,
     T: Drop,
     U: From<S::Error> + Drop,
-    ensures { Projects (relations ⟦<Then<S, F> as Service<Request>>⟧) (relations S.Service) (λ m. m.inner) Once }
+    ensures { Projects (relations ⟦<Then<S, F> as Service<Request>>⟧) (relations S.Service)
+        (λ m. m.inner) Once }
 {}
 
 /// Each call is passed inside, once.
@@ -68,7 +74,8 @@ where
     Fut: Steps<Output = Result<T, U>>,
     T: Drop,
     U: From<S::Error> + Drop,
-    ensures { Projects (relations ⟦<AndThen<S, F> as Service<Request>>⟧) (relations S.Service) (λ m. m.inner) Once }
+    ensures { Projects (relations ⟦<AndThen<S, F> as Service<Request>>⟧) (relations S.Service)
+        (λ m. m.inner) Once }
 {}
 
 /// The side that is present gets each poll and each call, and the side never changes.
@@ -76,13 +83,16 @@ pub fn either<R, A, B>()
 where
     A: Service<R>,
     B: Service<R, Response = A::Response, Error = A::Error>,
-    ensures { (old : _) (action : _) (new : _) → Takes (relations ⟦<Either<A, B> as Service<R>>⟧) old action new → RunsOfSide (relations A.Service) (relations B.Service) old action new }
+    ensures { (old : _) (action : _) (new : _) → Takes (relations ⟦<Either<A, B> as Service<R>>⟧)
+        old action new → RunsOfSide (relations A.Service) (relations B.Service) old action new }
 {}
 
 /// If there is a service, it gets each poll and each call. Afterwards there is a service if and only if
 /// there was one before.
 pub fn optional<T: Service<Request>, Request: Drop>()
-    ensures { (old : _) (action : _) (new : _) → Takes (relations ⟦<Optional<T> as Service<Request>>⟧) old action new → RunsOfOptional T.Service old action new }
+    ensures { (old : _) (action : _) (new : _)
+        → Takes (relations ⟦<Optional<T> as Service<Request>>⟧) old action new
+        → RunsOfOptional T.Service old action new }
 {}
 
 /// From the moment at which the future returned the service, each call is passed to it, once.
@@ -90,15 +100,19 @@ pub fn future_service<R, F, S>()
 where
     F: Steps<Output = Result<S, S::Error>>,
     S: Service<R>,
-    ensures { (old : _) (action : _) (new : _) → Takes (relations ⟦<FutureService<F, S> as Service<R>>⟧) old action new → RunsOnceThere S.Service F.stepped old action new }
+    ensures { (old : _) (action : _) (new : _)
+        → Takes (relations ⟦<FutureService<F, S> as Service<R>>⟧) old action new
+        → RunsOnceThere S.Service F.stepped old action new }
 {}
 
 /// Each poll of the future polls its service, until the service is called once with the request, or fails.
 pub fn oneshot<S: Service<Request>, Request: Drop>()
-    ensures { (old : _) (answer : _) (new : _) → ⟦<Oneshot<S, Request> as Steps>⟧.stepped old answer new → RunsInOneshot S.Service old.state new.state }
+    ensures { (old : _) (answer : _) (new : _) → ⟦<Oneshot<S, Request> as Steps>⟧.stepped old answer
+        new → RunsInOneshot S.Service old.state new.state }
 {}
 
 /// Each call is passed inside, once.
 pub fn sealed<S: Service<Request>, Request>()
-    ensures { Projects (relations ⟦<Sealed<S, Request> as Service<Request>>⟧) (relations S.Service) (λ s. s) Once }
+    ensures { Projects (relations ⟦<Sealed<S, Request> as Service<Request>>⟧) (relations S.Service)
+        (λ s. s) Once }
 {}

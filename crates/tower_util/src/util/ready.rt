@@ -50,7 +50,8 @@ impl<T: Service<Request>, Request: Drop> Future for ReadyOneshot<T, Request> {
     #[tactic(auto, using(crate::proofs::ReadyLemmas::gives_back_step))]
     fn poll(&mut self, cx: &mut Context<'_>) -> Poll<Result<T, T::Error>>
         requires { ⟦<ReadyOneshot<T, Request> as Future>⟧.can_poll self.old }
-        ensures { IsReadyOneshotStep T.sound T.ready T.polled T.needs self.old result self.new cx.old cx.new }
+        ensures { IsReadyOneshotStep T.sound T.ready T.polled T.needs self.old result self.new
+            cx.old cx.new }
     {
         self.step(cx)
     }
@@ -94,7 +95,8 @@ pub struct Ready<'a, T, Request> {
 impl<'a, T: Service<Request>, Request> Ready<'a, T, Request> {
     /// Creates the future. Polls nothing.
     pub fn new(service: &'a mut T) -> Ready<'a, T, Request>
-        ensures { IsSomeAnd result.service (λ lent. (lent.now ≡ service.old) × (lent.ghost_name ≡ service.entry.ghost_name)) }
+        ensures { IsSomeAnd result.service
+            (λ lent. (lent.now ≡ service.old) × (lent.ghost_name ≡ service.entry.ghost_name)) }
     {
         Ready {
             service: Some(service),
@@ -111,16 +113,20 @@ impl<'a, T: Service<Request>, Request: Drop> Future for Ready<'a, T, Request> {
     ghost needs = { λ r source. IsSomeAnd r.service (λ lent. T.needs lent.now source) };
 
     // The future returns the same borrow, of a service that is sound and ready.
-    ghost gives = { λ r out. MayGive (λ old answer new. ReadyStepped T.sound T.ready T.polled old.service answer new.service) r out
+    ghost gives = { λ r out. MayGive (λ old answer new. ReadyStepped T.sound T.ready T.polled
+        old.service answer new.service) r out
         × HandsBack T.sound T.ready r.service out };
 
     fn poll(&mut self, cx: &mut Context<'_>) -> Poll<Result<&'a mut T, T::Error>>
         requires { ⟦<Ready<'a, T, Request> as Future>⟧.can_poll self.old }
-        ensures step { ReadyStepped T.sound T.ready T.polled self.old.service result self.new.service }
+        ensures step { ReadyStepped T.sound T.ready T.polled self.old.service result
+            self.new.service }
         ensures value { IfReady result (⟦<Ready<'a, T, Request> as Future>⟧.gives self.old) }
         ensures again { OnPending result (⟦<Ready<'a, T, Request> as Future>⟧.can_poll self.new) }
-        ensures same { OnPending result ((x : _) → ⟦<Ready<'a, T, Request> as Future>⟧.gives self.new x → ⟦<Ready<'a, T, Request> as Future>⟧.gives self.old x) }
-        ensures registered { OnPending result (Covers cx.new (⟦<Ready<'a, T, Request> as Future>⟧.needs self.new)) }
+        ensures same { OnPending result ((x : _) → ⟦<Ready<'a, T, Request> as Future>⟧.gives
+            self.new x → ⟦<Ready<'a, T, Request> as Future>⟧.gives self.old x) }
+        ensures registered { OnPending result
+            (Covers cx.new (⟦<Ready<'a, T, Request> as Future>⟧.needs self.new)) }
         ensures kept { Keeps cx.old cx.new }
     {
         self.step(cx)
@@ -134,7 +140,8 @@ impl<'a, T: Service<Request>, Request: Drop> Steps for Ready<'a, T, Request> {
 
     ghost needs = { λ r source. IsSomeAnd r.service (λ lent. T.needs lent.now source) };
 
-    ghost stepped = { λ old answer new. ReadyStepped T.sound T.ready T.polled old.service answer new.service };
+    ghost stepped = { λ old answer new. ReadyStepped T.sound T.ready T.polled old.service answer
+        new.service };
 
     fn step(&mut self, cx: &mut Context<'_>) -> Poll<Result<&'a mut T, T::Error>> {
         let Some(lent) = self.service.take() else {

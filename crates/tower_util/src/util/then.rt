@@ -61,7 +61,8 @@ where
     type Future = ThenFuture<S::Future, Fut, F>;
 
     // The futures that the closure returns may be polled.
-    ghost sound = { λ m. S.sound m.inner × F.IsAlwaysCallable m.f × ((x : _) (future : Fut) → F.post m.f x future → Fut.can_poll future) };
+    ghost sound = { λ m. S.sound m.inner × F.IsAlwaysCallable m.f
+        × ((x : _) (future : Fut) → F.post m.f x future → Fut.can_poll future) };
 
     ghost ready = { λ m. S.ready m.inner };
 
@@ -108,19 +109,26 @@ where
     type Output = Result<T, U>;
 
     ghost can_poll = { elim [
-      | First inner f ↦ F1.can_poll inner × N.IsAlwaysCallable f × ((x : Result A E) (second : F2) → N.post f x second → F2.can_poll second)
+      | First inner f ↦ F1.can_poll inner × N.IsAlwaysCallable f
+          × ((x : Result A E) (second : F2) → N.post f x second → F2.can_poll second)
       | Second inner ↦ F2.can_poll inner
       | Done ↦ ⊥
     ] };
 
     ghost gives = { MayGive (ThenStepped F1.stepped N.post F2.stepped) };
 
-    ghost needs = { elim [ First inner f ↦ F1.needs inner | Second inner ↦ F2.needs inner | Done ↦ λ _. ⊥ ] };
+    ghost needs = { elim [
+      | First inner f ↦ F1.needs inner
+      | Second inner ↦ F2.needs inner
+      | Done ↦ λ _. ⊥
+    ] };
 
     #[tactic(auto, using(tower_base::specs::GivesLemmas::one_step))]
     fn poll(&mut self, cx: &mut Context<'_>) -> Poll<Result<T, U>>
         requires { ⟦<ThenFuture<F1, F2, N> as Future>⟧.can_poll self.old }
-        ensures { IsStep (ThenStepped F1.stepped N.post F2.stepped) ⟦<ThenFuture<F1, F2, N> as Future>⟧.can_poll ⟦<ThenFuture<F1, F2, N> as Future>⟧.needs self.old result self.new cx.old cx.new }
+        ensures { IsStep (ThenStepped F1.stepped N.post F2.stepped)
+            ⟦<ThenFuture<F1, F2, N> as Future>⟧.can_poll ⟦<ThenFuture<F1, F2, N> as Future>⟧.needs
+            self.old result self.new cx.old cx.new }
     {
         self.step(cx)
     }
@@ -135,12 +143,17 @@ where
     type Output = Result<T, U>;
 
     ghost can_poll = { elim [
-      | First inner f ↦ F1.can_poll inner × N.IsAlwaysCallable f × ((x : Result A E) (second : F2) → N.post f x second → F2.can_poll second)
+      | First inner f ↦ F1.can_poll inner × N.IsAlwaysCallable f
+          × ((x : Result A E) (second : F2) → N.post f x second → F2.can_poll second)
       | Second inner ↦ F2.can_poll inner
       | Done ↦ ⊥
     ] };
 
-    ghost needs = { elim [ First inner f ↦ F1.needs inner | Second inner ↦ F2.needs inner | Done ↦ λ _. ⊥ ] };
+    ghost needs = { elim [
+      | First inner f ↦ F1.needs inner
+      | Second inner ↦ F2.needs inner
+      | Done ↦ λ _. ⊥
+    ] };
 
     ghost stepped = { ThenStepped F1.stepped N.post F2.stepped };
 

@@ -50,7 +50,8 @@ impl<A, E, P: Drop, F: Steps<Output = Result<A, E>>> Future for ResponseFuture<F
     #[tactic(auto, using(tower_base::specs::GivesLemmas::one_step))]
     fn poll(&mut self, cx: &mut Context<'_>) -> Poll<Result<A, Error<E, P>>>
         requires { ResponseFutureCanPoll F.can_poll self.old }
-        ensures { IsStep (ResponseFutureStepped F.Steps.own) (ResponseFutureCanPoll F.can_poll) (response_future_needs F.needs) self.old result self.new cx.old cx.new }
+        ensures { IsStep (ResponseFutureStepped F.Steps.own) (ResponseFutureCanPoll F.can_poll)
+            (response_future_needs F.needs) self.old result self.new cx.old cx.new }
     {
         self.step(cx)
     }
@@ -121,7 +122,9 @@ where
     #[tactic(auto, using(tower_base::specs::GivesLemmas::one_step))]
     fn poll(&mut self, cx: &mut Context<'_>) -> Poll<Result<S::Response, Error<S::Error, P>>>
         requires { AsyncResponseFutureCanPoll S.Service C.can_poll F.can_poll self.old }
-        ensures { IsStep (AsyncResponseFutureStepped S.Service F.Steps.own C.Steps.own) (AsyncResponseFutureCanPoll S.Service C.can_poll F.can_poll) (async_response_future_needs C.needs F.needs) self.old result self.new cx.old cx.new }
+        ensures { IsStep (AsyncResponseFutureStepped S.Service F.Steps.own C.Steps.own)
+            (AsyncResponseFutureCanPoll S.Service C.can_poll F.can_poll)
+            (async_response_future_needs C.needs F.needs) self.old result self.new cx.old cx.new }
     {
         self.step(cx)
     }

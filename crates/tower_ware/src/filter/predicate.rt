@@ -15,7 +15,8 @@ pub trait Predicate<Request>: Drop {
 
     // A check of the request may return this result and leave the second value. If left out, it isn't
     // known which requests are accepted, nor what the inner service is called with.
-    ghost checked: { Self → Request → Result Self.Request Self.Error → Self → Type 0 } = { λ _ _ _ _. ⊤ };
+    ghost checked: { Self → Request → Result Self.Request Self.Error → Self
+        → Type 0 } = { λ _ _ _ _. ⊤ };
 
     /// Returns the request for the inner service, or an error if it rejects the request.
     fn check(&mut self, request: Request) -> Result<Self::Request, Self::Error>
@@ -37,12 +38,12 @@ pub trait AsyncPredicate<Request>: Drop {
 
     // A check of the request may return this future and leave the second value. If left out, it isn't
     // known which requests are accepted, nor what the inner service is called with.
-    ghost asked: { Self → Request → Self.Future → Self → Type 0 } = { λ _ _ _ _. ⊤ };
+    ghost checked: { Self → Request → Self.Future → Self → Type 0 } = { λ _ _ _ _. ⊤ };
 
     /// Returns a future of the request for the inner service, or of an error if it rejects the request.
     fn check(&mut self, request: Request) -> Self::Future
         requires { sound self.old }
-        ensures asked { asked self.old request result self.new }
+        ensures checked { checked self.old request result self.new }
         ensures sound { sound self.new }
         ensures fresh { Self.Future.can_poll result };
 }
@@ -126,9 +127,10 @@ where
 
     // The closure may be called any number of times, and each future that it returns may be polled.
     ghost sound = { λ p. F.IsAlwaysCallable p
-        × ((f : F) (request : T) (future : U) (g : F) → F.step f request future g → U.can_poll future) };
+        × ((f : F) (request : T) (future : U) (g : F) → F.step f request future g
+        → U.can_poll future) };
 
-    ghost asked = { F.step };
+    ghost checked = { F.step };
 
     fn check(&mut self, request: T) -> U {
         (self.f)(request)

@@ -58,7 +58,9 @@ impl<T, E, F: Steps<Output = Result<T, E>>> Future for ResponseFuture<F> {
     #[tactic(auto, using(tower_base::specs::GivesLemmas::one_step))]
     fn poll(&mut self, cx: &mut Context<'_>) -> Poll<Result<T, Error<E>>>
         requires { IfSome self.old F.can_poll }
-        ensures { IsStep (Stepped F.Steps.own) (λ f. IfSome f F.can_poll) (λ f source. IsSomeAnd f (λ response. F.needs response source)) self.old result self.new cx.old cx.new }
+        ensures { IsStep (Stepped F.Steps.own) (λ f. IfSome f F.can_poll)
+            (λ f source. IsSomeAnd f (λ response. F.needs response source))
+            self.old result self.new cx.old cx.new }
     {
         self.step(cx)
     }

@@ -1,6 +1,6 @@
 //! The layer of `LoadShed`.
 ghost use Rattle.std.specs.Prelude.{◌≡◌};
-ghost use Rattle.tower_ware.specs.LoadShed.{new_of};
+ghost use Rattle.tower_ware.specs.LoadShed.{initial};
 
 use crate::load_shed::LoadShed;
 use std::alloc::AllocError;
@@ -20,7 +20,7 @@ impl LoadShedLayer {
 impl<S> Layer<S> for LoadShedLayer {
     type Service = LoadShed<S>;
 
-    ghost made = { λ _ inner shed. shed ≡ new_of inner };
+    ghost made = { λ _ inner shed. shed ≡ initial inner };
 
     fn layer(&self, service: S) -> Result<LoadShed<S>, AllocError> {
         Ok(LoadShed::new(service))

@@ -37,11 +37,14 @@ impl<F> PickerFn<F> {
 }
 
 impl<S, Req, F: Fn(&Req, &[S]) -> usize + Copy + Drop> Picker<S, Req> for PickerFn<F> {
-    ghost sound = { λ m. ((request : _) (services : _) → 0 < length services.now → F.pre m.f request services)
-        × ((request : _) (services : _) (index : ℕ) → 0 < length services.now → F.post m.f request services index → index < length services.now) };
+    ghost sound = { λ m. ((request : _) (services : _) → 0 < length services.now
+        → F.pre m.f request services)
+        × ((request : _) (services : _) (index : ℕ) → 0 < length services.now
+        → F.post m.f request services index → index < length services.now) };
 
     ghost picked = { λ old request services index new. (new ≡ old)
-        × ((asked : _) × (list : _) × (asked.now ≡ request) × (list.now ≡ services) × F.post old.f asked list index) };
+        × ((asked : _) × (list : _) × (asked.now ≡ request) × (list.now ≡ services)
+        × F.post old.f asked list index) };
 
     fn pick(&mut self, request: &Req, services: &[S]) -> usize {
         (self.f)(request, services)

@@ -71,7 +71,8 @@ where
     #[tactic(auto, using(tower_base::specs::GivesLemmas::one_step))]
     fn poll(&mut self, cx: &mut Context<'_>) -> Poll<Self::Output>
         requires { F.can_poll self.old.response }
-        ensures { IsStep (Stepped F.Steps.own C.Clock) (λ v. F.can_poll v.response) (Needs F.needs C.hears) self.old result self.new cx.old cx.new }
+        ensures { IsStep (Stepped F.Steps.own C.Clock) (λ v. F.can_poll v.response)
+            (Needs F.needs C.hears) self.old result self.new cx.old cx.new }
     {
         self.step(cx)
     }
@@ -96,7 +97,8 @@ where
         ensures step { Stepped F.Steps.own C.Clock self.old result self.new }
         ensures again { OnPending result (F.can_poll self.new.response) }
         ensures registered { OnPending result (Covers cx.new (Needs F.needs C.hears self.new)) }
-        ensures timed { OnPending result ((cx.new.is_woken ≡ true) ⊎ C.wakes_by self.new.clock self.new.deadline cx.new) }
+        ensures timed { OnPending result
+            ((cx.new.is_woken ≡ true) ⊎ C.wakes_by self.new.clock self.new.deadline cx.new) }
         ensures kept { Keeps cx.old cx.new }
     {
         match self.response.step(cx) {

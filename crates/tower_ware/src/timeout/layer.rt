@@ -43,7 +43,8 @@ impl<S, C: Clock> Layer<S> for TimeoutLayer<C> {
 
 /// A clone shares the clock.
 impl<C: Clock> Clone for TimeoutLayer<C> {
-    ghost is_clone = { λ layer copy. C.shared layer.clock copy.clock × (copy.duration ≡ layer.duration) };
+    ghost is_clone = { λ layer copy. C.shared layer.clock copy.clock
+        × (copy.duration ≡ layer.duration) };
 
     ghost is_infallible = { λ _. ⊤ };
 

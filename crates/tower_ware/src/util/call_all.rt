@@ -25,8 +25,12 @@ pub use unordered::CallAllUnordered;
 /// `new` and `unordered` return. If the service's readiness can't return an error, every run is of this
 /// kind.
 pub fn law<Svc: Service<S::Item>, S: Flow>()
-    ensures ordered { (service : _) (requests : S) (kept : _) → InOrder Svc.Service S.Flow.own Svc.Future.Steps.own Svc.Future.can_poll service requests kept }
-    ensures unordered { (service : _) (requests : S) (kept : _) → InAnyOrder Svc.Service S.Flow.own Svc.Future.Steps.own Svc.Future.can_poll service requests kept }
-    ensures calm { Calms Svc.Service S.Flow.own Svc.Future.Steps.own Svc.Future.can_poll (λ s. CallAllFlowed s S.Flow.own Svc.Future.Steps.own Svc.Future.can_poll) }
-    ensures calm_unordered { Calms Svc.Service S.Flow.own Svc.Future.Steps.own Svc.Future.can_poll (λ s. CallAllUnorderedFlowed s S.Flow.own Svc.Future.Steps.own Svc.Future.can_poll) }
+    ensures ordered { (service : _) (requests : S) (kept : _) → InOrder Svc.Service S.Flow.own
+        Svc.Future.Steps.own Svc.Future.can_poll service requests kept }
+    ensures unordered { (service : _) (requests : S) (kept : _) → InAnyOrder Svc.Service S.Flow.own
+        Svc.Future.Steps.own Svc.Future.can_poll service requests kept }
+    ensures calm { Calms Svc.Service S.Flow.own Svc.Future.Steps.own Svc.Future.can_poll
+        (λ s. CallAllFlowed s S.Flow.own Svc.Future.Steps.own Svc.Future.can_poll) }
+    ensures calm_unordered { Calms Svc.Service S.Flow.own Svc.Future.Steps.own Svc.Future.can_poll
+        (λ s. CallAllUnorderedFlowed s S.Flow.own Svc.Future.Steps.own Svc.Future.can_poll) }
 {}

@@ -22,7 +22,7 @@ pub struct HistoCore {
 impl HistoCore {
     ghost use Rattle.std.specs.Prelude.{◌≡◌, ◌<◌, IsTrue, ◌↔◌};
     ghost use Rattle.tower_latch.specs.Latch.{FollowsMachine};
-    ghost use Rattle.tower_limit.specs.Histogram.{Steps, blank, rotated};
+    ghost use Rattle.tower_limit.specs.Histogram.{Steps, initial, rotated};
     ghost use Rattle.tower_limit.specs.declared.hedge.rotating_histogram.steps.HistoStep.TheVariants.{Record, Seed, Points, Quantile};
     ghost use Rattle.tower_limit.specs.declared.hedge.rotating_histogram.steps.HistoReply.TheVariants.{Count, Millis};
     ghost use Rattle.tower_limit.specs.HistoCore.{Changes, Opens, StandsFor};
@@ -31,7 +31,7 @@ impl HistoCore {
     /// positive period, which `fits` tests.
     pub fn new(alloc: Global, period: u64, moment: u64) -> HistoCore
         requires { period ≢ 0 }
-        ensures made { StandsFor result (blank moment period) }
+        ensures made { StandsFor result (initial moment period) }
         ensures opens { Opens result }
     {
         HistoCore {
@@ -100,7 +100,8 @@ impl HistoCore {
 
     #[inline(never)]
     fn quantile(&mut self, moment: u64, part: Fraction) -> u64
-        ensures { FollowsMachine StandsFor Steps self.old (Quantile moment part) (Millis result) self.new }
+        ensures { FollowsMachine StandsFor Steps self.old (Quantile moment part)
+            (Millis result) self.new }
     {
         self.rotate(moment);
         self.read.quantile(part)

@@ -69,7 +69,8 @@ impl Tally {
     /// Returns the latency at the rank that `part` gives, in milliseconds, or 0 if there are no
     /// latencies.
     pub(crate) fn quantile(&self, part: Fraction) -> u64
-        ensures { result ≡ slice_index_or (flat self.now.counts.entries) (rank self.now.total part - 1) 0 }
+        ensures { result
+            ≡ slice_index_or (flat self.now.counts.entries) (rank self.now.total part - 1) 0 }
     {
         if self.total == 0 {
             return 0;

@@ -76,7 +76,8 @@ where
     #[tactic(auto, using(tower_base::specs::GivesLemmas::one_step))]
     fn poll(&mut self, cx: &mut Context<'_>) -> Poll<Self::Output>
         requires { F.can_poll self.old.response }
-        ensures { IsStep (Stepped F.Steps.own) (λ v. F.can_poll v.response) (λ v. F.needs v.response) self.old result self.new cx.old cx.new }
+        ensures { IsStep (Stepped F.Steps.own) (λ v. F.can_poll v.response)
+            (λ v. F.needs v.response) self.old result self.new cx.old cx.new }
     {
         self.step(cx)
     }

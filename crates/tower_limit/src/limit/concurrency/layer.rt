@@ -37,7 +37,8 @@ impl<R> ConcurrencyLimitLayer<R> {
 impl<S: Drop, R: Wait + Copy> Layer<S> for ConcurrencyLimitLayer<R> {
     type Service = ConcurrencyLimit<S, Guarded<LineCore, R>>;
 
-    ghost made = { λ max service made. New ⟦<Guarded<LineCore, R> as Latch<LineCore>>⟧.terms service max made };
+    ghost made = { λ max service made. New ⟦<Guarded<LineCore, R> as Latch<LineCore>>⟧.terms
+        service max made };
 
     fn layer(&self, service: S) -> Result<Self::Service, AllocError> {
         ConcurrencyLimit::new(self.rt, self.alloc, service, self.max)
@@ -69,7 +70,8 @@ impl<R: Wait + Copy> GlobalConcurrencyLimitLayer<Guarded<LineCore, R>> {
     /// `AllocError` if allocation fails.
     pub fn new(rt: R, alloc: Global, max: usize) -> Result<Self, AllocError>
         ensures max { IfOk result (λ made. made.max ≡ max) }
-        ensures terms { IfOk result (λ made. ⟦<Guarded<LineCore, R> as Latch<LineCore>>⟧.terms made.latch ≡ max) }
+        ensures terms { IfOk result
+            (λ made. ⟦<Guarded<LineCore, R> as Latch<LineCore>>⟧.terms made.latch ≡ max) }
     {
         let semaphore = Semaphore::new(rt, alloc, max)?;
         Ok(GlobalConcurrencyLimitLayer::with_semaphore(semaphore))

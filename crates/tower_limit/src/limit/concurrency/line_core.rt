@@ -3,7 +3,7 @@ ghost use Rattle.std.specs.Prelude.{◌≡◌, ◌<◌, ◌≤◌, ◌+◌, ◌^
 ghost use Rattle.tower_latch.specs.WaitQueue.{granted, waiting};
 
 use std::alloc::{AllocError, Global};
-use tower_latch::wait_queue::{Turn, WaitQueue};
+use tower_latch::wait_queue::{WaitQueue, WaitState};
 use tower_latch::{Core, Wakes};
 
 /// A step of a `LineCore`.
@@ -54,12 +54,12 @@ impl LineCore {
     ghost use Rattle.std.specs.Prelude.{false, true};
     ghost use Rattle.tower_latch.specs.Wakes.{NamesAll, OneGoesOn};
     ghost use Rattle.tower_latch.specs.WaitQueue.{stalls};
-    ghost use Rattle.tower_limit.specs.Line.{blank, is_waiting, key_of};
+    ghost use Rattle.tower_limit.specs.Line.{initial, is_waiting, key_of};
     ghost use Rattle.tower_limit.specs.LineCore.{Follows, StandsFor};
 
     /// Creates a line of `max` permits, all free. Any number is allowed, including 0.
     pub fn new(alloc: Global, max: usize) -> LineCore
-        ensures { StandsFor result (blank max) }
+        ensures { StandsFor result (initial max) }
     {
         LineCore {
             max,
@@ -94,12 +94,12 @@ impl LineCore {
         ensures told { stalls self.old.queue key → is_waiting result.0 ≡ true }
     {
         match self.queue.look(key) {
-            Turn::Granted => {
+            WaitState::Granted => {
                 self.held += 1;
                 (LineReply::Granted, Wakes::Nobody)
             }
-            Turn::Waiting => (LineReply::Waiting(key), Wakes::Wait(key as usize)),
-            Turn::Unknown => (LineReply::Unknown, Wakes::Nobody),
+            WaitState::Waiting => (LineReply::Waiting(key), Wakes::Wait(key as usize)),
+            WaitState::Unknown => (LineReply::Unknown, Wakes::Nobody),
         }
     }
 
@@ -190,7 +190,8 @@ impl Core for LineCore {
         ensures waits { is_waiting result.0 ≡ true → result.1 ≡ Wakes.Wait (key_of result.0) }
         ensures names { NamesAll queue_stalls self.old.queue self.new.queue result.1 }
         ensures one { OneGoesOn queue_stalls self.new.queue result.1 }
-        ensures told { (key : ℕ) → Asks step key → queue_stalls self.old.queue key → is_waiting result.0 ≡ true }
+        ensures told { (key : ℕ) → Asks step key → queue_stalls self.old.queue key
+            → is_waiting result.0 ≡ true }
         ensures touches { touches self.new ≤ touches self.old + 6 }
     {
         match step {

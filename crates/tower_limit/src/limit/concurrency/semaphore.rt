@@ -31,7 +31,8 @@ impl<R: Wait + Copy> Semaphore<Guarded<LineCore, R>> {
     /// 0. Returns `AllocError` if allocation fails.
     pub fn new(rt: R, alloc: Global, max: usize) -> Result<Self, AllocError>
         ensures max { IfOk result (λ made. made.max ≡ max) }
-        ensures terms { IfOk result (λ made. ⟦<Guarded<LineCore, R> as Latch<LineCore>>⟧.terms made.latch ≡ max) }
+        ensures terms { IfOk result
+            (λ made. ⟦<Guarded<LineCore, R> as Latch<LineCore>>⟧.terms made.latch ≡ max) }
     {
         let core = LineCore::new(alloc, max);
         let latch = Guarded::new(rt, alloc, core)?;
@@ -112,9 +113,9 @@ struct Placed<L: Latch<LineCore>> {
 }
 
 // The token is one of the latch's core.
-struct IsIts;
+struct IsOfLatch;
 
-impl<L: Latch<LineCore>> Fact<Placed<L>> for IsIts {
+impl<L: Latch<LineCore>> Fact<Placed<L>> for IsOfLatch {
     ghost holds = { λ place. L.its place.latch place.token };
 }
 
@@ -131,7 +132,7 @@ impl<L: Latch<LineCore>> Permit<L> {
         ensures one { places result ≡ 1 }
     {
         let Permit { place } = self;
-        let Placed { latch: _, token } = open::<Placed<L>, IsIts>(place);
+        let Placed { latch: _, token } = open::<Placed<L>, IsOfLatch>(place);
         token
     }
 
@@ -142,7 +143,7 @@ impl<L: Latch<LineCore>> Permit<L> {
         ensures { (reply : _) × L.gave self.latch LineStep.Release reply }
     {
         let Permit { place } = self;
-        let Placed { latch, token } = open::<Placed<L>, IsIts>(place);
+        let Placed { latch, token } = open::<Placed<L>, IsOfLatch>(place);
         latch.give(LineStep::Release, token).1.end();
     }
 }
@@ -196,7 +197,8 @@ impl<L: Latch<LineCore>> PollSemaphore<L> {
     pub fn poll_acquire(&mut self, cx: &mut Context<'_>) -> Poll<Result<Permit<L>, AllocError>>
         ensures acquired { Acquired L.Latch self.old result self.new }
         ensures armed { OnPending result (IsArmed cx.new) }
-        ensures heard { OnPending result ((s : ℕ) → L.source self.new.semaphore.latch s → Hears cx.new s) }
+        ensures heard { OnPending result
+            ((s : ℕ) → L.source self.new.semaphore.latch s → Hears cx.new s) }
         ensures kept { Keeps cx.old cx.new }
     {
         let Ok(latch) = self.semaphore.latch.share() else {
@@ -234,7 +236,8 @@ impl<L: Latch<LineCore>> PollSemaphore<L> {
 /// Dropping one that still waits cancels its wait by one step at the latch.
 impl<L: Latch<LineCore>> Drop for PollSemaphore<L> {
     fn drop(self)
-        ensures { IfSome self.key (λ key. (reply : _) × L.gave self.semaphore.latch (LineStep.Cancel key) reply) }
+        ensures { IfSome self.key
+            (λ key. (reply : _) × L.gave self.semaphore.latch (LineStep.Cancel key) reply) }
     {
         if let Some(key) = self.key {
             self.semaphore.latch.step(LineStep::Cancel(key));

@@ -1,6 +1,6 @@
 //! A service with a limit on the calls in flight.
 ghost use Rattle.std.specs.Prelude.{◌≡◌, ◌⊎◌, IfErr, IfOk, IsSome, Err, MatchResult};
-ghost use Rattle.tower_limit.specs.Concurrency.{ConcurrencyLimitView, Needs, Polled, Called, IsClone, New, idle};
+ghost use Rattle.tower_limit.specs.Concurrency.{ConcurrencyLimitView, Needs, Polled, Called, IsClone, New, initial};
 ghost use Rattle.tower_limit.specs.ConcurrencyReady.{ready_after};
 ghost use Rattle.tower_base.specs.ServiceRun.{relations};
 ghost use Rattle.tower_base.specs.Projection.{Once, Projects};
@@ -42,7 +42,8 @@ impl<S: Drop, R: Wait + Copy> ConcurrencyLimit<S, Guarded<LineCore, R>> {
     /// Creates a service with at most `max` calls in flight. Returns `AllocError` and drops `inner` if
     /// allocation fails.
     pub fn new(rt: R, alloc: Global, inner: S, max: usize) -> Result<Self, AllocError>
-        ensures { IfOk result (λ made. New ⟦<Guarded<LineCore, R> as Latch<LineCore>>⟧.terms inner max made) }
+        ensures { IfOk result
+            (λ made. New ⟦<Guarded<LineCore, R> as Latch<LineCore>>⟧.terms inner max made) }
     {
         let semaphore = Semaphore::new(rt, alloc, max)?;
         Ok(ConcurrencyLimit::with_semaphore(inner, semaphore))
@@ -53,7 +54,7 @@ impl<S, L: Latch<LineCore>> ConcurrencyLimit<S, L> {
     /// Creates a service over the caller's semaphore. Its calls in flight are counted together with
     /// those of the semaphore's other shares.
     pub fn with_semaphore(inner: S, semaphore: Semaphore<L>) -> ConcurrencyLimit<S, L>
-        ensures { result ≡ idle inner semaphore }
+        ensures { result ≡ initial inner semaphore }
     {
         ConcurrencyLimit {
             inner,
@@ -104,7 +105,8 @@ impl<Request, S: Service<Request>, L: Latch<LineCore>> Service<Request> for Conc
 
 /// States that each call makes one call of the inner service, with the same request.
 pub fn projection<Request, S: Service<Request>, L: Latch<LineCore>>()
-    ensures { Projects (relations ⟦<ConcurrencyLimit<S, L> as Service<Request>>⟧) (relations S.Service) (λ l. l.inner) Once }
+    ensures { Projects (relations ⟦<ConcurrencyLimit<S, L> as Service<Request>>⟧)
+        (relations S.Service) (λ l. l.inner) Once }
 {}
 
 /// A `ConcurrencyLimit` contains what its inner service contains.
@@ -118,7 +120,8 @@ where
 
     ghost goes = { S.goes };
 
-    ghost projects = { composed_once _ _ _ (λ l. l.inner) S.inside S.goes (concurrency_limit _ _) S.projects };
+    ghost projects = { composed_once _ _ _ (λ l. l.inner) S.inside S.goes (concurrency_limit _ _)
+        S.projects };
 }
 
 /// A clone shares the semaphore. It holds no permit and doesn't wait. Cloning fails if the inner
@@ -128,7 +131,8 @@ impl<S: Clone, L: Latch<LineCore>> Clone for ConcurrencyLimit<S, L> {
 
     fn clone(&self) -> Result<ConcurrencyLimit<S, L>, AllocError>
         ensures cases { MatchResult result (IsClone L.Latch S.is_clone self.now) (λ _. ¬ ⊥) }
-        ensures refused { IfErr result (λ e. (¬ (S.is_infallible self.now.inner)) ⊎ L.shares self.now.asking.semaphore.latch (Err e)) }
+        ensures refused { IfErr result (λ e. (¬ (S.is_infallible self.now.inner))
+            ⊎ L.shares self.now.asking.semaphore.latch (Err e)) }
     {
         let inner = self.inner.clone()?;
         let semaphore = self.asking.share()?;

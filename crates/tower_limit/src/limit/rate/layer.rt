@@ -48,7 +48,8 @@ impl<S: Drop, C: Clock> Layer<S> for RateLimitLayer<C> {
 
 /// A clone shares the clock.
 impl<C: Clock> Clone for RateLimitLayer<C> {
-    ghost is_clone = { λ layer copy. (copy.num ≡ layer.num) × (copy.per ≡ layer.per) × C.shared layer.clock copy.clock };
+    ghost is_clone = { λ layer copy. (copy.num ≡ layer.num) × (copy.per ≡ layer.per)
+        × C.shared layer.clock copy.clock };
 
     fn clone(&self) -> Result<RateLimitLayer<C>, AllocError> {
         Ok(RateLimitLayer {

@@ -1,6 +1,6 @@
 //! The call moments of a rate limit.
 ghost use Rattle.std.specs.Prelude.{◌≡◌, ◌≢◌, ◌≤◌, ◌<◌, ℕ, true, false, length, nat_eq, nat_le, IfOk, IsErr};
-ghost use Rattle.tower_limit.specs.Rate.{RateCoreView, Calls, StandsFor, Stands, opening, is_limited, passes, may_call, after_poll, after_call};
+ghost use Rattle.tower_limit.specs.Rate.{RateCoreView, Calls, StandsFor, Stands, initial, is_limited, passes, may_call, after_poll, after_call};
 
 use crate::limit::rate::Rate;
 use circular_buffer::HeapCircularBuffer;
@@ -23,17 +23,23 @@ pub struct RateCore {
 impl Model for RateCore {
     ghost Value = { RateCoreView };
 
-    ghost view = { λ c. record { num = c.rate.num; per = c.rate.per; kept = c.moments.items; passed = c.passed } };
+    ghost view = { λ c. record {
+      num = c.rate.num;
+      per = c.rate.per;
+      kept = c.moments.items;
+      passed = c.passed;
+    } };
 
     // There is room for the last `num` moments, and no more of them are kept.
-    ghost invariant = { λ c. (c.moments.capacity ≡ c.rate.num) × (length c.moments.items ≤ c.rate.num) };
+    ghost invariant = { λ c. (c.moments.capacity ≡ c.rate.num)
+        × (length c.moments.items ≤ c.rate.num) };
 }
 
 impl RateCore {
     /// Creates a core without calls. Returns `AllocError` if allocation of `num` moments of 8 bytes
     /// fails, and also, without trying it, if these are more than `2^63 - 1` bytes.
     pub fn new(alloc: Global, rate: Rate) -> Result<RateCore, AllocError>
-        ensures made { IfOk result (λ core. StandsFor core (opening rate.num rate.per)) }
+        ensures made { IfOk result (λ core. StandsFor core (initial rate.num rate.per)) }
         ensures refused { 1152921504606846975 < rate.num → IsErr result }
     {
         if rate.num > MOST_KEPT {
@@ -60,7 +66,8 @@ impl RateCore {
 
     /// Returns the moment from which a poll passes. It is 0 if fewer than `num` calls were made.
     pub fn opens(&self) -> u128
-        ensures { (plain : Calls) → StandsFor self.now plain → (moment : ℕ) → passes plain moment ≡ nat_le result moment }
+        ensures { (plain : Calls) → StandsFor self.now plain
+            → (moment : ℕ) → passes plain moment ≡ nat_le result moment }
     {
         match self.moments.get((self.rate.num - 1) as usize) {
             Some(call) => *call as u128 + self.rate.per as u128,
@@ -80,7 +87,8 @@ impl RateCore {
     #[tactic(auto, using(crate::proofs::RateStands::open_may))]
     pub fn poll(&mut self, moment: u64) -> bool
         ensures passes { (plain : Calls) → StandsFor self.old plain → result ≡ passes plain moment }
-        ensures pass { (plain : Calls) → StandsFor self.old plain → StandsFor self.new (after_poll plain moment) }
+        ensures pass { (plain : Calls) → StandsFor self.old plain
+            → StandsFor self.new (after_poll plain moment) }
         ensures may { result ≡ true → Stands self.new (λ plain. may_call plain ≡ true) }
         ensures noted { self.new ≡ record self.old { passed = result } }
     {
@@ -91,7 +99,8 @@ impl RateCore {
     /// Counts a call and closes the pass.
     pub fn call(&mut self, moment: u64)
         requires { Stands self.old (λ plain. may_call plain ≡ true) }
-        ensures { (plain : Calls) → StandsFor self.old plain → StandsFor self.new (after_call plain moment) }
+        ensures { (plain : Calls) → StandsFor self.old plain
+            → StandsFor self.new (after_call plain moment) }
     {
         let _oldest = self.moments.push_front(moment);
         self.passed = false;

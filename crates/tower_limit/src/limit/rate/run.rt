@@ -1,7 +1,7 @@
 //! Rate limits over whole runs of the stacks that contain them. The Rust has no such module.
 ghost use Rattle.std.specs.Prelude.{IfOk};
 ghost use Rattle.futures.specs.Task.{Keeps};
-ghost use Rattle.tower_base.specs.Drive.{Run, opening};
+ghost use Rattle.tower_base.specs.Drive.{Run, initial};
 ghost use Rattle.tower_base.specs.Projection.{Once, Projects};
 ghost use Rattle.tower_base.specs.ProjectionLemmas.{itself};
 ghost use Rattle.tower_base.specs.ServiceRun.{relations, made};
@@ -21,7 +21,8 @@ use tower_base::service::{Clock, Monotonic, Service};
 pub fn law<Request, S: Service<Request>, C: Clock>()
     ensures bounded { RunsBounded S.Service C.Clock }
     ensures forward { RunsForward S.Service C.Clock }
-    ensures inside { Projects (relations ⟦<RateLimit<S, C> as Service<Request>>⟧) (relations S.Service) (λ l. l.inner) Once }
+    ensures inside { Projects (relations ⟦<RateLimit<S, C> as Service<Request>>⟧)
+        (relations S.Service) (λ l. l.inner) Once }
 {}
 
 /// A rate limit contains itself.
@@ -54,8 +55,10 @@ where
     requires sound { W.sound stack }
     requires outside { O.IsAlwaysCallable outside }
     ensures run { IfOk result (λ transcript. (last : _)
-        × Run W.Service W.Future.stepped O.step (opening stack outside) events.items transcript.entries.items last) }
-    ensures rate { IfOk result (λ transcript. KeepsRate S.Service C.Clock W.goes (W.inside stack) (made events.items transcript.entries.items)) }
+        × Run W.Service W.Future.stepped O.step (initial stack outside)
+        events.items transcript.entries.items last) }
+    ensures rate { IfOk result (λ transcript. KeepsRate S.Service C.Clock W.goes (W.inside stack)
+        (made events.items transcript.entries.items)) }
     ensures kept { Keeps cx.old cx.new }
 {
     run::inside::<Request, Passed, RateLimit<S, C>, W, T, U, O>();

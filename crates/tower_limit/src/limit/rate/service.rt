@@ -67,7 +67,8 @@ impl<Request, S: Service<Request>, C: Clock> Service<Request> for RateLimit<S, C
         ensures polled { Polled S.Service C.Clock self.old result self.new }
         ensures sound { S.sound self.new.inner }
         ensures armed { OnPending result (IsArmed cx.new) }
-        ensures heard { OnPending result ((s : ℕ) → Needs S.needs C.hears self.new s → Hears cx.new s) }
+        ensures heard { OnPending result
+            ((s : ℕ) → Needs S.needs C.hears self.new s → Hears cx.new s) }
         ensures timed { WokenInTime C.Clock self.old self.new cx.new }
         ensures kept { Keeps cx.old cx.new }
     {

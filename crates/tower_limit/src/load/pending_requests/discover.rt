@@ -82,7 +82,8 @@ impl<D: Discover, R: Wait + Copy, C: Copy> Discover for PendingRequestsDiscover<
 
     ghost sound = { λ p. D.sound p.discover };
 
-    ghost discovered = { Discovered ⟦<Guarded<CountCore, R> as Latch<CountCore>>⟧.is_first D.discovered };
+    ghost discovered = { Discovered ⟦<Guarded<CountCore, R> as Latch<CountCore>>⟧.is_first
+        D.discovered };
 
     ghost needs = { λ p. D.needs p.discover };
 

@@ -34,14 +34,19 @@ pub struct PendingRequests<S, L, C = CompleteOnResponse> {
 impl<S, L, C> Model for PendingRequests<S, L, C> {
     ghost Value = { PendingRequestsView S L C };
 
-    ghost view = { λ p. record { service = p.service; latch = p.latch; completion = p.completion } };
+    ghost view = { λ p. record {
+      service = p.service;
+      latch = p.latch;
+      completion = p.completion;
+    } };
 }
 
 impl<S: Drop, R: Wait + Copy, C: Drop> PendingRequests<S, Guarded<CountCore, R>, C> {
     /// Creates a service with no pending requests. Returns `AllocError` and drops `service` if
     /// allocation fails.
     pub fn new(rt: R, alloc: Global, service: S, completion: C) -> Result<Self, AllocError>
-        ensures { IfOk result (λ made. New ⟦<Guarded<CountCore, R> as Latch<CountCore>>⟧.is_first service completion made) }
+        ensures { IfOk result (λ made. New ⟦<Guarded<CountCore, R> as Latch<CountCore>>⟧.is_first
+            service completion made) }
     {
         let latch = Guarded::new(rt, alloc, CountCore::new())?;
         Ok(PendingRequests::with_latch(service, completion, latch))
@@ -115,7 +120,8 @@ where
     S: Service<Request>,
     L: Latch<CountCore>,
     C: TrackCompletion<Handle<L>, S::Response>,
-    ensures { Projects (relations ⟦<PendingRequests<S, L, C> as Service<Request>>⟧) (relations S.Service) (λ p. p.service) Once }
+    ensures { Projects (relations ⟦<PendingRequests<S, L, C> as Service<Request>>⟧)
+        (relations S.Service) (λ p. p.service) Once }
 {}
 
 /// A `PendingRequests` contains what its inner service contains.
@@ -130,5 +136,6 @@ where
 
     ghost goes = { S.goes };
 
-    ghost projects = { composed_once _ _ _ (λ p. p.service) S.inside S.goes (pending_requests _ _) S.projects };
+    ghost projects = { composed_once _ _ _ (λ p. p.service) S.inside S.goes (pending_requests _ _)
+        S.projects };
 }

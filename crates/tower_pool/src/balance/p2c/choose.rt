@@ -68,7 +68,8 @@ where
     K: Eq + Hash + Clone + Drop,
     S: Service<Req> + Load,
     R: Rng,
-    ensures { Picked S.loaded S.Metric.partial_cmp R.drew services.now.lists.ready rng.old result rng.new }
+    ensures { Picked S.loaded S.Metric.partial_cmp R.drew services.now.lists.ready rng.old
+        result rng.new }
 {
     let count = services.ready_len();
     if count == 0 {

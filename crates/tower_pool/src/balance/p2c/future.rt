@@ -47,7 +47,8 @@ impl<A, E, X, F: Steps<Output = Result<A, E>>> Future for ResponseFuture<F, X> {
     #[tactic(auto, using(tower_base::specs::GivesLemmas::one_step))]
     fn poll(&mut self, cx: &mut Context<'_>) -> Poll<Result<A, Error<E, X>>>
         requires { CanPoll F.can_poll self.old }
-        ensures { IsStep (Stepped F.Steps.own) (CanPoll F.can_poll) (needs_of F.needs) self.old result self.new cx.old cx.new }
+        ensures { IsStep (Stepped F.Steps.own) (CanPoll F.can_poll) (needs_of F.needs)
+            self.old result self.new cx.old cx.new }
     {
         self.step(cx)
     }

@@ -80,7 +80,8 @@ where
 
     ghost called = { Called M.Service R.is_clone };
 
-    ghost readies = { λ old new p. M.readies old.maker new.maker (let e = answered_ok Inner p.inner tt p.answers in Prim.rw e at p.polled) };
+    ghost readies = { λ old new p. M.readies old.maker new.maker
+        (let e = answered_ok Inner p.inner tt p.answers in Prim.rw e at p.polled) };
 
     fn poll_ready(&mut self, cx: &mut Context<'_>) -> Poll<Result<(), MakeError<E>>> {
         match self.maker.poll_ready(cx) {
@@ -157,7 +158,8 @@ where
     #[tactic(auto, using(tower_base::specs::GivesLemmas::one_step))]
     fn poll(&mut self, cx: &mut Context<'_>) -> Poll<Self::Output>
         requires { CanPoll F.can_poll self.old }
-        ensures { IsStep (Stepped F.Steps.own) (CanPoll F.can_poll) (needs_of F.needs) self.old result self.new cx.old cx.new }
+        ensures { IsStep (Stepped F.Steps.own) (CanPoll F.can_poll) (needs_of F.needs)
+            self.old result self.new cx.old cx.new }
     {
         self.step(cx)
     }

@@ -2,10 +2,10 @@
 ghost use Rattle.std.specs.Prelude.{◌≡◌, ◌↔◌, ℕ, Ok, IfSome, IsTrue, OnOk, [], false};
 ghost use Rattle.futures.specs.Poll.{OnPending};
 ghost use Rattle.futures.specs.Task.{Hears, IsArmed, Keeps};
-ghost use Rattle.tower_base.specs.LastPass.{AnsweredOrWoken};
+ghost use Rattle.tower_base.specs.LastIteration.{AnsweredOrWoken};
 ghost use Rattle.tower_base.specs.Rng.{New};
 ghost use Rattle.tower_limit.specs.Discover.{MayInsert};
-ghost use Rattle.tower_pool.specs.Balance.{AfterChanges, Called, Changed, Chooses, Chosen, Inserted, IsReady, Needs, Pass, Polled, Reads, ReadsAll, Sound, count_of, fresh, view_of};
+ghost use Rattle.tower_pool.specs.Balance.{AfterChanges, Called, Changed, Chooses, Chosen, Inserted, IsReady, Needs, Iteration, Polled, Reads, ReadsAll, Sound, count_of, initial, view_of};
 ghost use Rattle.tower_pool.specs.BalanceReady.{polled_ok};
 ghost use Rattle.tower_pool.specs.ReadyCache.{HeardFrom, MayRefuse};
 
@@ -58,8 +58,10 @@ where
     /// doesn't allocate yet.
     pub fn new(alloc: Global, discover: D) -> Balance<D, HasherRng, Req>
         requires { (x y : K) → K.is_clone x y → y ≡ x }
-        ensures parts { (rng : _) × New rng × (view_of result ≡ fresh discover rng) }
-        ensures sound { D.sound discover → ((key : K) (service : S) → MayInsert D.discovered discover key service → S.sound service) → Sound D.sound D.discovered S.sound (view_of result) }
+        ensures parts { (rng : _) × New rng × (view_of result ≡ initial discover rng) }
+        ensures sound { D.sound discover
+            → ((key : K) (service : S) → MayInsert D.discovered discover key service
+            → S.sound service) → Sound D.sound D.discovered S.sound (view_of result) }
     {
         Balance::from_rng(alloc, discover, HasherRng::new())
     }
@@ -74,8 +76,10 @@ where
     /// Creates a balancer that draws by `rng`. It doesn't allocate yet.
     pub fn from_rng(alloc: Global, discover: D, rng: R) -> Balance<D, R, Req>
         requires { (x y : K) → K.is_clone x y → y ≡ x }
-        ensures parts { view_of result ≡ fresh discover rng }
-        ensures sound { D.sound discover → ((key : K) (service : S) → MayInsert D.discovered discover key service → S.sound service) → Sound D.sound D.discovered S.sound (view_of result) }
+        ensures parts { view_of result ≡ initial discover rng }
+        ensures sound { D.sound discover
+            → ((key : K) (service : S) → MayInsert D.discovered discover key service
+            → S.sound service) → Sound D.sound D.discovered S.sound (view_of result) }
     {
         Balance {
             discover,
@@ -114,7 +118,8 @@ where
     fn insert(&mut self, key: K, service: S) -> Option<Answer<S::Error, X>>
         requires sound { Sound D.sound D.discovered S.sound (view_of self.old) }
         requires inserted { S.sound service }
-        ensures inserted { Inserted D.discovered K.eq (view_of self.old) key service result (view_of self.new) }
+        ensures inserted { Inserted D.discovered K.eq (view_of self.old)
+            key service result (view_of self.new) }
         ensures excused { IfSome result (λ _. MayRefuse K.eq K.Clone self.old.services key) }
         ensures sound { Sound D.sound D.discovered S.sound (view_of self.new) }
     {
@@ -127,13 +132,15 @@ where
         }
     }
 
-    // Makes one pass of reading the discovery. Returns an answer, or `None` to go on with the next pass.
+    // Makes one iteration of reading the discovery. Returns an answer, or `None` to go on with the next iteration.
     fn read(&mut self, cx: &mut Context<'_>) -> Option<Answer<S::Error, X>>
         requires { Sound D.sound D.discovered S.sound (view_of self.old) }
         ensures read { Reads D.discovered K.eq (view_of self.old) result (view_of self.new) }
         ensures sound { Sound D.sound D.discovered S.sound (view_of self.new) }
-        ensures armed { IfSome result (λ answer. OnOk answer (self.new.is_over ≡ false → IsArmed cx.new)) }
-        ensures heard { IfSome result (λ answer. OnOk answer (self.new.is_over ≡ false → (s : ℕ) → D.needs self.new.discover s → Hears cx.new s)) }
+        ensures armed { IfSome result
+            (λ answer. OnOk answer (self.new.is_over ≡ false → IsArmed cx.new)) }
+        ensures heard { IfSome result (λ answer. OnOk answer
+            (self.new.is_over ≡ false → (s : ℕ) → D.needs self.new.discover s → Hears cx.new s)) }
         ensures kept { Keeps cx.old cx.new }
     {
         match self.discover.poll_discover(cx) {
@@ -155,10 +162,12 @@ where
     fn read_all(&mut self, cx: &mut Context<'_>) -> Answer<S::Error, X>
         requires { Sound D.sound D.discovered S.sound (view_of self.old) }
         ensures read { ReadsAll D.discovered K.eq (view_of self.old) result (view_of self.new) }
-        ensures woken { self.old.is_over ≡ false → AnsweredOrWoken (Reads D.discovered K.eq) (view_of self.old) result (view_of self.new) cx.new.is_woken }
+        ensures woken { self.old.is_over ≡ false → AnsweredOrWoken (Reads D.discovered K.eq)
+            (view_of self.old) result (view_of self.new) cx.new.is_woken }
         ensures sound { Sound D.sound D.discovered S.sound (view_of self.new) }
         ensures armed { OnOk result (self.new.is_over ≡ false → IsArmed cx.new) }
-        ensures heard { OnOk result (self.new.is_over ≡ false → (s : ℕ) → D.needs self.new.discover s → Hears cx.new s) }
+        ensures heard { OnOk result
+            (self.new.is_over ≡ false → (s : ℕ) → D.needs self.new.discover s → Hears cx.new s) }
         ensures kept { Keeps cx.old cx.new }
     {
         if self.is_over {
@@ -179,7 +188,8 @@ where
         ensures changed { Changed D.discovered K.eq (view_of self.old) result (view_of self.new) }
         ensures sound { Sound D.sound D.discovered S.sound (view_of self.new) }
         ensures armed { OnOk result (self.new.is_over ≡ false → IsArmed cx.new) }
-        ensures heard { OnOk result (self.new.is_over ≡ false → (s : ℕ) → D.needs self.new.discover s → Hears cx.new s) }
+        ensures heard { OnOk result
+            (self.new.is_over ≡ false → (s : ℕ) → D.needs self.new.discover s → Hears cx.new s) }
         ensures kept { Keeps cx.old cx.new }
     {
         match self.change.take() {
@@ -205,10 +215,12 @@ where
     // Keeps the index that is picked. If none is, the poll is pending.
     fn choose(&mut self, cx: &mut Context<'_>) -> Option<Poll<Answer<S::Error, X>>>
         requires { Sound D.sound D.discovered S.sound (view_of self.old) }
-        ensures chosen { Chooses K.eq S.Service S.loaded S.Metric.partial_cmp R.drew (view_of self.old) result (view_of self.new) }
+        ensures chosen { Chooses K.eq S.Service S.loaded S.Metric.partial_cmp R.drew
+            (view_of self.old) result (view_of self.new) }
         ensures sound { Sound D.sound D.discovered S.sound (view_of self.new) }
         ensures armed { IfSome result (λ answer. OnPending answer (IsArmed cx.new)) }
-        ensures heard { HeardFrom S.needs cx.old 0 self.old.services.lists.pending → HeardFrom S.needs cx.new 0 self.new.services.lists.pending }
+        ensures heard { HeardFrom S.needs cx.old 0 self.old.services.lists.pending
+            → HeardFrom S.needs cx.new 0 self.new.services.lists.pending }
         ensures discover { self.new.discover ≡ self.old.discover }
         ensures over { self.new.is_over ≡ self.old.is_over }
         ensures kept { Keeps cx.old cx.new }
@@ -223,13 +235,15 @@ where
         }
     }
 
-    // Makes one pass of choosing. Returns an answer, or `None` to go on with the next pass.
+    // Makes one iteration of choosing. Returns an answer, or `None` to go on with the next iteration.
     fn pass(&mut self, cx: &mut Context<'_>) -> Option<Poll<Answer<S::Error, X>>>
         requires { Sound D.sound D.discovered S.sound (view_of self.old) }
-        ensures pass { Pass K.eq S.Service S.loaded S.Metric.partial_cmp R.drew (view_of self.old) result (view_of self.new) }
+        ensures pass { Iteration K.eq S.Service S.loaded S.Metric.partial_cmp R.drew
+            (view_of self.old) result (view_of self.new) }
         ensures sound { Sound D.sound D.discovered S.sound (view_of self.new) }
         ensures armed { IfSome result (λ answer. OnPending answer (IsArmed cx.new)) }
-        ensures heard { HeardFrom S.needs cx.old 0 self.old.services.lists.pending → HeardFrom S.needs cx.new 0 self.new.services.lists.pending }
+        ensures heard { HeardFrom S.needs cx.old 0 self.old.services.lists.pending
+            → HeardFrom S.needs cx.new 0 self.new.services.lists.pending }
         ensures discover { self.new.discover ≡ self.old.discover }
         ensures over { self.new.is_over ≡ self.old.is_over }
         ensures kept { Keeps cx.old cx.new }
@@ -247,10 +261,12 @@ where
     // Checks and chooses, until a ready endpoint is kept or none is left.
     fn settle(&mut self, cx: &mut Context<'_>) -> Poll<Answer<S::Error, X>>
         requires { Sound D.sound D.discovered S.sound (view_of self.old) }
-        ensures chosen { Chosen K.eq S.Service S.loaded S.Metric.partial_cmp R.drew (view_of self.old) result (view_of self.new) }
+        ensures chosen { Chosen K.eq S.Service S.loaded S.Metric.partial_cmp R.drew
+            (view_of self.old) result (view_of self.new) }
         ensures sound { Sound D.sound D.discovered S.sound (view_of self.new) }
         ensures armed { OnPending result (IsArmed cx.new) }
-        ensures heard { HeardFrom S.needs cx.old 0 self.old.services.lists.pending → HeardFrom S.needs cx.new 0 self.new.services.lists.pending }
+        ensures heard { HeardFrom S.needs cx.old 0 self.old.services.lists.pending
+            → HeardFrom S.needs cx.new 0 self.new.services.lists.pending }
         ensures discover { self.new.discover ≡ self.old.discover }
         ensures over { self.new.is_over ≡ self.old.is_over }
         ensures kept { Keeps cx.old cx.new }
@@ -273,10 +289,12 @@ where
     // Does what follows the changes: the promotion, and then the choosing.
     fn serve(&mut self, cx: &mut Context<'_>) -> Poll<Answer<S::Error, X>>
         requires { Sound D.sound D.discovered S.sound (view_of self.old) }
-        ensures served { AfterChanges K.eq S.Service S.loaded S.Metric.partial_cmp R.drew (Ok tt) (view_of self.old) result (view_of self.new) }
+        ensures served { AfterChanges K.eq S.Service S.loaded S.Metric.partial_cmp R.drew (Ok tt)
+            (view_of self.old) result (view_of self.new) }
         ensures sound { Sound D.sound D.discovered S.sound (view_of self.new) }
         ensures armed { OnPending result (IsArmed cx.new) }
-        ensures heard { OnPending result (HeardFrom S.needs cx.new 0 self.new.services.lists.pending) }
+        ensures heard { OnPending result
+            (HeardFrom S.needs cx.new 0 self.new.services.lists.pending) }
         ensures discover { self.new.discover ≡ self.old.discover }
         ensures over { self.new.is_over ≡ self.old.is_over }
         ensures kept { Keeps cx.old cx.new }
@@ -306,22 +324,26 @@ where
 
     ghost ready = { λ b. IsReady S.ready (view_of b) };
 
-    ghost polled = { λ old answer new. Polled K.eq S.Service S.loaded S.Metric.partial_cmp R.drew D.discovered (view_of old) answer (view_of new) };
+    ghost polled = { λ old answer new. Polled K.eq S.Service S.loaded S.Metric.partial_cmp R.drew
+        D.discovered (view_of old) answer (view_of new) };
 
     ghost needs = { λ b. Needs D.needs S.needs (view_of b) };
 
-    ghost called = { λ old request future new. Called K.eq S.Service (view_of old) request future (view_of new) };
+    ghost called = { λ old request future new. Called K.eq S.Service (view_of old)
+        request future (view_of new) };
 
     ghost readies = { λ old new p. polled_ok (view_of old) (view_of new) p };
 
     #[tactic(auto, using(crate::specs::BalanceReady::polled_none, crate::proofs::NeedsLemmas::heard_both))]
     fn poll_ready(&mut self, cx: &mut Context<'_>) -> Poll<Answer<S::Error, X>>
         requires { Sound D.sound D.discovered S.sound (view_of self.old) }
-        ensures polled { Polled K.eq S.Service S.loaded S.Metric.partial_cmp R.drew D.discovered (view_of self.old) result (view_of self.new) }
+        ensures polled { Polled K.eq S.Service S.loaded S.Metric.partial_cmp R.drew D.discovered
+            (view_of self.old) result (view_of self.new) }
         ensures none { OnPending result ((view_of self.new).services.ready ≡ []) }
         ensures sound { Sound D.sound D.discovered S.sound (view_of self.new) }
         ensures armed { OnPending result (IsArmed cx.new) }
-        ensures heard { OnPending result ((s : ℕ) → Needs D.needs S.needs (view_of self.new) s → Hears cx.new s) }
+        ensures heard { OnPending result
+            ((s : ℕ) → Needs D.needs S.needs (view_of self.new) s → Hears cx.new s) }
         ensures kept { Keeps cx.old cx.new }
     {
         match self.update(cx) {

@@ -58,7 +58,10 @@ where
     #[tactic(auto, using(tower_base::specs::GivesLemmas::one_step))]
     fn poll(&mut self, cx: &mut Context<'_>) -> Poll<Self::Output>
         requires { CanPoll S.sound ⟦<Oneshot<S, Request> as Future>⟧.can_poll self.old }
-        ensures { IsStep (Stepped S.Service S.Future.stepped C.Clock) (CanPoll S.sound ⟦<Oneshot<S, Request> as Future>⟧.can_poll) (Needs C.hears ⟦<Oneshot<S, Request> as Future>⟧.needs) self.old result self.new cx.old cx.new }
+        ensures { IsStep (Stepped S.Service S.Future.stepped C.Clock)
+            (CanPoll S.sound ⟦<Oneshot<S, Request> as Future>⟧.can_poll)
+            (Needs C.hears ⟦<Oneshot<S, Request> as Future>⟧.needs)
+            self.old result self.new cx.old cx.new }
     {
         self.step(cx)
     }
@@ -100,8 +103,10 @@ where
     fn begin(&mut self, cx: &mut Context<'_>) -> Poll<Result<S::Response, Error<S::Error>>>
         requires { Waits S.sound self.old }
         ensures begun { Begun S.Service S.Future.stepped C.Clock self.old result self.new }
-        ensures again { OnPending result (CanPoll S.sound ⟦<Oneshot<S, Request> as Future>⟧.can_poll self.new) }
-        ensures registered { OnPending result (Covers cx.new (Needs C.hears ⟦<Oneshot<S, Request> as Future>⟧.needs self.new)) }
+        ensures again { OnPending result
+            (CanPoll S.sound ⟦<Oneshot<S, Request> as Future>⟧.can_poll self.new) }
+        ensures registered { OnPending result
+            (Covers cx.new (Needs C.hears ⟦<Oneshot<S, Request> as Future>⟧.needs self.new)) }
         ensures kept { Keeps cx.old cx.new }
     {
         let State::Delaying(_, service, request) = mem::replace(&mut self.state, State::NoClone)

@@ -58,7 +58,9 @@ where
     #[tactic(auto, using(tower_base::specs::GivesLemmas::one_step))]
     fn poll(&mut self, cx: &mut Context<'_>) -> Poll<Self::Output>
         requires { F.can_poll self.old.inner × IfSome self.old.rec R.sound }
-        ensures { IsStep (Stepped F.Steps.own R.Record C.Clock) (λ v. F.can_poll v.inner × IfSome v.rec R.sound) (λ v. F.needs v.inner) self.old result self.new cx.old cx.new }
+        ensures { IsStep (Stepped F.Steps.own R.Record C.Clock)
+            (λ v. F.can_poll v.inner × IfSome v.rec R.sound) (λ v. F.needs v.inner)
+            self.old result self.new cx.old cx.new }
     {
         self.step(cx)
     }

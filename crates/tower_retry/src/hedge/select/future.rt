@@ -51,7 +51,9 @@ where
     #[tactic(auto, using(tower_base::specs::GivesLemmas::one_step))]
     fn poll(&mut self, cx: &mut Context<'_>) -> Poll<Self::Output>
         requires { AF.can_poll self.old.a_fut × IfSome self.old.b_fut BF.can_poll }
-        ensures { IsStep (Stepped AF.Steps.own BF.Steps.own) (λ v. AF.can_poll v.a_fut × IfSome v.b_fut BF.can_poll) (Needs AF.needs BF.needs) self.old result self.new cx.old cx.new }
+        ensures { IsStep (Stepped AF.Steps.own BF.Steps.own)
+            (λ v. AF.can_poll v.a_fut × IfSome v.b_fut BF.can_poll) (Needs AF.needs BF.needs)
+            self.old result self.new cx.old cx.new }
     {
         self.step(cx)
     }

@@ -26,14 +26,16 @@ pub struct BudgetCore {
     ghost small: { terms.reserve < 2 ^ 127 },
     ghost summed: { older ≡ kept_sum (pos terms.reserve) slots.index slots.amounts.items 10 },
     // The moments after `last` are exactly those of later generations.
-    ghost ends: { (moment : ℕ) → moment < 2 ^ 64 → nat_lt last moment ≡ nat_lt generation (generation_at made terms.window moment) },
+    ghost ends: { (moment : ℕ) → moment < 2 ^ 64
+        → nat_lt last moment ≡ nat_lt generation (generation_at made terms.window moment) },
     // Nothing was added before the first generation.
-    ghost begun: { (back : ℕ) → generation < back → back ≤ 10 → slot slots.index slots.amounts.items back ≡ pos 0 },
+    ghost begun: { (back : ℕ) → generation < back → back ≤ 10
+        → slot slots.index slots.amounts.items back ≡ pos 0 },
 }
 
 impl BudgetCore {
     ghost use Rattle.std.specs.Prelude.{int_le, pos, ◌↔◌};
-    ghost use Rattle.tower_retry.specs.Budget.{Fits, Ledger, Withdraws, added, advanced, blank, terms_of};
+    ghost use Rattle.tower_retry.specs.Budget.{Fits, Ledger, Withdraws, added, advanced, initial, terms_of};
     ghost use Rattle.tower_retry.specs.BudgetCore.{Changes, Opens, StandsFor, kept_balance, writes};
 
     /// Creates a budget at `moment`, with room for all that it will keep. Times are in nanoseconds.
@@ -46,7 +48,8 @@ impl BudgetCore {
         moment: u64,
     ) -> Result<BudgetCore, AllocError>
         requires { Fits ttl min_per_sec fraction }
-        ensures made { IfOk result (λ core. StandsFor core (blank (terms_of ttl min_per_sec fraction) moment)) }
+        ensures made { IfOk result
+            (λ core. StandsFor core (initial (terms_of ttl min_per_sec fraction) moment)) }
         ensures opens { IfOk result Opens }
         ensures small { IfOk result (λ core. AreSmall core.terms) }
     {
@@ -122,7 +125,9 @@ impl BudgetCore {
 
     #[inline(always)]
     fn deposit(&mut self, moment: u64)
-        ensures changes { Changes (λ ledger. added (advanced ledger moment) (pos ledger.terms.deposit)) self.old self.new }
+        ensures changes { Changes
+            (λ ledger. added (advanced ledger moment) (pos ledger.terms.deposit))
+            self.old self.new }
         ensures writes { writes self.new ≤ writes self.old + 11 }
     {
         self.advance(moment);
@@ -131,7 +136,8 @@ impl BudgetCore {
 
     #[inline(always)]
     fn withdraw(&mut self, moment: u64) -> bool
-        ensures withdraws { (ledger : Ledger) → StandsFor self.old ledger → (next : Ledger) × Withdraws (advanced ledger moment) result next × StandsFor self.new next }
+        ensures withdraws { (ledger : Ledger) → StandsFor self.old ledger → (next : Ledger)
+            × Withdraws (advanced ledger moment) result next × StandsFor self.new next }
         ensures writes { writes self.new ≤ writes self.old + 11 }
     {
         self.advance(moment);

@@ -1,6 +1,6 @@
 //! The ten slots of a budget, and the only functions that write them.
 ghost use Rattle.std.specs.Prelude.{◌≡◌, ◌+◌, ◌<◌, ◌≤◌, IfOk, ◌%◌, pos, replicate, vec_len};
-ghost use Rattle.tower_retry.specs.Slots.{Moves, kept_sum};
+ghost use Rattle.tower_retry.specs.Slots.{Shifted, kept_sum};
 
 use std::alloc::{AllocError, Global};
 use tower_base::counter::GhostCounter;
@@ -33,7 +33,8 @@ impl Slots {
     /// the amount of ten generations before the new one.
     pub fn advance(&mut self, present: i128, generations: u64)
         requires { 0 < generations }
-        ensures moves { Moves generations present self.old.index self.old.amounts.items self.new.index self.new.amounts.items }
+        ensures moves { Shifted generations present self.old.index self.old.amounts.items
+            self.new.index self.new.amounts.items }
         ensures writes { self.new.writes.count ≤ self.old.writes.count + 11 }
     {
         self.put(present);
@@ -56,7 +57,8 @@ impl Slots {
 
     // Goes one generation further: writes the slot at the index, and moves the index on.
     fn put(&mut self, amount: i128)
-        ensures moves { Moves 1 amount self.old.index self.old.amounts.items self.new.index self.new.amounts.items }
+        ensures moves { Shifted 1 amount self.old.index self.old.amounts.items self.new.index
+            self.new.amounts.items }
         ensures writes { self.new.writes.count ≡ self.old.writes.count + 1 }
     {
         self.writes.tick();

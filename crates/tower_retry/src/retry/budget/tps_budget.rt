@@ -42,8 +42,10 @@ impl<R: Wait + Copy, C: Clock> TpsBudget<Guarded<BudgetCore, R>, C> {
     ) -> Result<Self, AllocError>
         requires { Fits ttl min_per_sec retries }
         ensures clock { IfOk result (λ budget. C.read clock budget.clock) }
-        ensures terms { IfOk result (λ budget. ⟦<Guarded<BudgetCore, R> as Latch<BudgetCore>>⟧.terms budget.latch ≡ terms_of ttl min_per_sec retries) }
-        ensures small { IfOk result (λ budget. AreSmall (⟦<Guarded<BudgetCore, R> as Latch<BudgetCore>>⟧.terms budget.latch)) }
+        ensures terms { IfOk result (λ budget. ⟦<Guarded<BudgetCore, R> as Latch<BudgetCore>>⟧.terms
+            budget.latch ≡ terms_of ttl min_per_sec retries) }
+        ensures small { IfOk result (λ budget.
+            AreSmall (⟦<Guarded<BudgetCore, R> as Latch<BudgetCore>>⟧.terms budget.latch)) }
     {
         let core = BudgetCore::new(alloc, ttl, min_per_sec, retries, clock.now())?;
         let latch = Guarded::new(rt, alloc, core)?;
@@ -54,7 +56,9 @@ impl<R: Wait + Copy, C: Clock> TpsBudget<Guarded<BudgetCore, R>, C> {
     /// requests: the Rust's `default`. Returns an error if `new` does.
     pub fn with_clock(rt: R, alloc: Global, clock: C) -> Result<Self, AllocError>
         ensures clock { IfOk result (λ budget. C.read clock budget.clock) }
-        ensures terms { IfOk result (λ budget. ⟦<Guarded<BudgetCore, R> as Latch<BudgetCore>>⟧.terms budget.latch ≡ record { deposit = 1; withdrawal = 5; reserve = 500; window = 1000000000 }) }
+        ensures terms { IfOk result
+            (λ budget. ⟦<Guarded<BudgetCore, R> as Latch<BudgetCore>>⟧.terms budget.latch
+            ≡ record { deposit = 1; withdrawal = 5; reserve = 500; window = 1000000000 }) }
     {
         TpsBudget::new(rt, alloc, 10_000_000_000, 10, Fraction::new(1, 5), clock)
     }

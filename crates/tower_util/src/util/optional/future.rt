@@ -42,7 +42,8 @@ impl<F: Steps<Output = Result<T, E>>, T, E> Future for ResponseFuture<F> {
     #[tactic(auto, using(tower_base::specs::GivesLemmas::one_step))]
     fn poll(&mut self, cx: &mut Context<'_>) -> Poll<Result<T, Error<E>>>
         requires { ⟦<ResponseFuture<F> as Future>⟧.can_poll self.old }
-        ensures { IsStep (Stepped F.stepped) ⟦<ResponseFuture<F> as Future>⟧.can_poll ⟦<ResponseFuture<F> as Future>⟧.needs self.old result self.new cx.old cx.new }
+        ensures { IsStep (Stepped F.stepped) ⟦<ResponseFuture<F> as Future>⟧.can_poll
+            ⟦<ResponseFuture<F> as Future>⟧.needs self.old result self.new cx.old cx.new }
     {
         self.step(cx)
     }

@@ -2,7 +2,7 @@
 ghost use Rattle.std.specs.Prelude.{◌≡◌, [], All, MatchOption};
 ghost use Rattle.std.specs.Vec.{vec_capacity};
 ghost use Rattle.futures.specs.Task.{IsArmed, Keeps};
-ghost use Rattle.tower_ware.specs.Bag.{BagAsked, EachAsked};
+ghost use Rattle.tower_ware.specs.Bag.{BagPolled, EachPolled};
 ghost use Rattle.tower_ware.specs.Queue.{Empty, Grown, HasRoom, Pushed, Queue};
 
 use crate::util::call_all::call_queue::CallQueue;
@@ -36,10 +36,11 @@ impl<F> Bag<F> {
 // Polls the futures up to the first that is ready, and removes that one.
 fn ask_each<T: Drop, F: Steps<Output = T>>(futures: &mut Vec<F>, cx: &mut Context<'_>) -> Option<T>
     requires { All F.can_poll futures.old.items }
-    ensures asked { EachAsked F.Steps.own futures.old.items result futures.new.items }
+    ensures asked { EachPolled F.Steps.own futures.old.items result futures.new.items }
     ensures again { All F.can_poll futures.new.items }
     ensures room { vec_capacity futures.new ≡ vec_capacity futures.old }
-    ensures armed { MatchOption result (¬ (futures.old.items ≡ []) → IsArmed cx.new) (λ _. Unit {0}) }
+    ensures armed { MatchOption result (¬ (futures.old.items ≡ []) → IsArmed cx.new)
+        (λ _. Unit {0}) }
     ensures kept { Keeps cx.old cx.new }
 {
     for i in 0..futures.len() {
@@ -58,7 +59,7 @@ impl<T: Drop, F: Steps<Output = T>> CallQueue<T, F> for Bag<F> {
 
     ghost empty = { Empty };
 
-    ghost asked = { BagAsked F.Steps.own };
+    ghost polled = { BagPolled F.Steps.own };
 
     ghost grown = { Grown };
 

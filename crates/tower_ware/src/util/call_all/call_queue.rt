@@ -21,7 +21,7 @@ pub trait CallQueue<T, F: Steps<Output = T>>: Drop {
     ghost empty: { Self → Type 0 };
 
     // A poll may return this answer, `None` for the end, and leave the second value.
-    ghost asked: { Self → Poll (Option T) → Self → Type 0 };
+    ghost polled: { Self → Poll (Option T) → Self → Type 0 };
 
     // Both values have the same calls.
     ghost grown: { Self → Self → Type 0 };
@@ -31,7 +31,7 @@ pub trait CallQueue<T, F: Steps<Output = T>>: Drop {
 
     fn poll(&mut self, cx: &mut Context<'_>) -> Poll<Option<T>>
         requires { sound self.old }
-        ensures asked { asked self.old result self.new }
+        ensures polled { polled self.old result self.new }
         ensures sound { sound self.new }
         ensures none { result ≡ Ready None → empty self.new }
         ensures armed { OnPending result (IsArmed cx.new) }

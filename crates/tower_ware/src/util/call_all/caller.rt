@@ -2,8 +2,8 @@
 ghost use Rattle.std.specs.Prelude.{◌≡◌, IsSomeAnd, IfSome, OnSome, false};
 ghost use Rattle.futures.specs.Task.{IsArmed, Keeps};
 ghost use Rattle.futures.specs.Poll.{IfReady, OnPending};
-ghost use Rattle.tower_ware.specs.CallAll.{Called, Flowed, GoesOn, Pass, view_of};
-ghost use Rattle.tower_base.specs.LastPass.{AnsweredOrWoken};
+ghost use Rattle.tower_ware.specs.CallAll.{Called, Flowed, GoesOn, Iteration, view_of};
+ghost use Rattle.tower_base.specs.LastIteration.{AnsweredOrWoken};
 
 use crate::util::call_all::call_queue::CallQueue;
 use crate::util::call_all::error::Error;
@@ -25,7 +25,13 @@ pub struct Caller<Svc, S, Q, R> {
 
 impl<Svc, S, Q, R> Caller<Svc, S, Q, R> {
     pub fn new(service: Option<Svc>, requests: S, queue: Q, kept: Option<R>) -> Caller<Svc, S, Q, R>
-        ensures { result ≡ record { service = service; requests = requests; queue = queue; ended = false; kept = kept } }
+        ensures { result ≡ record {
+          service = service;
+          requests = requests;
+          queue = queue;
+          ended = false;
+          kept = kept;
+        } }
     {
         Caller {
             service,
@@ -55,7 +61,8 @@ where
         requires queue { Q.sound self.old.queue }
         requires flow { S.can_poll self.old.requests }
         requires goes { self.old.ended ≡ false }
-        ensures call { Called Svc.Service S.Flow.own Q.CallQueue (record (view_of self.old) { kept = None }) request result (view_of self.new) }
+        ensures call { Called Svc.Service S.Flow.own Q.CallQueue
+            (record (view_of self.old) { kept = None }) request result (view_of self.new) }
         ensures there { IsSomeAnd self.new.service Svc.sound }
         ensures queue { Q.sound self.new.queue }
         ensures flow { S.can_poll self.new.requests }
@@ -87,13 +94,14 @@ where
         }
     }
 
-    // Goes on if the queue has no answer to yield: with the kept request, the next one, or the end.
+    // Iterates on if the queue has no answer to yield: with the kept request, the next one, or the end.
     fn go_on(&mut self, cx: &mut Context<'_>) -> Option<Answer<Svc::Response, Svc::Error>>
         requires there { IsSomeAnd self.old.service Svc.sound }
         requires queue { Q.sound self.old.queue }
         requires flow { self.old.ended ≡ false → S.can_poll self.old.requests }
         requires armed { ¬ (Q.empty self.old.queue) → IsArmed cx.old }
-        ensures goes { GoesOn Svc.Service S.Flow.own Q.CallQueue self.old.ended self.old.kept (view_of self.old) result (view_of self.new) }
+        ensures goes { GoesOn Svc.Service S.Flow.own Q.CallQueue self.old.ended self.old.kept
+            (view_of self.old) result (view_of self.new) }
         ensures there { IsSomeAnd self.new.service Svc.sound }
         ensures queue { Q.sound self.new.queue }
         ensures flow { self.new.ended ≡ false → S.can_poll self.new.requests }
@@ -119,12 +127,13 @@ where
         }
     }
 
-    // Makes one pass. Returns the answer of the poll, or `None` if another pass follows.
+    // Makes one iteration. Returns the answer of the poll, or `None` if another iteration follows.
     fn pass(&mut self, cx: &mut Context<'_>) -> Option<Answer<Svc::Response, Svc::Error>>
         requires there { IsSomeAnd self.old.service Svc.sound }
         requires queue { Q.sound self.old.queue }
         requires flow { self.old.ended ≡ false → S.can_poll self.old.requests }
-        ensures pass { Pass Svc.Service S.Flow.own Q.CallQueue (view_of self.old) result (view_of self.new) }
+        ensures pass { Iteration Svc.Service S.Flow.own Q.CallQueue (view_of self.old)
+            result (view_of self.new) }
         ensures there { IsSomeAnd self.new.service Svc.sound }
         ensures queue { Q.sound self.new.queue }
         ensures flow { self.new.ended ≡ false → S.can_poll self.new.requests }
@@ -139,13 +148,15 @@ where
         }
     }
 
-    // Makes passes up to an answer, but at most `TURNS`; then it is pending and has woken its own task.
+    // Makes iterations up to an answer, but at most `TURNS`; then it is pending and has woken its own task.
     pub fn passes(&mut self, cx: &mut Context<'_>) -> Answer<Svc::Response, Svc::Error>
         requires there { IsSomeAnd self.old.service Svc.sound }
         requires queue { Q.sound self.old.queue }
         requires flow { self.old.ended ≡ false → S.can_poll self.old.requests }
-        ensures flowed { Flowed Svc.Service S.Flow.own Q.CallQueue (view_of self.old) result (view_of self.new) }
-        ensures woken { AnsweredOrWoken (Pass Svc.Service S.Flow.own Q.CallQueue) (view_of self.old) result (view_of self.new) cx.new.is_woken }
+        ensures flowed { Flowed Svc.Service S.Flow.own Q.CallQueue (view_of self.old)
+            result (view_of self.new) }
+        ensures woken { AnsweredOrWoken (Iteration Svc.Service S.Flow.own Q.CallQueue)
+            (view_of self.old) result (view_of self.new) cx.new.is_woken }
         ensures there { IsSomeAnd self.new.service Svc.sound }
         ensures queue { Q.sound self.new.queue }
         ensures flow { self.new.ended ≡ false → S.can_poll self.new.requests }

@@ -2,7 +2,7 @@
 ghost use Rattle.std.specs.Prelude.{◌≡◌, All, IsTrue, ◌↔◌};
 ghost use Rattle.std.specs.VecDeque.{deque_capacity};
 ghost use Rattle.futures.specs.Task.{Keeps};
-ghost use Rattle.tower_ware.specs.OrderedCalls.{LineAsked, MayAsk, OthersAsked};
+ghost use Rattle.tower_ware.specs.OrderedCalls.{LinePolled, MayAsk, OthersPolled};
 ghost use Rattle.tower_ware.specs.Queue.{Empty, Grown, HasRoom, Pushed, Queue};
 ghost use Rattle.tower_ware.specs.declared.util.call_all.slot.Slot.{Slot};
 ghost use Rattle.tower_ware.specs.declared.util.call_all.slot.Slot.TheVariants.{Waiting};
@@ -50,7 +50,7 @@ impl<F, T> Line<F, T> {
 // Polls each future behind the front that has no answer yet.
 fn ask_others<T: Drop, F: Steps<Output = T>>(slots: &mut VecDeque<Slot<F, T>>, cx: &mut Context<'_>)
     requires { All (MayAsk F.can_poll) slots.old.items }
-    ensures asked { OthersAsked F.Steps.own slots.old.items slots.new.items }
+    ensures asked { OthersPolled F.Steps.own slots.old.items slots.new.items }
     ensures again { All (MayAsk F.can_poll) slots.new.items }
     ensures room { deque_capacity slots.new ≡ deque_capacity slots.old }
     ensures kept { Keeps cx.old cx.new }
@@ -67,7 +67,7 @@ impl<T: Drop, F: Steps<Output = T>> CallQueue<T, F> for Line<F, T> {
 
     ghost empty = { Empty };
 
-    ghost asked = { LineAsked F.Steps.own };
+    ghost polled = { LinePolled F.Steps.own };
 
     ghost grown = { Grown };
 

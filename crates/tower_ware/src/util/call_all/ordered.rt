@@ -1,8 +1,7 @@
 //! A stream of calls that yields the answers in the order of the requests.
-ghost use Rattle.std.specs.Prelude.{◌≡◌, All, IsSome, IsTrue, ◌↔◌, None, Some, false};
+ghost use Rattle.std.specs.Prelude.{◌≡◌, IsSome, IsTrue, ◌↔◌, None, Some, false};
 ghost use Rattle.tower_base.specs.Gives.{IsFlow, MayYield};
-ghost use Rattle.tower_ware.specs.CallAll.{CallAllFlowed, CallerView, CanFlow, New, view_of};
-ghost use Rattle.tower_ware.specs.OrderedCalls.{MayAsk};
+ghost use Rattle.tower_ware.specs.CallAll.{CallAllCanFlow, CallAllFlowed, CallerView, New, view_of};
 ghost use Rattle.tower_ware.specs.declared.util.call_all.slot.Slot.{Slot};
 ghost use Rattle.tower_ware.specs.Queue.{Empty, Queue};
 
@@ -119,14 +118,17 @@ where
 {
     type Item = Result<Svc::Response, Error<Svc::Error>>;
 
-    ghost can_poll = { CanFlow Svc.sound (λ q. All (MayAsk Svc.Future.can_poll) q.calls) S.can_poll };
+    ghost can_poll = { CallAllCanFlow Svc.sound Svc.Future.can_poll S.can_poll };
 
-    ghost yields = { MayYield (CallAllFlowed Svc.Service S.Flow.own Svc.Future.Steps.own Svc.Future.can_poll) };
+    ghost yields = { MayYield (CallAllFlowed Svc.Service S.Flow.own Svc.Future.Steps.own
+        Svc.Future.can_poll) };
 
     #[tactic(auto, using(tower_base::specs::GivesLemmas::one_flow))]
     fn poll_next(&mut self, cx: &mut Context<'_>) -> Poll<Option<Self::Item>>
-        requires { CanFlow Svc.sound (λ q. All (MayAsk Svc.Future.can_poll) q.calls) S.can_poll self.old }
-        ensures { IsFlow (CallAllFlowed Svc.Service S.Flow.own Svc.Future.Steps.own Svc.Future.can_poll) (CanFlow Svc.sound (λ q. All (MayAsk Svc.Future.can_poll) q.calls) S.can_poll) (λ _ _. ⊥) self.old result self.new cx.old cx.new }
+        requires { CallAllCanFlow Svc.sound Svc.Future.can_poll S.can_poll self.old }
+        ensures { IsFlow (CallAllFlowed Svc.Service S.Flow.own Svc.Future.Steps.own
+            Svc.Future.can_poll) (CallAllCanFlow Svc.sound Svc.Future.can_poll S.can_poll)
+            (λ _ _. ⊥) self.old result self.new cx.old cx.new }
     {
         self.flow(cx)
     }
@@ -137,7 +139,8 @@ impl<Svc: Service<S::Item>, S: Flow> Flow
 where
     S::Item: Drop,
 {
-    ghost flowed = { CallAllFlowed Svc.Service S.Flow.own Svc.Future.Steps.own Svc.Future.can_poll };
+    ghost flowed = { CallAllFlowed Svc.Service S.Flow.own Svc.Future.Steps.own
+        Svc.Future.can_poll };
 
     fn flow(&mut self, cx: &mut Context<'_>) -> Poll<Option<Self::Item>> {
         self.caller.passes(cx)

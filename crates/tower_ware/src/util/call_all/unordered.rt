@@ -1,7 +1,7 @@
 //! A stream of calls that yields the answers as they come.
-ghost use Rattle.std.specs.Prelude.{◌≡◌, All, IsSome, IsTrue, ◌↔◌, None, Some, false};
+ghost use Rattle.std.specs.Prelude.{◌≡◌, IsSome, IsTrue, ◌↔◌, None, Some, false};
 ghost use Rattle.tower_base.specs.Gives.{IsFlow, MayYield};
-ghost use Rattle.tower_ware.specs.CallAll.{CallAllUnorderedFlowed, CallerView, CanFlow, New, view_of};
+ghost use Rattle.tower_ware.specs.CallAll.{CallAllUnorderedCanFlow, CallAllUnorderedFlowed, CallerView, New, view_of};
 ghost use Rattle.tower_ware.specs.Queue.{Queue};
 
 use crate::util::call_all::bag::Bag;
@@ -54,7 +54,13 @@ impl<Svc, S, F, R> CallAllUnordered<Svc, S, F, R> {
         queue: Bag<F>,
         kept: Option<R>,
     ) -> CallAllUnordered<Svc, S, F, R>
-        ensures { result ≡ record { service = service; requests = requests; queue = queue; ended = false; kept = kept } }
+        ensures { result ≡ record {
+          service = service;
+          requests = requests;
+          queue = queue;
+          ended = false;
+          kept = kept;
+        } }
     {
         CallAllUnordered {
             caller: Caller::new(service, requests, queue, kept),
@@ -99,14 +105,17 @@ where
 {
     type Item = Result<Svc::Response, Error<Svc::Error>>;
 
-    ghost can_poll = { CanFlow Svc.sound (λ q. All Svc.Future.can_poll q.calls) S.can_poll };
+    ghost can_poll = { CallAllUnorderedCanFlow Svc.sound Svc.Future.can_poll S.can_poll };
 
-    ghost yields = { MayYield (CallAllUnorderedFlowed Svc.Service S.Flow.own Svc.Future.Steps.own Svc.Future.can_poll) };
+    ghost yields = { MayYield (CallAllUnorderedFlowed Svc.Service S.Flow.own Svc.Future.Steps.own
+        Svc.Future.can_poll) };
 
     #[tactic(auto, using(tower_base::specs::GivesLemmas::one_flow))]
     fn poll_next(&mut self, cx: &mut Context<'_>) -> Poll<Option<Self::Item>>
-        requires { CanFlow Svc.sound (λ q. All Svc.Future.can_poll q.calls) S.can_poll self.old }
-        ensures { IsFlow (CallAllUnorderedFlowed Svc.Service S.Flow.own Svc.Future.Steps.own Svc.Future.can_poll) (CanFlow Svc.sound (λ q. All Svc.Future.can_poll q.calls) S.can_poll) (λ _ _. ⊥) self.old result self.new cx.old cx.new }
+        requires { CallAllUnorderedCanFlow Svc.sound Svc.Future.can_poll S.can_poll self.old }
+        ensures { IsFlow (CallAllUnorderedFlowed Svc.Service S.Flow.own Svc.Future.Steps.own
+            Svc.Future.can_poll) (CallAllUnorderedCanFlow Svc.sound Svc.Future.can_poll S.can_poll)
+            (λ _ _. ⊥) self.old result self.new cx.old cx.new }
     {
         self.flow(cx)
     }
@@ -116,7 +125,8 @@ impl<Svc: Service<S::Item>, S: Flow> Flow for CallAllUnordered<Svc, S, Svc::Futu
 where
     S::Item: Drop,
 {
-    ghost flowed = { CallAllUnorderedFlowed Svc.Service S.Flow.own Svc.Future.Steps.own Svc.Future.can_poll };
+    ghost flowed = { CallAllUnorderedFlowed Svc.Service S.Flow.own Svc.Future.Steps.own
+        Svc.Future.can_poll };
 
     fn flow(&mut self, cx: &mut Context<'_>) -> Poll<Option<Self::Item>> {
         self.caller.passes(cx)

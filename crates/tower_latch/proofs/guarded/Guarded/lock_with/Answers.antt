@@ -5,8 +5,8 @@ use Rattle.tower_latch.specs.CoreTable.{Agree, Taken, Holds}
 use Rattle.tower_latch.proofs.CoreTableMoves.{takes_at}
 use Rattle.tower_latch.proofs.guarded.Guarded.lock_with.Goals as goal
 
-pub swap-requires : goal.swap-requires
-swap-requires g c =
+pub swap-found-requires : goal.swap-found-requires
+swap-found-requires g c =
     let place = c.deref.result.now.table.shared in
     let room : 0 < place.table_id.words = omega (arith, c.deref.result.now.one.0) in
     let seat = c.into_seat-seat.result in
@@ -19,12 +19,12 @@ swap-requires g c =
           (takes_at (λ k. g.C.Core.terms k.core ≡ place.key) (λ k. g.C.Core.out k.core) (λ k. g.K.Known.are (g.C.Core.terms k.core)) (λ k its. subst g.K.Known.are (same ∙ sym its) c.requires.known) seat.id 1 seat.me.0 seat.me free c.into_seat-seat.ensures.away.1 (λ e. omega (arith, e))),
     )
 
-pub returns-then-swap-ne0-clause-has : goal.returns-then-swap-ne0-clause-has
-returns-then-swap-ne0-clause-has g c = (
+pub returns-then-found-ne0-clause-has : goal.returns-then-found-ne0-clause-has
+returns-then-found-ne0-clause-has g c = (
   c.into_seat-seat.result.me.0,
   c.into_seat-seat.ensures.views,
-  subst (λ v. Holds (λ k. g.K.Known.are (g.C.Core.terms k.core)) (λ k. g.C.Core.out k.core) v c.lock_late.new.seat.me) (ap (λ m. m.0) (c.swap.ensures.2.1 c.if-swap-ne0.true)) c.lock_late.ensures.has,
+  subst (λ v. Holds (λ k. g.K.Known.are (g.C.Core.terms k.core)) (λ k. g.C.Core.out k.core) v c.lock_late.new.seat.me) (ap (λ m. m.0) (c.swap-found.ensures.2.1 c.if-found-ne0.true)) c.lock_late.ensures.has,
 )
 
-pub returns-else-swap-ne0-clause-has : goal.returns-else-swap-ne0-clause-has
-returns-else-swap-ne0-clause-has g c = (c.into_seat-seat.result.me.0, c.into_seat-seat.ensures.views, c.swap.ensures.2.0 c.if-swap-ne0.false)
+pub returns-else-found-ne0-clause-has : goal.returns-else-found-ne0-clause-has
+returns-else-found-ne0-clause-has g c = (c.into_seat-seat.result.me.0, c.into_seat-seat.ensures.views, c.swap-found.ensures.2.0 c.if-found-ne0.false)

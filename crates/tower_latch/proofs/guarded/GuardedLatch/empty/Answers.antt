@@ -1,14 +1,14 @@
 use Rattle.std.proofs.Common.{◌≡◌, arith, ap, ◌∙◌}
-use Rattle.tower_latch.specs.CoreTable.{fresh}
+use Rattle.tower_latch.specs.CoreTable.{initial}
 use Rattle.tower_latch.proofs.CoreTableMoves.{has_core, after_none}
 use Rattle.tower_latch.proofs.guarded.GuardedLatch.empty.Goals as goal
 
 pub free-requires-clause-core : goal.free-requires-clause-core
 free-requires-clause-core g c =
-    let h = has_core (λ k. g.C.Core.terms k.core ≡ c.args.self.now.terms) (λ k. g.C.Core.out k.core) fresh c.lock.result.me c.lock.ensures.has in
+    let h = has_core (λ k. g.C.Core.terms k.core ≡ c.args.self.now.terms) (λ k. g.C.Core.out k.core) initial c.lock.result.me c.lock.ensures.has in
     (h.0, h.1, h.2, omega (arith, h.3))
 
 pub returns-clause-places : goal.returns-clause-places
 returns-clause-places g c =
-    let h = has_core (λ k. g.C.Core.terms k.core ≡ c.args.self.now.terms) (λ k. g.C.Core.out k.core) fresh c.lock.result.me c.lock.ensures.has in
+    let h = has_core (λ k. g.C.Core.terms k.core ≡ c.args.self.now.terms) (λ k. g.C.Core.out k.core) initial c.lock.result.me c.lock.ensures.has in
     after_none (λ k. g.C.Core.terms k.core ≡ c.args.self.now.terms) (λ k. g.C.Core.out k.core) c.lock.result.me _ h c.free.ensures.left ∙ ap (λ m. m.0.out) c.lock.ensures.has.1

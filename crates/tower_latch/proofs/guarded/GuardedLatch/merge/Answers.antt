@@ -1,43 +1,34 @@
 use Rattle.std.proofs.Common.{◌≡◌, ◌<◌, arith, ap, sym, ◌∙◌}
 use Rattle.tower_latch.specs.BadgeViews.{out_by}
-use Rattle.tower_latch.proofs.CoreTableMoves.{has_slot, badge_core, still, gathers, after_none}
+use Rattle.tower_latch.proofs.CoreTableMoves.{badge_core, gathers, after_none}
 use Rattle.tower_latch.proofs.guarded.GuardedLatch.merge.Goals as goal
-
-pub slot_mut-requires : goal.slot_mut-requires
-slot_mut-requires g c =
-    let b = badge_core (λ k. g.C.Core.terms k.core ≡ c.args.self.now.terms) (λ k. g.C.Core.out k.core) c.args.token.badge.views c.lock_with-seat.result.me c.lock_with-seat.ensures.has in
-    let h = b.0 in
-    (c.lock_with-seat.ensures.its ∙ ap (λ v. v.table) (sym c.self.view_is) ∙ sym (ap (λ t. t.table.shared.table_id) c.deref.ensures), (h.0, has_slot (λ k. g.C.Core.terms k.core ≡ c.args.self.now.terms) (λ k. g.C.Core.out k.core) _ _ h.1))
 
 pub join_seat-requires : goal.join_seat-requires
 join_seat-requires g c =
-    let table = c.deref-2.result.now.table.shared in
-    let room : 0 < table.table_id.words = omega (arith, c.deref-2.result.now.one.0) in
-    let back = ap (λ v. v.table) (sym c.self.view_is) ∙ sym (ap (λ t. t.table.shared.table_id) c.deref-2.ensures) in
+    let table = c.deref.result.now.table.shared in
+    let room : 0 < table.table_id.words = omega (arith, c.deref.result.now.one.0) in
+    let back = ap (λ v. v.table) (sym c.self.view_is) ∙ sym (ap (λ t. t.table.shared.table_id) c.deref.ensures) in
     (c.lock_with-seat.ensures.its ∙ back, c.into_seat.ensures.its ∙ c.requires.others ∙ back, c.into_seat.ensures.away.0, room, gathers (λ k. g.C.Core.terms k.core ≡ table.key) (λ k. g.C.Core.out k.core) _ _ _ _ c.into_seat.ensures.away.1)
 
 pub free-requires-clause-core : goal.free-requires-clause-core
 free-requires-clause-core g c =
     let b = badge_core (λ k. g.C.Core.terms k.core ≡ c.args.self.now.terms) (λ k. g.C.Core.out k.core) c.args.token.badge.views c.lock_with-seat.result.me c.lock_with-seat.ensures.has in
     let h = b.0 in
-    let lent = still (λ k. g.C.Core.terms k.core ≡ c.args.self.now.terms) (λ k. g.C.Core.out k.core) c.lock_with-seat.result.me c.slot_mut.result.now h c.slot_mut.ensures.value in
     let me = c.join_seat.ensures.2 in
-    (lent.0, ap (λ m. m.1) me ∙ lent.1, lent.2, omega (arith, ap (λ m. m.0.held) me, lent.3))
+    (h.0, ap (λ m. m.1) me ∙ h.1, h.2, omega (arith, ap (λ m. m.0.held) me, h.3))
 
 pub returns-clause-places : goal.returns-clause-places
 returns-clause-places g c =
     let b = badge_core (λ k. g.C.Core.terms k.core ≡ c.args.self.now.terms) (λ k. g.C.Core.out k.core) c.args.token.badge.views c.lock_with-seat.result.me c.lock_with-seat.ensures.has in
     let h = b.0 in
-    let lent = still (λ k. g.C.Core.terms k.core ≡ c.args.self.now.terms) (λ k. g.C.Core.out k.core) c.lock_with-seat.result.me c.slot_mut.result.now h c.slot_mut.ensures.value in
     let me = c.join_seat.ensures.2 in
-    let after = after_none (λ k. g.C.Core.terms k.core ≡ c.args.self.now.terms) (λ k. g.C.Core.out k.core) c.join_seat.new.seat.me _ (lent.0, ap (λ m. m.1) me ∙ lent.1, lent.2, ap (λ m. m.0.held) me ∙ lent.3) c.free.ensures.left in
+    let after = after_none (λ k. g.C.Core.terms k.core ≡ c.args.self.now.terms) (λ k. g.C.Core.out k.core) c.join_seat.new.seat.me _ (h.0, ap (λ m. m.1) me ∙ h.1, h.2, ap (λ m. m.0.held) me ∙ h.3) c.free.ensures.left in
     omega (arith, after, ap (λ m. m.0.out) me, b.1, ap out_by c.into_seat.ensures.views)
 
 pub returns-clause-bound : goal.returns-clause-bound
 returns-clause-bound g c =
     let b = badge_core (λ k. g.C.Core.terms k.core ≡ c.args.self.now.terms) (λ k. g.C.Core.out k.core) c.args.token.badge.views c.lock_with-seat.result.me c.lock_with-seat.ensures.has in
     let h = b.0 in
-    let lent = still (λ k. g.C.Core.terms k.core ≡ c.args.self.now.terms) (λ k. g.C.Core.out k.core) c.lock_with-seat.result.me c.slot_mut.result.now h c.slot_mut.ensures.value in
     let me = c.join_seat.ensures.2 in
-    let after = after_none (λ k. g.C.Core.terms k.core ≡ c.args.self.now.terms) (λ k. g.C.Core.out k.core) c.join_seat.new.seat.me _ (lent.0, ap (λ m. m.1) me ∙ lent.1, lent.2, ap (λ m. m.0.held) me ∙ lent.3) c.free.ensures.left in
-    omega (arith, after, c.free.ensures.left.3, ap (λ m. m.0.held) me, ap g.C.Core.size lent.2, lent.3, c.looked_at.ensures)
+    let after = after_none (λ k. g.C.Core.terms k.core ≡ c.args.self.now.terms) (λ k. g.C.Core.out k.core) c.join_seat.new.seat.me _ (h.0, ap (λ m. m.1) me ∙ h.1, h.2, ap (λ m. m.0.held) me ∙ h.3) c.free.ensures.left in
+    omega (arith, after, c.free.ensures.left.3, ap (λ m. m.0.held) me, ap g.C.Core.size h.2, h.3, h.0.within)

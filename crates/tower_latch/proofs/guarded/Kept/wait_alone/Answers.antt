@@ -15,7 +15,7 @@ invariant_of-self g c = record {
 pub returns-in_default-clause-machine : goal.returns-in_default-clause-machine
 returns-in_default-clause-machine g c = record {
   mid = c.args.self.now.waiters;
-  turns = record { wakes = c.step-reply.result.1; steps = c.step-reply.ensures.steps; waits = c.step-reply.ensures.waits; names = c.step-reply.ensures.names; takes = takes_alone (g.C.Core.stalls c.step-reply.new.self) _ c.step-reply.result.1 c.requires.alone };
+  stepped = record { wakes = c.step-reply.result.1; steps = c.step-reply.ensures.steps; waits = c.step-reply.ensures.waits; names = c.step-reply.ensures.names; takes = takes_alone (g.C.Core.stalls c.step-reply.new.self) _ c.step-reply.result.1 c.requires.alone };
   kept = λ waits. absurd (c.in_default.not-Wait _ (c.step-reply.ensures.waits waits));
   others = λ key. inl refl;
 }
@@ -31,7 +31,7 @@ invariant_of-self-2 g c = record {
   reached = reached_on _ _ _ _ _ _ c.step-reply.ensures.steps c.args.self.now.reached;
   settled = settled_by_wait g.C.Core c.args.share c.args.cx.now c.keep.new.cx _ _ _ _ c.args.step c.step-reply.result.0 None c.args.self.now.settled (record {
     mid = c.args.self.now.waiters;
-    turns = record { wakes = c.step-reply.result.1; steps = c.step-reply.ensures.steps; waits = c.step-reply.ensures.waits; names = c.step-reply.ensures.names; takes = takes_alone (g.C.Core.stalls c.step-reply.new.self) _ c.step-reply.result.1 c.requires.alone };
+    stepped = record { wakes = c.step-reply.result.1; steps = c.step-reply.ensures.steps; waits = c.step-reply.ensures.waits; names = c.step-reply.ensures.names; takes = takes_alone (g.C.Core.stalls c.step-reply.new.self) _ c.step-reply.result.1 c.requires.alone };
     kept = λ waits. subst (λ (k : ℕ). IsKept c.args.share c.args.cx.now c.keep.new.cx (at c.keep.new.self k)) (waiting_at _ _ _ c.in-Wait.is (c.step-reply.ensures.waits waits)) c.keep.ensures.kept;
     others = λ key. elim (c.keep.ensures.others key) [ inl same ↦ inl same | inr it ↦ inr (subst (λ (k : ℕ). c.step-reply.result.1 ≡ Wait k) it c.in-Wait.is) ];
   });
@@ -41,7 +41,7 @@ invariant_of-self-2 g c = record {
 pub returns-clause-machine : goal.returns-clause-machine
 returns-clause-machine g c = record {
   mid = c.args.self.now.waiters;
-  turns = record { wakes = c.step-reply.result.1; steps = c.step-reply.ensures.steps; waits = c.step-reply.ensures.waits; names = c.step-reply.ensures.names; takes = takes_alone (g.C.Core.stalls c.step-reply.new.self) _ c.step-reply.result.1 c.requires.alone };
+  stepped = record { wakes = c.step-reply.result.1; steps = c.step-reply.ensures.steps; waits = c.step-reply.ensures.waits; names = c.step-reply.ensures.names; takes = takes_alone (g.C.Core.stalls c.step-reply.new.self) _ c.step-reply.result.1 c.requires.alone };
   kept = λ waits. subst (λ (k : ℕ). IsKept c.args.share c.args.cx.now c.keep.new.cx (at c.keep.new.self k)) (waiting_at _ _ _ c.in-Wait.is (c.step-reply.ensures.waits waits)) c.keep.ensures.kept;
   others = λ key. elim (c.keep.ensures.others key) [ inl same ↦ inl same | inr it ↦ inr (subst (λ (k : ℕ). c.step-reply.result.1 ≡ Wait k) it c.in-Wait.is) ];
 }

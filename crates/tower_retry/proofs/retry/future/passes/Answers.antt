@@ -1,15 +1,15 @@
 use Rattle.std.proofs.Common.{inl, inr, arith, rules}
-use Rattle.tower_base.specs.PassesLemmas.{goes_start, goes_more, passes_answer, passes_tired}
-use Rattle.tower_retry.specs.Retry.{Pass}
+use Rattle.tower_base.specs.IterationsLemmas.{iterates_start, iterates_more, iterations_answer, iterations_tired}
+use Rattle.tower_retry.specs.Retry.{Iteration}
 use Rattle.tower_retry.proofs.retry.future.passes.Goals as goal
 
 pub loop-pass-init : goal.loop-pass-init
-loop-pass-init g c = record { went = goes_start _ _; sound = c.requires; kept = λ fact h. h }
+loop-pass-init g c = record { went = iterates_start _ _; sound = c.requires; kept = λ fact h. h }
 
 pub returns-in-Some-clause-passes : goal.returns-in-Some-clause-passes
 returns-in-Some-clause-passes g c =
     let answer = rw c.in-Some.is at c.pass.ensures.pass in
-    passes_answer _ c.loop-pass._pass _ _ _ _ _ c.loop-pass.invariant.went (omega arith) answer
+    iterations_answer _ c.loop-pass._pass _ _ _ _ _ c.loop-pass.invariant.went (omega arith) answer
 
 pub returns-in-Some-clause-woken : goal.returns-in-Some-clause-woken
 returns-in-Some-clause-woken g c = inl (record {
@@ -22,14 +22,14 @@ returns-in-Some-clause-woken g c = inl (record {
 
 pub loop-pass-preserved : goal.loop-pass-preserved
 loop-pass-preserved g c = record {
-  went = goes_more (Pass g.S.Service g.S.Future.Steps.stepped g.P.Policy g.P.Future.Steps.stepped) c.loop-pass._pass _ _ _
+  went = iterates_more (Iteration g.S.Service g.S.Future.Steps.stepped g.P.Policy g.P.Future.Steps.stepped) c.loop-pass._pass _ _ _
       c.loop-pass.invariant.went (rw c.in_default.is at c.pass.ensures.pass);
   sound = rw c.in_default.is at c.pass.ensures.again;
   kept = λ fact h. c.pass.ensures.kept fact (c.loop-pass.invariant.kept fact h);
 }
 
 pub returns-clause-passes : goal.returns-clause-passes
-returns-clause-passes g c = passes_tired _ c.loop-pass._pass _ _ _ _ c.loop-pass.invariant.went (omega arith) (search rules)
+returns-clause-passes g c = iterations_tired _ c.loop-pass._pass _ _ _ _ c.loop-pass.invariant.went (omega arith) (search rules)
 
 pub returns-clause-woken : goal.returns-clause-woken
 returns-clause-woken g c = inr (search rules)

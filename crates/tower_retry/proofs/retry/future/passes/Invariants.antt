@@ -1,11 +1,11 @@
 use Rattle.futures.specs.Task.{Keeps}
-use Rattle.tower_base.specs.Passes.{Goes}
-use Rattle.tower_retry.specs.Retry.{Pass, Sound}
+use Rattle.tower_base.specs.Iterations.{Iterates}
+use Rattle.tower_retry.specs.Retry.{Iteration, Sound}
 use Rattle.tower_retry.proofs.retry.future.passes.Given as goal
 
 abbrev pub invariant-loop-pass : goal.invariant-loop-pass
 invariant-loop-pass g l = record {
-  went : Goes (Pass g.S.Service g.S.Future.Steps.stepped g.P.Policy g.P.Future.Steps.stepped) l._pass l.fn.attempts l.attempts;
+  went : Iterates (Iteration g.S.Service g.S.Future.Steps.stepped g.P.Policy g.P.Future.Steps.stepped) l._pass l.fn.attempts l.attempts;
   sound : Sound g.P.Policy.sound g.S.Service.sound g.S.Future.Steps.can_poll g.P.Future.Steps.can_poll l.attempts;
   kept : Keeps l.fn.cx l.cx;
 }

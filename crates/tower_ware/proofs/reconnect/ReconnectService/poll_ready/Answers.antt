@@ -1,14 +1,14 @@
 use Rattle.std.proofs.Common.{inl, inr, rules, arith}
-use Rattle.tower_base.specs.PassesLemmas.{goes_more, goes_start, passes_answer, passes_tired}
-use Rattle.tower_ware.specs.Reconnect.{Pass, view_of}
+use Rattle.tower_base.specs.IterationsLemmas.{iterates_more, iterates_start, iterations_answer, iterations_tired}
+use Rattle.tower_ware.specs.Reconnect.{Iteration, view_of}
 use Rattle.tower_ware.proofs.reconnect.ReconnectService.poll_ready.Goals as goal
 
 pub loop-pass-init : goal.loop-pass-init
-loop-pass-init g c = record { went = goes_start _ _; sound = search rules; kept = search rules }
+loop-pass-init g c = record { went = iterates_start _ _; sound = search rules; kept = search rules }
 
 pub returns-in-Some-clause-polled : goal.returns-in-Some-clause-polled
 returns-in-Some-clause-polled g c = record {
-  passes = passes_answer _ c.loop-pass._pass _ _ _ _ _ c.loop-pass.invariant.went (omega arith) (rw c.in-Some.is at c.pass.ensures.pass);
+  passes = iterations_answer _ c.loop-pass._pass _ _ _ _ _ c.loop-pass.invariant.went (omega arith) (rw c.in-Some.is at c.pass.ensures.pass);
 }
 
 pub returns-in-Some-clause-woken : goal.returns-in-Some-clause-woken
@@ -22,7 +22,7 @@ returns-in-Some-clause-woken g c = inl (record {
 
 pub loop-pass-preserved : goal.loop-pass-preserved
 loop-pass-preserved g c = record {
-  went = goes_more (Pass g.M.Service g.M.Future.Steps g.S.Service g.Target.Clone) c.loop-pass._pass _ _ _ c.loop-pass.invariant.went
+  went = iterates_more (Iteration g.M.Service g.M.Future.Steps g.S.Service g.Target.Clone) c.loop-pass._pass _ _ _ c.loop-pass.invariant.went
       (rw c.in_default.is at c.pass.ensures.pass);
   sound = search rules;
   kept = search rules;
@@ -30,7 +30,7 @@ loop-pass-preserved g c = record {
 
 pub returns-clause-polled : goal.returns-clause-polled
 returns-clause-polled g c = record {
-  passes = passes_tired _ c.loop-pass._pass _ _ _ _ c.loop-pass.invariant.went (omega arith) (search rules);
+  passes = iterations_tired _ c.loop-pass._pass _ _ _ _ c.loop-pass.invariant.went (omega arith) (search rules);
 }
 
 pub returns-clause-woken : goal.returns-clause-woken

@@ -1,7 +1,7 @@
 use Rattle.std.proofs.Common.{◌+◌, refl, arith}
 use Rattle.tower_buffer.specs.Mail.{holding}
 use Rattle.tower_buffer.specs.MessageSteps.{queued}
-use Rattle.tower_latch.specs.Turns.{empty}
+use Rattle.tower_latch.specs.WaitList.{empty}
 use Rattle.tower_limit.proofs.LineMoves.{empty_fits, stands_as}
 use Rattle.tower_latch.proofs.WaitQueues.{empty_sizes}
 use Rattle.tower_buffer.proofs.Closing.{closes}

@@ -1,5 +1,5 @@
 use Rattle.std.proofs.Common.{length, refl, ap, arith}
-use Rattle.tower_latch.specs.Turns.{empty}
+use Rattle.tower_latch.specs.WaitList.{empty}
 use Rattle.tower_buffer.proofs.buffer.mailbox.Mailbox.new.Goals as goal
 
 pub returns : goal.returns

@@ -2,7 +2,7 @@ use Rattle.std.proofs.Common.{◌≡◌, ◌+◌, ◌∙◌, length, refl, sym, 
 use Rattle.tower_buffer.specs.Mail.{holding, queued as queued_of}
 use Rattle.tower_buffer.specs.MessageSteps.{queued}
 use Rattle.tower_buffer.proofs.Abandoned.{queued_length}
-use Rattle.tower_latch.specs.Turns.{empty}
+use Rattle.tower_latch.specs.WaitList.{empty}
 use Rattle.tower_limit.proofs.LineMoves.{empty_fits}
 use Rattle.tower_latch.proofs.WaitQueues.{empty_sizes}
 use Rattle.tower_buffer.proofs.Closing.{closes, leave}

@@ -1,11 +1,11 @@
 use Rattle.futures.specs.Task.{Keeps}
-use Rattle.tower_base.specs.Passes.{Goes}
-use Rattle.tower_buffer.specs.Worker.{Pass}
+use Rattle.tower_base.specs.Iterations.{Iterates}
+use Rattle.tower_buffer.specs.Worker.{Iteration}
 use Rattle.tower_buffer.proofs.buffer.worker.Worker.passes.Given as goal
 
 abbrev pub invariant-loop-pass : goal.invariant-loop-pass
 invariant-loop-pass g l = record {
-  went : Goes (Pass g.L.Latch.gave g.S.Service) l._pass l.fn.self l.self;
+  went : Iterates (Iteration g.L.Latch.gave g.S.Service) l._pass l.fn.self l.self;
   sound : g.S.Service.sound l.self.service;
   kept : Keeps l.fn.cx l.cx;
 }

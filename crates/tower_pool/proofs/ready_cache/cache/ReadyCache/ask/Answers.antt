@@ -4,7 +4,7 @@ use Rattle.std.specs.Option.{option_map_or}
 use Rattle.futures.specs.declared.task.Poll.TheVariants.{Ready}
 use Rattle.tower_pool.specs.declared.ready_cache.error.Error.TheVariants.{Failed}
 use Rattle.indexmap.specs.IndexMap.{insert_entry}
-use Rattle.tower_pool.specs.ReadyCache.{awaited}
+use Rattle.tower_pool.specs.ReadyCache.{is_pending}
 use Rattle.tower_pool.specs.Pending.{cache_of, entry_of, knows}
 use Rattle.tower_pool.proofs.AskLemmas.{asked_by, sound_first, sound_gone, sound_last, sound_ready, when_ok}
 use Rattle.tower_pool.proofs.CacheLemmas.{same_view}
@@ -64,7 +64,7 @@ returns-in-Ready-Err-clause-held g c =
     kept_failed g.K.PartialEq.eq g.met.K.Eq.laws g.K.Clone.is_clone c.args.ready.now.entries c.args.pending.now.items (knows g.K.PartialEq.eq c.args.pending.now) c.args.pending.now.room c.requires.held q mid take
     c.reserve.new.self.entries c.let_go.new.self.items (knows eq c.let_go.new.self) c.let_go.new.self.room (c.let_go.ensures.room ∙ c.take_first.ensures.room) alive c.contains_key.result
     (c.contains_key.ensures ∙ (λ j. is_some (lookup (eq q.key) (c.reserve.ensures.entries j)))) c.reserve.ensures.entries c.let_go.ensures.items
-    (λ k. c.let_go.ensures.knows k ∙ (λ j. c.take_first.ensures.knows k j && not (eq q.key k && not (c.contains_key.result || awaited eq q.key mid))))
+    (λ k. c.let_go.ensures.knows k ∙ (λ j. c.take_first.ensures.knows k j && not (eq q.key k && not (c.contains_key.result || is_pending eq q.key mid))))
 
 pub returns-then-is_cancelled-clause-sound : goal.returns-then-is_cancelled-clause-sound
 returns-then-is_cancelled-clause-sound g c =

@@ -1,6 +1,6 @@
 use Rattle.std.proofs.Common.{rules, suc, ◌≡◌, ◌<◌, ◌-◌, ◌∙◌, Ok, Err, true, false, true≢false, ap, sym, subst, refl, arith}
 use Rattle.tower_pool.specs.declared.ready_cache.error.Error.TheVariants.{Memory}
-use Rattle.tower_pool.specs.ReadyCachePoll.{AskedFirst}
+use Rattle.tower_pool.specs.ReadyCachePoll.{PolledFirst}
 use Rattle.tower_pool.specs.Pending.{cache_of}
 use Rattle.tower_pool.proofs.KeptLemmas.{kept_rotated}
 use Rattle.tower_pool.specs.ReadyCache.{HeardFrom}
@@ -32,7 +32,7 @@ loop-left-preserved-in-Ok-true g c =
     let e : c.loop-left.left ≡ suc n = omega (arith, some) in
     let h : Asking g.K.PartialEq.eq g.S.Service old was (suc n) c.loop-left.waits = subst (λ m. Asking g.K.PartialEq.eq g.S.Service old was m c.loop-left.waits) e c.loop-left.invariant.asking in
     let is : c.ask.result ≡ Ok true = c.in-Ok-true.is ∙ ap Ok c.in-Ok-true.field-0-test in
-    let turn : AskedFirst g.K.PartialEq.eq g.S.Service was (Ok true) now = rw is at c.ask.ensures.asked in
+    let turn : PolledFirst g.K.PartialEq.eq g.S.Service was (Ok true) now = rw is at c.ask.ensures.asked in
     record {
       held = c.ask.ensures.held;
       asking = asking_waits g.K.PartialEq.eq g.S.Service old was now n c.loop-left.waits h turn;
@@ -54,7 +54,7 @@ loop-left-preserved g c =
     let e : c.loop-left.left ≡ suc n = omega (arith, some) in
     let h : Asking g.K.PartialEq.eq g.S.Service old was (suc n) c.loop-left.waits = subst (λ m. Asking g.K.PartialEq.eq g.S.Service old was m c.loop-left.waits) e c.loop-left.invariant.asking in
     let is : c.ask.result ≡ Ok false = c.in-Ok-false.is ∙ ap Ok c.in-Ok-false.field-0-test in
-    let turn : AskedFirst g.K.PartialEq.eq g.S.Service was (Ok false) now = rw is at c.ask.ensures.asked in
+    let turn : PolledFirst g.K.PartialEq.eq g.S.Service was (Ok false) now = rw is at c.ask.ensures.asked in
     record {
       held = c.ask.ensures.held;
       asking = asking_left g.K.PartialEq.eq g.S.Service old was now n c.loop-left.waits h turn;

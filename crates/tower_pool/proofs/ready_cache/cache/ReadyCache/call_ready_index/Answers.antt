@@ -1,5 +1,5 @@
 use Rattle.std.proofs.Common.{All, ◌||◌, ap, sym, subst, ◌∙◌}
-use Rattle.tower_pool.specs.ReadyCache.{Askable, At, Sound, awaited}
+use Rattle.tower_pool.specs.ReadyCache.{Askable, At, Sound, is_pending}
 use Rattle.tower_pool.specs.Pending.{knows}
 use Rattle.tower_pool.proofs.CacheLemmas.{called_of, same_view}
 use Rattle.tower_pool.proofs.KeptLemmas.{kept_back, known_at}
@@ -10,7 +10,7 @@ use Rattle.tower_pool.proofs.ready_cache.cache.ReadyCache.call_ready_index.Goals
 pub put_back-requires-clause-known : goal.put_back-requires-clause-known
 put_back-requires-clause-known g c =
     let u = c.unwrap-key.result in
-    c.self.invariant.known u.0 ∙ (λ j. known_at g.K.PartialEq.eq g.met.K.Eq.laws c.self.inside.ready.entries c.args.index u.0 u.1 (sym c.swap_remove_index.ensures.entry ∙ c.unwrap-key.ensures) j || awaited g.K.PartialEq.eq u.0 c.self.inside.pending.items)
+    c.self.invariant.known u.0 ∙ (λ j. known_at g.K.PartialEq.eq g.met.K.Eq.laws c.self.inside.ready.entries c.args.index u.0 u.1 (sym c.swap_remove_index.ensures.entry ∙ c.unwrap-key.ensures) j || is_pending g.K.PartialEq.eq u.0 c.self.inside.pending.items)
 
 pub invariant_of-self : goal.invariant_of-self
 invariant_of-self g c =

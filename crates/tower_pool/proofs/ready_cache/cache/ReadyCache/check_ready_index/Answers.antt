@@ -1,7 +1,7 @@
 use Rattle.std.proofs.Common.{All, rules, ℕ, ◌||◌, Err, is_some, refl, sym, ap, subst, ◌∙◌, arith}
 use Rattle.futures.specs.declared.task.Poll.TheVariants.{Ready}
 use Rattle.futures.specs.Task.{Hears}
-use Rattle.tower_pool.specs.ReadyCache.{Askable, HeardFrom, Sound, awaited, put_back, waiting}
+use Rattle.tower_pool.specs.ReadyCache.{Askable, HeardFrom, Sound, is_pending, put_back, pending_entry}
 use Rattle.tower_pool.proofs.NeedsLemmas.{heard_back, heard_kept}
 use Rattle.tower_pool.specs.Pending.{knows}
 use Rattle.indexmap.specs.IndexMap.{set_value_at}
@@ -34,7 +34,7 @@ pub put_back-requires-clause-known : goal.put_back-requires-clause-known
 put_back-requires-clause-known g c =
     let u = c.unwrap-key-in-Pending.result in
     let there = sym c.swap_remove_index-in-Pending.ensures.entry ∙ c.unwrap-key-in-Pending.ensures in
-    c.self.invariant.known u.0 ∙ (λ j. (sym (known_written (g.K.PartialEq.eq u.0) c.self.inside.ready.entries c.args.index c.poll_ready.new.self) ∙ known_at g.K.PartialEq.eq g.met.K.Eq.laws _ c.args.index u.0 u.1 there) j || awaited g.K.PartialEq.eq u.0 c.self.inside.pending.items)
+    c.self.invariant.known u.0 ∙ (λ j. (sym (known_written (g.K.PartialEq.eq u.0) c.self.inside.ready.entries c.args.index c.poll_ready.new.self) ∙ known_at g.K.PartialEq.eq g.met.K.Eq.laws _ c.args.index u.0 u.1 there) j || is_pending g.K.PartialEq.eq u.0 c.self.inside.pending.items)
 
 pub invariant_of-self-in-Pending : goal.invariant_of-self-in-Pending
 invariant_of-self-in-Pending g c =
@@ -137,6 +137,6 @@ returns-in-Pending-clause-heard g c = λ h.
     let there = sym c.swap_remove_index-in-Pending.ensures.entry ∙ c.unwrap-key-in-Pending.ensures in
     let is = taken _ c.args.index _ u (at_written es c.args.index _ _ w c.pair_mut-service.ensures.value) there in
     subst (HeardFrom needs _ 0) (sym c.put_back.ensures.items)
-    (heard_back needs _ _ c.poll_ready.ensures.kept (awaited g.K.PartialEq.eq u.0 c.self.inside.pending.items) c.self.inside.pending.items (waiting u.0 u.1)
+    (heard_back needs _ _ c.poll_ready.ensures.kept (is_pending g.K.PartialEq.eq u.0 c.self.inside.pending.items) c.self.inside.pending.items (pending_entry u.0 u.1)
     (subst (λ p. (source : ℕ) → needs p.1 source → Hears c.poll_ready.new.cx source) (sym is) c.in-Pending.ensures.heard)
     (subst (λ v. HeardFrom needs c.args.cx.now 0 v.lists.pending) (sym c.self.view_is) h))

@@ -2,7 +2,7 @@ use Rattle.std.proofs.Common.{rules, Bool, ◌≡◌, ◌∙◌, ◌++◌, is_so
 use Rattle.std.proofs.lemmas.List.{append-nil}
 use Rattle.std.specs.Map.{lookup}
 use Rattle.std.specs.Option.{option_copied_mut}
-use Rattle.tower_pool.specs.ReadyCache.{awaited}
+use Rattle.tower_pool.specs.ReadyCache.{is_pending}
 use Rattle.tower_pool.specs.Pending.{entry_of, last_of, names_one, stored}
 use Rattle.tower_pool.proofs.PendingPlaces.{has_room, items_with_cancelled, items_with_named, none_stored, placed_cancelled, placed_named, small_more, stands_with, still_known, stored_last}
 use Rattle.tower_pool.proofs.ready_cache.pending.Pending.append.Goals as goal
@@ -26,7 +26,7 @@ invariant_of-self g c =
     stands_with eq g.met.K.Eq.laws es c.push_back.new.self
     (placed_cancelled eq g.met.K.Eq.laws es links c.self.invariant.placed c.push_back.new.self c.push_back.result (e.0, e.1) c.push_back.ensures.was_vacant c.push_back.ensures.order c.push_back.ensures.entries c.push_back.ensures.len)
     (small_more eq g.met.K.Eq.laws es links c.self.inside.last c.self.invariant e some _ _ (ap (λ v. v.items) c.self.view_is) (ap (λ v. v.room) c.self.view_is) c.requires.room _ c.push_back.result c.push_back.ensures.order)
-    c.replace.new.self c.args.last c.replace.ensures.after (λ alive. (λ j. is_some (lookup (eq c.args.last.0) (c.self.view_is j).places)) ∙ c.requires.known alive) (λ alive. ap (awaited eq c.args.last.0) same ∙ c.requires.alone alive)
+    c.replace.new.self c.args.last c.replace.ensures.after (λ alive. (λ j. is_some (lookup (eq c.args.last.0) (c.self.view_is j).places)) ∙ c.requires.known alive) (λ alive. ap (is_pending eq c.args.last.0) same ∙ c.requires.alone alive)
 
 pub returns-in-Some-default-default-true-clause-items : goal.returns-in-Some-default-default-true-clause-items
 returns-in-Some-default-default-true-clause-items g c =
@@ -65,7 +65,7 @@ invariant_of-self-in-Some-default-default-false g c =
     (small_more eq g.met.K.Eq.laws es links c.self.inside.last c.self.invariant e some _ _ (ap (λ v. v.items) c.self.view_is) (ap (λ v. v.room) c.self.view_is) c.requires.room _ push.result push.ensures.order)
     c.replace.new.self c.args.last c.replace.ensures.after
     (λ t. ap is_some (now c.args.last.0) ∙ still_known (eq e.0 c.args.last.0) push.result (lookup (eq c.args.last.0) es) ((λ j. is_some (lookup (eq c.args.last.0) (c.self.view_is j).places)) ∙ c.requires.known t))
-    (λ t. ap (awaited eq c.args.last.0) same ∙ c.requires.alone t)
+    (λ t. ap (is_pending eq c.args.last.0) same ∙ c.requires.alone t)
 
 pub returns-in-Some-default-default-false-clause-items : goal.returns-in-Some-default-default-false-clause-items
 returns-in-Some-default-default-false-clause-items g c =
@@ -91,4 +91,4 @@ invariant_of-self-in-None g c =
     let none : c.self.inside.last ≡ None = search rules in
     let same : stored eq es links ≡ c.args.self.now.items = sym (append-nil (stored eq es links)) ∙ (λ j. stored eq es links ++ last_of (sym none j)) ∙ ap (λ v. v.items) c.self.view_is in
     stands_with eq g.met.K.Eq.laws es links c.self.invariant.placed c.self.invariant.small c.replace.new.self c.args.last c.replace.ensures.after
-    (λ alive. (λ j. is_some (lookup (eq c.args.last.0) (c.self.view_is j).places)) ∙ c.requires.known alive) (λ alive. ap (awaited eq c.args.last.0) same ∙ c.requires.alone alive)
+    (λ alive. (λ j. is_some (lookup (eq c.args.last.0) (c.self.view_is j).places)) ∙ c.requires.known alive) (λ alive. ap (is_pending eq c.args.last.0) same ∙ c.requires.alone alive)

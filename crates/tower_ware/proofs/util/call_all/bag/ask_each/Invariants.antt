@@ -1,13 +1,13 @@
 use Rattle.std.proofs.Common.{◌≡◌, All, ◌<◌, ◌++◌, List, Option, drop, take, vec_len}
 use Rattle.std.specs.Vec.{vec_capacity}
 use Rattle.futures.specs.Task.{IsArmed, Keeps}
-use Rattle.tower_ware.specs.Bag.{EachAsked}
+use Rattle.tower_ware.specs.Bag.{EachPolled}
 use Rattle.tower_ware.proofs.util.call_all.bag.ask_each.Given as goal
 
 abbrev pub invariant-loop-i : goal.invariant-loop-i
 invariant-loop-i g l = record {
-  asked : (a : Option _) (gs : List _) → EachAsked g.F.Steps (drop l.i l.futures.items) a gs
-      → EachAsked g.F.Steps l.fn.futures.items a (take l.i l.futures.items ++ gs);
+  asked : (a : Option _) (gs : List _) → EachPolled g.F.Steps (drop l.i l.futures.items) a gs
+      → EachPolled g.F.Steps l.fn.futures.items a (take l.i l.futures.items ++ gs);
   count : vec_len l.futures ≡ l.i-end;
   again : All g.F.Steps.can_poll l.futures.items;
   room : vec_capacity l.futures ≡ vec_capacity l.fn.futures;

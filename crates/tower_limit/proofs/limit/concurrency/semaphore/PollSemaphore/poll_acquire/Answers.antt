@@ -22,7 +22,7 @@ returns-in-Waiting-clause-acquired g c =
       shared = search rules;
       shares = search rules;
       reply = c.wait-reply.result.0;
-      asked = elim c.match-self.branch [
+      requested = elim c.match-self.branch [
         | in-None w ↦ search rules
         | in-Some w ↦ search rules
       ];

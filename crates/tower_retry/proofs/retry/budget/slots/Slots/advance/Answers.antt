@@ -3,7 +3,7 @@ use Rattle.std.specs.Prelude.{ℤ}
 use Rattle.std.specs.Int.{w128}
 use Rattle.std.proofs.lemmas.Int.{to_z-of_z}
 use Rattle.std.proofs.lemmas.Bool.Decides.{leb_tells}
-use Rattle.tower_retry.specs.Slots.{Moves}
+use Rattle.tower_retry.specs.Slots.{Shifted}
 use Rattle.tower_retry.proofs.SlotLemmas.{moves_more, moves_on}
 use Rattle.tower_retry.proofs.retry.budget.slots.Slots.advance.Goals as goal
 
@@ -21,8 +21,8 @@ returns-clause-moves c =
     let old = c.args.self.now in
     let slots = c.loop-past.self in
     let new = c.move_on.new.self in
-    let moves : Moves m c.args.present old.index old.amounts.items slots.index slots.amounts.items =
-    subst (λ (z : ℤ). Moves m z old.index old.amounts.items slots.index slots.amounts.items) present c.loop-past.invariant.moves in
+    let moves : Shifted m c.args.present old.index old.amounts.items slots.index slots.amounts.items =
+    subst (λ (z : ℤ). Shifted m z old.index old.amounts.items slots.index slots.amounts.items) present c.loop-past.invariant.moves in
     let ended : (n ≤ 11 × m ≡ n) ⊎ (11 ≤ n × m ≡ 11) =
     elim (leb_tells n 11) [ inl few ↦ inl (omega arith, omega arith) | inr many ↦ inr (omega arith, omega arith) ] in
     rw (ap (λ v. v.items) c.move_on.ensures.amounts)

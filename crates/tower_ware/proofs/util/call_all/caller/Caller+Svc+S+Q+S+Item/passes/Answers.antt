@@ -1,14 +1,14 @@
 use Rattle.std.proofs.Common.{inl, inr, rules, arith}
-use Rattle.tower_base.specs.PassesLemmas.{goes_more, goes_start, passes_answer, passes_tired}
-use Rattle.tower_ware.specs.CallAll.{Pass, view_of}
+use Rattle.tower_base.specs.IterationsLemmas.{iterates_more, iterates_start, iterations_answer, iterations_tired}
+use Rattle.tower_ware.specs.CallAll.{Iteration, view_of}
 use Rattle.tower_ware.proofs.util.call_all.caller.Caller+Svc+S+Q+S+Item.passes.Goals as goal
 
 pub loop-pass-init : goal.loop-pass-init
-loop-pass-init g c = record { there = search rules; queue = search rules; flow = search rules; went = goes_start _ _; kept = search rules }
+loop-pass-init g c = record { there = search rules; queue = search rules; flow = search rules; went = iterates_start _ _; kept = search rules }
 
 pub returns-in-Some-clause-flowed : goal.returns-in-Some-clause-flowed
 returns-in-Some-clause-flowed g c = record {
-  passes = passes_answer _ c.loop-pass._pass _ _ _ _ _ c.loop-pass.invariant.went (omega arith) (rw c.in-Some.is at c.pass.ensures.pass);
+  passes = iterations_answer _ c.loop-pass._pass _ _ _ _ _ c.loop-pass.invariant.went (omega arith) (rw c.in-Some.is at c.pass.ensures.pass);
 }
 
 pub returns-in-Some-clause-woken : goal.returns-in-Some-clause-woken
@@ -25,14 +25,14 @@ loop-pass-preserved g c = record {
   there = search rules;
   queue = search rules;
   flow = search rules;
-  went = goes_more (Pass g.Svc.Service g.S.Flow g.Q.CallQueue)
+  went = iterates_more (Iteration g.Svc.Service g.S.Flow g.Q.CallQueue)
       c.loop-pass._pass _ _ _ c.loop-pass.invariant.went (rw c.in_default.is at c.pass.ensures.pass);
   kept = search rules;
 }
 
 pub returns-clause-flowed : goal.returns-clause-flowed
 returns-clause-flowed g c = record {
-  passes = passes_tired _ c.loop-pass._pass _ _ _ _ c.loop-pass.invariant.went (omega arith) (search rules);
+  passes = iterations_tired _ c.loop-pass._pass _ _ _ _ c.loop-pass.invariant.went (omega arith) (search rules);
 }
 
 pub returns-clause-woken : goal.returns-clause-woken

@@ -1,7 +1,7 @@
 use Rattle.std.proofs.Common.{◌≡◌, IsSomeAnd, false}
 use Rattle.futures.specs.Task.{Keeps}
-use Rattle.tower_base.specs.Passes.{Goes}
-use Rattle.tower_ware.specs.CallAll.{Pass, view_of}
+use Rattle.tower_base.specs.Iterations.{Iterates}
+use Rattle.tower_ware.specs.CallAll.{Iteration, view_of}
 use Rattle.tower_ware.proofs.util.call_all.caller.Caller+Svc+S+Q+S+Item.passes.Given as goal
 
 abbrev pub invariant-loop-pass : goal.invariant-loop-pass
@@ -9,7 +9,7 @@ invariant-loop-pass g l = record {
   there : IsSomeAnd l.self.service g.Svc.Service.sound;
   queue : g.Q.CallQueue.sound l.self.queue;
   flow : l.self.ended ≡ false → g.S.Stream.can_poll l.self.requests;
-  went : Goes (Pass g.Svc.Service g.S.Flow g.Q.CallQueue)
+  went : Iterates (Iteration g.Svc.Service g.S.Flow g.Q.CallQueue)
       l._pass (view_of l.fn.self) (view_of l.self);
   kept : Keeps l.fn.cx l.cx;
 }

@@ -1,4 +1,0 @@
-use Rattle.tests_spawn.proofs.apart.one_call.Given as goal
-
-abbrev pub invariant-loop : goal.invariant-loop
-invariant-loop g l = g.H.Service.sound l.handle
