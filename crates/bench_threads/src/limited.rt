@@ -1,7 +1,7 @@
-//! Calls through a limit.
+//! Calls through a limit, and without one.
 
 use crate::echo::Echo;
-use crate::queued::{clones_of, sum_of};
+use crate::queued::{clones_of, sum_of, total};
 use std::alloc::AllocGlobal;
 use std::random::RandomSource;
 use std::sync::Wait;
@@ -19,9 +19,14 @@ where
 {
     let limit = ConcurrencyLimit::with_semaphore(Echo, Semaphore::with_latch(line, max));
     let clones = clones_of(rt.alloc(), limit, callers)?;
-    let mut sum = 0u64;
-    for made in thread::map_vec(rt, clones, &|limit| sum_of(rt, limit, each))? {
-        sum = sum.wrapping_add(made?);
-    }
-    Ok(sum)
+    total(thread::map_vec(rt, clones, &|limit| sum_of(rt, limit, each))?)
+}
+
+/// The sum of the responses without a limit: what the threads and their waiters take.
+pub fn alone<R>(rt: &R, callers: usize, each: u64) -> io::Result<u64>
+where
+    R: Threads + Wait + RandomSource + AllocGlobal + Sync,
+{
+    let clones = clones_of(rt.alloc(), Echo, callers)?;
+    total(thread::map_vec(rt, clones, &|echo| sum_of(rt, echo, each))?)
 }

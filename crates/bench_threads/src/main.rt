@@ -1,5 +1,5 @@
-//! `bench-threads N T`: N calls of T threads, behind a lock, through one, two and four buffers of 64, through a limit of
-//! one, two and eight calls, and of a retry budget.
+//! `bench-threads N T`: N calls of T threads, behind a lock, through one, two and four buffers of 64, without a
+//! limit and through one of one, two and eight calls, and of a retry budget.
 //!
 //! Each buffer has its share of the callers, and its worker is a task of a pool in a thread of its own.
 #![tactic(auto)]
@@ -55,6 +55,9 @@ where
             println!(rt; "{buffers} of 64: sum {sum}, {} us", micros(&rt, start)?)?;
         }
     }
+    let start = Instant::now(&rt)?;
+    let sum = limited::alone(&rt, callers, each)?;
+    println!(rt; "no limit: sum {sum}, {} us", micros(&rt, start)?)?;
     for max in [1, 2, 8] {
         let line = Guarded::new(rt, rt.alloc(), LineCore::new(rt.alloc(), max))?;
         let start = Instant::now(&rt)?;

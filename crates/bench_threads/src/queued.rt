@@ -27,8 +27,13 @@ where
     R: Threads + Wait + RandomSource + AllocGlobal + Sync,
     L: Latch<Mail> + Send,
 {
+    total(thread::map_vec(rt, mails, &|mail| queued(rt, mail, callers, each))?)
+}
+
+/// The sum of what threads made.
+pub fn total(sums: Vec<io::Result<u64>>) -> io::Result<u64> {
     let mut sum = 0u64;
-    for made in thread::map_vec(rt, mails, &|mail| queued(rt, mail, callers, each))? {
+    for made in sums {
         sum = sum.wrapping_add(made?);
     }
     Ok(sum)
@@ -63,11 +68,7 @@ where
         || call_all(rt, buffer, callers, each),
     );
     ended?;
-    let mut sum = 0u64;
-    for made in sums? {
-        sum = sum.wrapping_add(made?);
-    }
-    Ok(sum)
+    total(sums?)
 }
 
 fn serve<R, L>(rt: &R, worker: Back<L>) -> io::Result<()>

@@ -53,6 +53,7 @@ pub fn all(count: u64, threads: u64) {
         drop(made);
         line(&format!("{buffers} of 64"), clones.into_iter().map(|buffer| move || calls(buffer, each)).collect());
     }
+    cloned("no limit", Echo, threads, each);
     for max in [1, 2, 8] {
         cloned(&format!("a limit of {max}"), ConcurrencyLimit::new(Echo, max), threads, each);
     }
