@@ -30,8 +30,8 @@ key_at Waiter.worker = 0
 key_at (Waiter.ticket key) = ticket_key key
 key_at (Waiter.response id) = response_key id
 
--- It would still be told to wait, where so many messages are queued, none or some more will be, mail is closed or not, these tickets wait, and
--- these messages have their ids. Closed mail tells no ticket to wait.
+-- The waiter would still be told to wait, by the number of queued messages, whether none will follow (`over`), whether the mail is closed, the keys
+-- of the tickets that wait (`order`), and the messages that are kept under their ids. Closed mail tells no ticket to wait.
 abbrev pub StallsAt : {Q F : Type 0} → ℕ → Bool → Bool → List ℕ → (ℕ → Option (Message Q F)) → Waiter → Type 0
 StallsAt messages over closed order kept Waiter.worker = (messages ≡ 0) × (over ≡ false)
 StallsAt messages over closed order kept (Waiter.ticket key) = (closed ≡ false) × (has order key ≡ true)
@@ -62,6 +62,7 @@ module _ {Q F E : Type 0} where
   abbrev pub WaitsWell : Mailbox Q F E → Wakes → Type 0
   WaitsWell new wakes = (key : ℕ) → wakes ≡ Wait key → stalls new key
 
+  -- The worker, and each ticket, that would be told to wait still would be, or is named.
   abbrev pub NamesPlaces : Mailbox Q F E → Mailbox Q F E → Wakes → Type 0
   NamesPlaces old new wakes = NamesWorker old new wakes × NamesTickets old new wakes
 
