@@ -16,7 +16,7 @@ import sys
 from beside import built, read
 
 CRATE = "growth"
-USES = "tower tower_base tower_util tower_limit tower_buffer futures thiserror"
+USES = "tower tower_base tower_latch tower_util tower_limit tower_buffer futures thiserror"
 KINDS = {
     "limit": "tasks that wait for a limit of 1",
     "buffer": "producers of a buffer of 64",

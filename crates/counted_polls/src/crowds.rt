@@ -11,7 +11,9 @@ use std::io;
 use std::random::RandomSource;
 use std::sync::Wait;
 use tower_base::service::Service;
-use tower_buffer::buffer::Buffer;
+use tower_buffer::buffer::{Buffer, MailCore};
+use tower_latch::held::Pollable;
+use tower_latch::{Guarded, Latch};
 use tower_limit::limit::ConcurrencyLimit;
 use tower_util::util::Oneshot;
 
@@ -93,7 +95,20 @@ where
     requires sound { S.sound service }
     requires same { (x y : S.Error) → S.Error.is_clone x y → y ≡ x }
 {
-    match Buffer::pair(rt, rt.alloc(), service, bound.max(1)) {
+    let mail = Guarded::new(rt, rt.alloc(), MailCore::new(rt.alloc(), bound.max(1)))?;
+    queued(rt, mail, service, crowd)
+}
+
+// Lets a crowd call through a buffer over any latch.
+fn queued<R, L, S>(rt: R, mail: L, service: S, crowd: Crowd) -> io::Result<Polls>
+where
+    R: Wait + RandomSource + AllocGlobal + Copy,
+    L: Latch<MailCore<u64, Pollable<S::Future>, S::Error>>,
+    S: Service<u64, Response = u64>,
+    S::Error: Clone,
+    requires { S.sound service }
+{
+    match Buffer::with_latch(mail, service) {
         Ok((buffer, worker)) => called(rt, buffer, worker, crowd),
         Err(AllocError) => Err(AllocError.into()),
     }
