@@ -67,7 +67,7 @@ fn clones_of_layers_are_made_of_each_part_once(rt: HostRuntime) -> Result<(), Fa
 }
 
 #[test]
-fn refused_clones_of_parts_are_handed_on(rt: HostRuntime) -> Result<(), Fail> {
+fn refusing_parts_are_handed_on(rt: HostRuntime) -> Result<(), Fail> {
     let checks = Checks::new(rt.alloc());
     let log = Log::new(rt.alloc())?;
     let plain = || Plain::new(&log, 'p');
