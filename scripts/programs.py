@@ -1,5 +1,5 @@
 #!/usr/bin/env python3
-"""scripts/programs.py: runs the proved `tower-run`, `example_paced_lines`, `example_timers`, `counted_polls` and `example_http`, as `rt ci` built them, with
+"""scripts/programs.py: runs the proved `tower-run`, `example_paced_lines`, `example_timers` and `example_http`, as `rt ci` built them, with
 arguments, scripts and files of all kinds.
 
 Without it a program could take wrong arguments, or lose what it read or wrote where a call of the system fails: no contract speaks of those.
@@ -20,7 +20,6 @@ HERE = os.path.dirname(os.path.realpath(__file__))
 TOWER_RUN = f"{HERE}/../crates/tower_run_cli/out/tower_run_cli"
 PACED_LINES = f"{HERE}/../crates/example_paced_lines/out/example_paced_lines"
 TIMERS = f"{HERE}/../crates/example_timers/out/example_timers"
-COUNTED_POLLS = f"{HERE}/../crates/counted_polls/out/counted_polls"
 HTTP = f"{HERE}/../crates/example_http/out/example_http"
 CROWD = re.compile(rb"(?:\d requests: |20 requests: )(\d+) served, (\d+) busy, (\d+) broken, 0 wrong\n5 requests: (\d) served, (\d) busy, (\d) broken, 0 wrong\n"
                    rb"at most ([0-5]) inside at once, 0 at the end\n")
@@ -293,21 +292,6 @@ def check_timers(timers, paced):
         paced.check(["1", "20"], b"a\nb\nc", 0, b"a\nb\nc", b"", **fails)
 
 
-def check_waits(crowds):
-    """If memory for a waker is refused, no task is left asleep: the program ends, or says that memory was refused."""
-    global runs
-    whole, quiet = b"a limit of 1: ended\na buffer of 2: ended\n", 0
-    for number in range(1, 1000):
-        runs += 1
-        ran = crowds.run(["10"], b"", FAIL_ALLOC=number)
-        told = ran.returncode, ran.stdout == whole, whole.startswith(ran.stdout)
-        assert told in ((0, True, True), (1, False, True)), (number, ran)
-        quiet = quiet + 1 if ran.returncode == 0 else 0
-        if quiet == 200:
-            return
-    raise AssertionError("each of the last 200 allocations was refused")
-
-
 def crowd_of(http, words, **fails):
     """What a crowd was told, and then five more: how many were served, shed, and cut off. No answer is wrong, at most five are inside at once and none is
     at the end. `None` if memory was refused to the program itself, which then says so."""
@@ -360,7 +344,6 @@ def main():
             check(paced)
         check_progress()
         check_timers(Program(TIMERS, thread), Program(PACED_LINES, thread))
-        check_waits(Program(COUNTED_POLLS, alloc))
         check_crowds(Program(HTTP, alloc))
     print(f"programs: {runs} runs, each as expected")
 

@@ -1,15 +1,15 @@
 #!/usr/bin/env bash
-# scripts/refused.sh CRATE: refuses each allocation of the crate's tests of refused memory, one in a run, in the proved tests that `rt ci`
+# scripts/refused.sh CRATE [LAST]: refuses each allocation of the crate's tests of refused memory, one in a run, in the proved tests that `rt ci`
 # or `rt test` left in out/ (each test in a process of its own, under scripts/fail_alloc.c). At each number every test `refused_..` has to
 # pass, and some `ample_..`, which makes the same calls, to fail, up to the last number at which one fails. The kit's strings ask for more
-# room than they need and do without it, so a few numbers may show nothing: it stops after four in a row at which none fails. Status 1 and
+# room than they need and do without it, so a few numbers may show nothing: it stops after four (or LAST) in a row at which none fails. Status 1 and
 # a line with the number where one isn't so. Without it no run would refuse memory to what has no script, and of a growth that the kit refuses no
 # clause says what is left.
 set -uo pipefail
 
-crate=${1:?usage: scripts/refused.sh CRATE}
+crate=${1:?usage: scripts/refused.sh CRATE [LAST]}
 most=1000
-last=4
+last=${2:-4}
 cd "$(dirname "${BASH_SOURCE[0]}")" || exit 1
 program=$PWD/../crates/$crate/out/${crate}_tests
 kit=$(dirname "$(dirname "$(realpath "$(command -v rt)")")")/toolchain/bin

@@ -1,7 +1,7 @@
 #!/usr/bin/env python3
 """scripts/measure/growth.py FOLDER RUST [--only KIND ..] [--most N]: prints the tables "Growth" of docs/SPEED.md, ours beside the Rust's, for N = 10 to 10,000.
 
-FOLDER becomes a repository with the library (by scripts/vendor) and a crate `growth`, of scripts/measure/growth and of the crowds of `counted_polls`, which
+FOLDER becomes a repository with the library (by scripts/vendor) and a crate `growth`, of scripts/measure/growth and of the crowds of `tests_buffer`, which
 `rt run` proves and builds there. RUST is the program that scripts/measure/rust/build.sh builds. Both print the polls of a crowd of N: of its tasks and workers, or
 of its responses. Instructions a call are the count of 2T crowds less that of T, over T and N, by callgrind, with T such that T times N is 2,000 at least.
 The balancers' kinds are N rounds in place of a crowd. A count of more than 20 minutes is left out. At the end it prints the polls of a `SpawnReady` whose
@@ -34,7 +34,7 @@ def texts():
     """The texts of the crate, by their paths in it."""
     found = {f"src/{it}.rt": read(f"scripts/measure/growth/{it}.txt") for it in ("main", "collected", "endpoints", "spawned")}
     for name in ("crowds", "tasks"):
-        found[f"src/{name}.rt"] = read(f"crates/counted_polls/src/{name}.rt").replace("counted_polls", CRATE)
+        found[f"src/{name}.rt"] = read(f"crates/tests_buffer/src/polls/{name}.rt").replace("crate::polls::", "crate::")
     return {**found, "proofs/endpoints/flights/Invariants.antt": read("scripts/measure/growth/invariants.txt")}
 
 

@@ -8,6 +8,8 @@ mod mail_core;
 #[cfg(test)]
 mod making;
 #[cfg(test)]
+mod polls;
+#[cfg(test)]
 mod refused;
 #[cfg(test)]
 mod stored;

@@ -5,12 +5,10 @@ use futures::future::Future;
 use futures::task::{Context, Poll};
 use std::cell::Cell;
 use std::marker::Model;
-use thiserror::Error;
 use tower_base::service::{Service, Steps};
 
 /// The service's error, which it never returns.
-#[derive(Clone, Copy, Debug, Error)]
-#[error("lost")]
+#[derive(Clone, Copy, Debug)]
 pub struct Lost;
 
 /// A response, which is pending once if it isn't due.

@@ -1,7 +1,7 @@
 //! Polls of a crowd of tasks, each of which makes one call of a clone of one service.
 ghost use Rattle.std.specs.Prelude.{◌≡◌};
 
-use crate::tasks::{Answered, Counted, LATE};
+use crate::polls::tasks::{Answered, Counted, LATE};
 use futures::executor::{LocalPool, LocalSpawner};
 use futures::future::{Either, Future, ready};
 use futures::task::Doorbell;
@@ -10,12 +10,12 @@ use std::cell::Cell;
 use std::io;
 use std::random::RandomSource;
 use std::sync::Wait;
+use tower::util::Oneshot;
 use tower_base::service::Service;
 use tower_buffer::buffer::{Buffer, MailCore};
 use tower_latch::held::Pollable;
 use tower_latch::{Guarded, Latch};
 use tower_limit::limit::ConcurrencyLimit;
-use tower_util::util::Oneshot;
 
 /// How often the tasks that call were polled, and how often the worker, and how many answers came.
 #[derive(Clone, Copy)]
