@@ -14,7 +14,7 @@ use std::random::RandomSource;
 use std::sync::Wait;
 use std::thread::{Promise, PromisedHandle, Threads};
 use std::{fmt, thread};
-use tower::util::block_on;
+use tower::util::Waiter;
 use tower_latch::Latch;
 use tower_limit::limit::concurrency::{LineCore, Permit, PollSemaphore, Semaphore};
 
@@ -220,10 +220,13 @@ where
     G: Gate,
     ensures { IfOk result (λ rounds. rounds ≡ count) }
 {
+    let Ok(mut waiter) = Waiter::new(rt) else {
+        return Err(AllocError);
+    };
     let mut made = Rounds::none();
     for round in 0..count {
         let asking = PollSemaphore::new(semaphore.share()?);
-        let Ok(acquired) = block_on(rt, Acquire { asking }) else {
+        let Ok(acquired) = waiter.block_on(rt, Acquire { asking }) else {
             return Err(AllocError);
         };
         let permit = acquired?;
