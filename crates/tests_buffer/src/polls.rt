@@ -73,14 +73,15 @@ fn polls_of_crowds(rt: HostRuntime) -> Result<(), Fail> {
 }
 
 // Lets ten tasks call through a limit of one, and ten through a buffer of two places. Returns whether each was answered, after
-// no more polls than without a refusal.
+// as many polls as without a refusal: of the buffer's, two have a place at once, and eight wait for one. Each sends, and polls a
+// response that is pending once.
 fn few<R: Wait + RandomSource + AllocGlobal + Copy>(rt: R) -> io::Result<bool> {
     let through_limit = limited(rt, 1, Crowd::staying(10))?;
     let through_buffer = buffered(rt, LATE, 2, Crowd::staying(10))?;
     Ok(
         through_limit.callers == 29
             && through_limit.answers == 10
-            && through_buffer.callers <= 30
+            && through_buffer.callers == 2 * 3 + 8 * 4
             && through_buffer.worker <= 12
             && through_buffer.answers == 10,
     )
