@@ -1,5 +1,5 @@
 //! Constructors, layers and texts. Its own service has no lifetime: the kit's borrow checker covers no `Buffer` whose futures have one.
-ghost use Rattle.std.specs.Prelude.{◌≡◌, IfOk, IfSome};
+ghost use Rattle.std.specs.Prelude.{◌≡◌, ◌<◌, IfOk, IfSome};
 
 use futures::future::Ready;
 use futures::task::Poll;
@@ -9,6 +9,7 @@ use std::process::Abort;
 use std::random::RandomSource;
 use std::sync::Wait;
 use std::test::Fail;
+use tests_support::checks::Checks;
 use tests_support::echo::Echo;
 use tests_support::run::{called, polled, stepped, task};
 use tests_support::task_slot::TaskSlot;
@@ -81,14 +82,15 @@ where
     requires buffer { B.sound buffer }
     requires worker { W.can_poll worker }
 {
+    let checks = Checks::new(rt.alloc());
     let solo = task(&rt)?;
     let mut worker = worker;
     let mut response = called(&solo, &mut buffer, 7).ok_or("a place")?;
-    assert!(rt; stepped(&solo, &mut worker).is_pending());
-    assert_eq!(rt; stepped(&solo, &mut response), Poll::Ready(Ok(7)));
+    checks.holds(stepped(&solo, &mut worker).is_pending());
+    checks.same(&stepped(&solo, &mut response), &Poll::Ready(Ok(7)));
     drop(buffer);
-    assert!(rt; stepped(&solo, &mut worker).is_ready());
-    Ok(())
+    checks.holds(stepped(&solo, &mut worker).is_ready());
+    checks.verdict()
 }
 
 // Without its worker a `Buffer` is closed.
@@ -224,19 +226,43 @@ where
     Ok(())
 }
 
+fn pair_holds<R>(rt: R, bound: usize) -> Result<(), Fail>
+where
+    R: Wait + Abort + RandomSource + AllocGlobal + Copy,
+    requires { 0 < bound }
+{
+    match Buffer::pair(rt, rt.alloc(), Echo, bound) {
+        Ok((buffer, worker)) => holds(rt, Some(buffer), worker, bound),
+        Err(AllocError) => Err("no pair".into()),
+    }
+}
+
+fn new_holds<R>(rt: R, bound: usize) -> Result<(), Fail>
+where
+    R: Wait + Abort + RandomSource + AllocGlobal + Copy,
+    requires { 0 < bound }
+{
+    let slot = TaskSlot::new();
+    let spawned = Buffer::new(rt, rt.alloc(), Echo, bound, &slot);
+    holds(rt, spawned.ok(), slot, bound)
+}
+
+fn layer_holds<R>(rt: R, bound: usize) -> Result<(), Fail>
+where
+    R: Wait + Abort + RandomSource + AllocGlobal + Copy,
+    requires { 0 < bound }
+{
+    let layer = BufferLayer::new(rt, rt.alloc(), bound, TaskSlot::new());
+    let layered = layer.layer(Echo);
+    holds(rt, layered.ok(), layer, bound)
+}
+
 #[test]
 fn each_constructor_makes_so_many_places(rt: HostRuntime) -> Result<(), Fail> {
     for bound in [1usize, 2, 3, 1500, 4_294_967_296, usize::MAX] {
-        match Buffer::pair(rt, rt.alloc(), Echo, bound) {
-            Ok((buffer, worker)) => holds(rt, Some(buffer), worker, bound)?,
-            Err(AllocError) => return Err("no pair".into()),
-        }
-        let slot = TaskSlot::new();
-        let spawned = Buffer::new(rt, rt.alloc(), Echo, bound, &slot);
-        holds(rt, spawned.ok(), slot, bound)?;
-        let layer = BufferLayer::new(rt, rt.alloc(), bound, TaskSlot::new());
-        let layered = layer.layer(Echo);
-        holds(rt, layered.ok(), layer, bound)?;
+        pair_holds(rt, bound)?;
+        new_holds(rt, bound)?;
+        layer_holds(rt, bound)?;
     }
     Ok(())
 }
