@@ -86,7 +86,9 @@ where
     let solo = task(&rt)?;
     let mut worker = worker;
     let mut response = called(&solo, &mut buffer, 7).ok_or("a place")?;
-    checks.holds(stepped(&solo, &mut worker).is_pending());
+    if stepped(&solo, &mut worker).is_ready() {
+        return Err("the worker has ended".into());
+    }
     checks.same(&stepped(&solo, &mut response), &Poll::Ready(Ok(7)));
     drop(buffer);
     checks.holds(stepped(&solo, &mut worker).is_ready());
