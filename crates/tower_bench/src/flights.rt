@@ -141,6 +141,7 @@ fn paid<R: Wait + AllocGlobal + Copy, T: Course>(
 }
 
 // Under a steer over eight.
+#[inline(never)]
 fn steered<R: Wait + AllocGlobal + Copy, T: Course>(
     rt: R,
     cx: &mut Context<'_>,
@@ -168,6 +169,7 @@ fn mapped<T: Course>(cx: &mut Context<'_>, course: &T) -> Result<u64, AllocError
 }
 
 // Under a balancer.
+#[inline(never)]
 fn balanced<R: Wait + AllocGlobal + Copy, T: Course>(
     rt: R,
     cx: &mut Context<'_>,

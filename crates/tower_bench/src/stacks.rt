@@ -202,6 +202,7 @@ fn rated<R: AllocGlobal + Copy>(
 }
 
 /// Under the four of `tower-run`'s, the time outermost and the rate innermost.
+#[inline(never)]
 pub fn layered<R, S, C, T>(
     rt: R,
     cx: &mut Context<'_>,
