@@ -70,6 +70,8 @@ LEGEND = """\
 - `not run`: not tried so far.
 """
 
+SAME = "requires same { (x y : S.Error) → S.Error.is_clone x y → y ≡ x }"
+
 CLONES = "requires clones {{ (x y : {0}) → {0}.is_clone x y → {0}.sound x → {0}.sound y }}"
 
 
@@ -101,24 +103,31 @@ def pair_of(service, then):
             "    Err(AllocError) => Err(AllocError.into()),", "}"]
 
 
+def over_any(ware):
+    """Around any service lists are made by `one`, and endpoints are sealed, so that their type says that they are sound."""
+    made = re.sub(r"vec!\[in rt\.alloc\(\); (.*)\]\?", r"one(rt.alloc(), \1)?", ware.around("inner"))
+    return made.replace("Constant::new(inner", "Constant::new(Sealed::<_, u32>::new(inner)")
+
+
 def around_buffer(outer, name):
     """Takes any buffer and its worker, which it runs, and makes the outer middleware, or none, around the buffer."""
     ware = WARES.get(outer, Ware("{}"))
-    where = [f"S: Service<u32, Response = u32>{' + Clone' * ware.clones},", "W: Future<Output = ()> + Drop,", "requires sound { S.sound inner }",
-             "requires can_poll { W.can_poll worker }", *[CLONES.format("S")] * ware.clones]
-    lines = [*(pool(it) for it in [ware.pool, "tasks"] if it), "if tasks.spawner()?.spawn(worker).is_err() {", "    return Err(AllocError.into());", "}"]
-    return function(name, [*lines, *call(ware.around("inner"), ["tasks"])], ", inner: S, worker: W", ", S, W", where)
+    where = [f"S: Service<u32, Response = u32>{' + Clone' * ware.clones},", *["S::Error: Clone,"] * (outer == "buffer"), "W: Future<Output = ()> + Drop,",
+             "requires sound { S.sound inner }", "requires can_poll { W.can_poll worker }", *[CLONES.format("S")] * ware.clones, *[SAME] * (outer == "buffer")]
+    own = ware.pool and ware.pool.replace("tasks", "outside")
+    lines = [*(pool(it) for it in [own, "tasks"] if it), "if tasks.spawner()?.spawn(worker).is_err() {", "    return Err(AllocError.into());", "}"]
+    return function(name, [*lines, *call(over_any(ware).replace("tasks.", "outside."), ["tasks"])], ", inner: S, worker: W", ", S, W", where)
 
 
 def around_any(outer):
     """Makes the outer middleware around any service, and calls it."""
     ware, name = WARES[outer], f"{outer}_around"
     where = [f"S: Service<u32, Response = u32>{' + Clone' * ware.clones},", *["S::Error: Clone,"] * (outer == "buffer"), "requires sound { S.sound inner }",
-             *[CLONES.format("S")] * ware.clones, *["requires same { (x y : S.Error) → S.Error.is_clone x y → y ≡ x }"] * (outer == "buffer")]
+             *[CLONES.format("S")] * ware.clones, *[SAME] * (outer == "buffer")]
     if outer == "buffer":
         return function(name, pair_of("inner", "beside"), ", inner: S", ", S", where) + "\n" + around_buffer(None, "beside")
     pools = [ware.pool] if ware.pool else []
-    return function(name, [*map(pool, pools), *call(ware.around("inner"), pools)], ", inner: S", ", S", where)
+    return function(name, [*map(pool, pools), *call(over_any(ware), pools)], ", inner: S", ", S", where)
 
 
 def hedge(name, last, tasks=False, same=False):
