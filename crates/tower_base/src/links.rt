@@ -142,12 +142,10 @@ impl<T> Links<T> {
         ensures capacity { self.new.entries.capacity ≡ self.old.entries.capacity }
         ensures touches { self.new.touches ≤ self.old.touches + 2 }
     {
-        // The contract of `capacity` shows that there are fewer entries than a `usize` can count, so
-        // that the length can grow by one.
-        let _capacity = self.cells.capacity();
         let key = self
             .cells
             .insert(value, LinkState::Linked(self.ends.last, None));
+        prove!(self.ends.len < self.cells.capacity());
         arrive(&mut self.cells, &mut self.ends, key);
         key
     }

@@ -5,10 +5,13 @@ use Rattle.tower_base.proofs.CellsLemmas.{Updates-values, len_of_values}
 use Rattle.tower_base.proofs.EndsLemmas.{pushed_all, pushed_fits, Updates-along}
 use Rattle.tower_base.proofs.links.Links.push_back.Goals as goal
 
-pub arrive-requires : goal.arrive-requires
-arrive-requires g c =
+pub prove-unreachable-requires : goal.prove-unreachable-requires
+prove-unreachable-requires g c =
     let fits = pushed_fits c.self.inside.cells.slab c.insert-key.new.self.slab c.self.inside.ends c.insert-key.result c.args.value c.self.invariant c.insert-key.ensures.was_vacant c.insert-key.ensures.updates c.insert-key.ensures.capacity c.insert-key.ensures.key_in_range in
-    omega (arith, fits, c.capacity-capacity.ensures, c.capacity-capacity.type_inv)
+    omega (arith, fits, c.capacity.ensures, c.insert-key.ensures.capacity, c.if-prove.true)
+
+pub arrive-requires : goal.arrive-requires
+arrive-requires g c = omega (arith, c.if-prove.false, c.capacity.type_inv)
 
 pub invariant_of-self : goal.invariant_of-self
 invariant_of-self g c = (pushed_all c.self.inside.cells.slab c.insert-key.new.self.slab c.arrive.new.cells.slab c.self.inside.ends c.arrive.new.ends c.insert-key.result c.args.value c.self.invariant c.insert-key.ensures.was_vacant c.insert-key.ensures.updates c.insert-key.ensures.capacity c.insert-key.ensures.key_in_range c.arrive.ensures.slab c.arrive.ensures.ends).sound
