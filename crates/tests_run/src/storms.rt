@@ -37,7 +37,7 @@ impl Clone for Meeting {
 }
 
 impl Gate for Meeting {
-    fn pass(&self, thread: u64, round: u64) {
+    fn enter(&self, thread: u64, round: u64) {
         let stage = &self.0;
         if thread == 1 {
             stage.came.store(1, Ordering::SeqCst);

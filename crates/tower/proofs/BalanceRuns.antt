@@ -221,7 +221,7 @@ module _ {K S Q A E G : Type 0} (eq : K → K → Bool) (s : ServiceOf S Q A E G
       after_promotion : (inner : Result (Unit {0}) (Error E X)) (old : BalanceView D R K S) (answer : Poll (Result (Unit {0}) (Error E X))) (new : BalanceView D R K S)
           → AfterPromotion eq s loaded cmp drew inner old answer new → Has old → Has new
       after_promotion (Err e) old answer new h c = subst Has (sym h.1) c
-      after_promotion (Ok u) old answer new h c = passed h.last.kept h.last (Some answer) new h.ends (went_choosing h.count (old, []) (h.last, h.asked) h.went c)
+      after_promotion (Ok u) old answer new h c = passed h.last.kept h.last (Some answer) new h.ends (went_choosing h.count (old, []) (h.last, h.polled) h.went c)
 
       after_changes : (inner : Result (Unit {0}) (Error E X)) (old : BalanceView D R K S) (answer : Poll (Result (Unit {0}) (Error E X))) (new : BalanceView D R K S)
           → AfterChanges eq s loaded cmp drew inner old answer new → Has old → Has new

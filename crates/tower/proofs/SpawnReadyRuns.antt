@@ -102,9 +102,9 @@ module _ {S Q A E F L : Type 0} (s : ServiceOf S Q A E F) (l : LatchOf L (Slot S
 
     polls : (old : View) (answer : Poll (Result (Unit {0}) (Error E))) (new : View) → Polled s l x old answer new → IsHereAgain s l old.latch old.service new.service
     polls old answer new p =
-        let so_far = went p.passes.count old p.passes.last p.passes.went in
-        (⊎_elim {C = Left old.service old new} (λ ends. more old p.passes.last new so_far (passed p.passes.last.service p.passes.last (Some answer) new refl ends.1))
-        (λ tired. subst (λ v. Left old.service old v) (sym tired.2) so_far) p.passes.ends).1
+        let so_far = went p.iterations.count old p.iterations.last p.iterations.went in
+        (⊎_elim {C = Left old.service old new} (λ ends. more old p.iterations.last new so_far (passed p.iterations.last.service p.iterations.last (Some answer) new refl ends.1))
+        (λ tired. subst (λ v. Left old.service old v) (sym tired.2) so_far) p.iterations.ends).1
 
     module _ {R : Type 0} (view : R → View) where
       abbrev spawn_ready_of : (R → Type 0) → Relations R Q (Error E) (Option F)

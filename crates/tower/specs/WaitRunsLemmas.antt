@@ -41,8 +41,8 @@ module _ {S Q A E F : Type 0} (s : ServiceOf S Q A E F) where
 
   module _ (stepped : F → Poll (Result A E) → F → Type 0) where
     pub ran_answered : (old new : S) (request : Q) (answer : Result A E) → Answered s stepped old request answer new → Ran s (request ∷ []) old new
-    ran_answered old new request answer (inl here) = ran_joined [] (request ∷ []) old here.asked new (ran_waited old here.asked (Ok tt) here.waited)
-        (one_call (relations s) here.asked new request here.future here.ready here.called (each_one AtMostOnce request (request ∷ []) (inl refl)))
+    ran_answered old new request answer (inl here) = ran_joined [] (request ∷ []) old here.left new (ran_waited old here.left (Ok tt) here.waited)
+        (one_call (relations s) here.left new request here.future here.ready here.called (each_one AtMostOnce request (request ∷ []) (inl refl)))
     ran_answered old new request answer (inr here) = let waited = ran_waited old new _ here.waited in
         record { transitions = waited.transitions; run = waited.run; has = each_one AtMostOnce request (requests waited.transitions) (inr waited.has) }
 

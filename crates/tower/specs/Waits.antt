@@ -25,11 +25,11 @@ module _ {S Q A E F : Type 0} (s : ServiceOf S Q A E F) where
 module _ {S Q A E F : Type 0} (s : ServiceOf S Q A E F) (stepped : F → Poll (Result A E) → F → Type 0) where
   -- The service was waited for and called, and its future may give the answer.
   pub record Replied (old : S) (request : Q) (answer : Result A E) (new : S) : Type 0 where
-    pub asked : S
+    pub left : S
     pub future : F
-    pub waited : Waited s old (Ok tt) asked
-    pub ready : s.ready asked
-    pub called : s.called asked request future new
+    pub waited : Waited s old (Ok tt) left
+    pub ready : s.ready left
+    pub called : s.called left request future new
     pub gives : MayGive stepped future answer
 
   -- The service was waited for, and its readiness failed with an error, which is the answer.

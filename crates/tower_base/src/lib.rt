@@ -3,9 +3,9 @@
 
 pub mod counter;
 pub mod drive;
+pub mod iterations;
 pub mod layer;
 pub mod links;
-pub mod passes;
 pub mod run;
 pub mod service;
 pub mod util;

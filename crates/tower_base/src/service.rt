@@ -112,7 +112,7 @@ pub trait Service<Request>: Drop {
         requires ready { ready self.old }
         ensures sound { sound self.new }
         ensures called { called self.old request result self.new }
-        ensures fresh { Self.Future.can_poll result };
+        ensures can_poll { Self.Future.can_poll result };
 
     // If `poll_ready` returns `Ok`, it leaves a value that is ready.
     ghost readies: { (old new : Self) → polled old (Ready (Ok tt)) new → ready new };

@@ -6,7 +6,7 @@ use Rattle.slab.specs.Slab.{get, Updates}
 use Rattle.tower_base.specs.Links.{LinksView}
 use Rattle.tower_base.specs.Order.{has, without, first_or, Apart}
 use Rattle.tower_latch.specs.WaitList.{WaitList, Admits, Enters, Leaves, Looks, empty}
-use Rattle.tower_latch.specs.WaitQueue.{Follows, StandsAs, StandsFor, granted, size, waiting}
+use Rattle.tower_latch.specs.WaitQueue.{Follows, StandsAs, StandsFor, granted, size, ungranted}
 use Rattle.tower_latch.specs.Waiters.{IsPresent, Waits, are_apart, outside}
 use Rattle.tower_latch.specs.declared.wait_queue.WaitState.TheVariants.{Granted, Waiting, Unknown}
 use Rattle.tower_latch.specs.declared.wait_queue.WaitQueue.{WaitQueue}
@@ -234,11 +234,11 @@ granted_by old new held waits now_held now_wait admits was all is left = elim ad
   )
 ]
 
-pub admits_one : (old new : WaitQueue) → Follows old Admits new → OneGranted (granted old) (waiting old) (granted new) (waiting new)
+pub admits_one : (old new : WaitQueue) → Follows old Admits new → OneGranted (granted old) (ungranted old) (granted new) (ungranted new)
 admits_one old new f =
     let p = some_queue old in
     let r = f p.0 p.1 in
-    granted_by p.0 r.0 (granted old) (waiting old) (granted new) (waiting new) r.1 p.1.4 (keys_count old.granted old.waiters p.0 p.1) r.2.4
+    granted_by p.0 r.0 (granted old) (ungranted old) (granted new) (ungranted new) r.1 p.1.4 (keys_count old.granted old.waiters p.0 p.1) r.2.4
     (keys_count new.granted new.waiters r.0 r.2)
 
 pub admits_size : (old new : WaitQueue) → Follows old Admits new → size new ≡ size old
@@ -251,7 +251,7 @@ one_shorter (x ∷ keys) (suc place) key at = omega (arith, one_shorter keys pla
 
 module _ (old new : WaitQueue) where
   abbrev pub SameSizes : Type 0
-  SameSizes = (granted new ≡ granted old) × (waiting new ≡ waiting old)
+  SameSizes = (granted new ≡ granted old) × (ungranted new ≡ ungranted old)
 
   same_sizes : Follows old (λ p q. q ≡ p) new → SameSizes
   same_sizes f =
@@ -263,7 +263,7 @@ module _ (old new : WaitQueue) where
         omega (arith, is, left, p.1.4, r.2.4, keys_count old.granted old.waiters p.0 p.1, keys_count new.granted new.waiters r.0 r.2),
       )
 
-  pub entered_one : (key : ℕ) → Follows old (λ p q. Enters p (Ok key) q) new → (granted new ≡ granted old) × (waiting new ≡ waiting old + 1)
+  pub entered_one : (key : ℕ) → Follows old (λ p q. Enters p (Ok key) q) new → (granted new ≡ granted old) × (ungranted new ≡ ungranted old + 1)
   entered_one key f =
       let p = some_queue old in
       let r = f p.0 p.1 in
@@ -278,7 +278,7 @@ module _ (old new : WaitQueue) where
   entered_none error f = same_sizes f
 
   -- a granted key was seen
-  pub saw_one : (key : ℕ) → Follows old (λ p q. Looks p key Granted q) new → (granted old ≡ granted new + 1) × (waiting new ≡ waiting old)
+  pub saw_one : (key : ℕ) → Follows old (λ p q. Looks p key Granted q) new → (granted old ≡ granted new + 1) × (ungranted new ≡ ungranted old)
   saw_one key f =
       let p = some_queue old in
       let r = f p.0 p.1 in
@@ -290,7 +290,7 @@ module _ (old new : WaitQueue) where
       )
 
   -- a key waits on, so that somebody waits
-  pub saw_waiting : (key : ℕ) → Follows old (λ p q. Looks p key Waiting q) new → (0 < waiting old) × SameSizes
+  pub saw_waiting : (key : ℕ) → Follows old (λ p q. Looks p key Waiting q) new → (0 < ungranted old) × SameSizes
   saw_waiting key f =
       let p = some_queue old in
       let r = f p.0 p.1 in
@@ -301,7 +301,7 @@ module _ (old new : WaitQueue) where
       within (x ∷ keys) zero key at = omega arith
       within (x ∷ keys) (suc place) key at = omega (arith, within keys place key at)
 
-      some : (p : WaitList) (place key : ℕ) → slice_get p.keys place ≡ Some key → granted old ≤ place → length p.keys ≡ granted old + waiting old → 0 < waiting old
+      some : (p : WaitList) (place key : ℕ) → slice_get p.keys place ≡ Some key → granted old ≤ place → length p.keys ≡ granted old + ungranted old → 0 < ungranted old
       some p place key at late all = omega (arith, within p.keys place key at, late, all)
 
   pub saw_nobody : (key : ℕ) → Follows old (λ p q. Looks p key Unknown q) new → SameSizes
@@ -312,7 +312,7 @@ module _ (old new : WaitQueue) where
 
   -- one fewer waits without a grant, or nobody does and one fewer is granted
   pub left_one : (key : ℕ) → Follows old (λ p q. Leaves p key true q) new
-      → ((granted new ≡ granted old) × (waiting old ≡ waiting new + 1)) ⊎ ((granted old ≡ granted new + 1) × (waiting old ≡ 0) × (waiting new ≡ 0))
+      → ((granted new ≡ granted old) × (ungranted old ≡ ungranted new + 1)) ⊎ ((granted old ≡ granted new + 1) × (ungranted old ≡ 0) × (ungranted new ≡ 0))
   left_one key f =
       let p = some_queue old in
       let r = f p.0 p.1 in
@@ -324,7 +324,7 @@ module _ (old new : WaitQueue) where
           omega (arith, ap (λ (q : WaitList). q.granted) h.1, p.1.4, r.2.4),
           omega (arith, ap (λ (q : WaitList). q.granted) h.1, ap (λ (q : WaitList). length q.keys) h.1, one, all, left, p.1.4, r.2.4),
         )
-        | inr h ↦ elim (granted_by (record { keys = remove p.0.keys r.1.0; granted = p.0.granted - 1 }) r.0 (granted old - 1) (waiting old) (granted new) (waiting new) h.1
+        | inr h ↦ elim (granted_by (record { keys = remove p.0.keys r.1.0; granted = p.0.granted - 1 }) r.0 (granted old - 1) (ungranted old) (granted new) (ungranted new) h.1
             (ap (λ n. n - 1) p.1.4) (omega (arith, h.0, p.1.4, one, all)) r.2.4 left) [
               | inl g ↦ inr (omega (arith, h.0, p.1.4, g.2), g.0, g.1)
               | inr g ↦ inl (omega (arith, h.0, p.1.4, g.1), g.0)
@@ -340,7 +340,7 @@ module _ (old new : WaitQueue) where
   entered_size (Err error) f = let n = entered_none error f in omega (arith, n.0, n.1)
 
 -- nobody waits in an empty queue
-pub empty_sizes : (queue : WaitQueue) → StandsFor queue empty → (granted queue ≡ 0) × (waiting queue ≡ 0)
+pub empty_sizes : (queue : WaitQueue) → StandsFor queue empty → (granted queue ≡ 0) × (ungranted queue ≡ 0)
 empty_sizes queue s = (sym s.4, omega (arith, s.4, keys_count queue.granted queue.waiters empty s))
 
 -- ---- what an answer tells

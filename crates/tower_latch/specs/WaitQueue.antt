@@ -10,8 +10,8 @@ use Rattle.tower_latch.specs.declared.wait_queue.WaitQueue.{WaitQueue}
 abbrev pub granted : WaitQueue → ℕ
 granted queue = queue.granted
 
-abbrev pub waiting : WaitQueue → ℕ
-waiting queue = length queue.waiters.order
+abbrev pub ungranted : WaitQueue → ℕ
+ungranted queue = length queue.waiters.order
 
 abbrev pub size : WaitQueue → ℕ
 size queue = queue.granted + length queue.waiters.order

@@ -36,7 +36,7 @@ pub struct WaitQueue {
 
 impl WaitQueue {
     ghost use Rattle.tower_latch.specs.WaitList.{Admits, Enters, Leaves, Looks, empty};
-    ghost use Rattle.tower_latch.specs.WaitQueue.{Follows, StandsFor, granted, room, size, stalls, touches, waiting};
+    ghost use Rattle.tower_latch.specs.WaitQueue.{Follows, StandsFor, granted, room, size, stalls, touches, ungranted};
     ghost use Rattle.tower_latch.specs.Wakes.{NamesAll, OneGoesOn, StallsOn};
 
     /// Creates an empty queue. It allocates nothing until the first `wait`.
@@ -61,8 +61,8 @@ impl WaitQueue {
 
     /// Returns how many waiters have no grant.
     #[inline(always)]
-    pub fn waiting(&self) -> usize
-        ensures { result ≡ waiting self.now }
+    pub fn ungranted(&self) -> usize
+        ensures { result ≡ ungranted self.now }
     {
         self.waiters.len()
     }

@@ -208,7 +208,7 @@ module _ {D R K S Q A E G M : Type 0} (X : Type 0) (eq : K → K → Bool) (s : 
       → AfterPromotion eq s loaded cmp drew inner old answer new → new.kept ≡ Some i → Keeps old new i
   promoted_keeps (Err x) old answer new i h at = inl (sym (ap (λ (v : BalanceView D R K S). v.kept) h.1) ∙ at)
   promoted_keeps (Ok u) old answer new i h at =
-      last_pass old h.last.kept h.last new answer i refl (λ j kept. went h.count (old, []) (h.last, h.asked) j h.went kept) h.ends at
+      last_pass old h.last.kept h.last new answer i refl (λ j kept. went h.count (old, []) (h.last, h.polled) j h.went kept) h.ends at
 
   changed_keeps : (inner : Result (Unit {0}) (Error E X)) (old : BalanceView D R K S) (answer : Poll (Result (Unit {0}) (Error E X))) (new : BalanceView D R K S) (i : ℕ)
       → AfterChanges eq s loaded cmp drew inner old answer new → new.kept ≡ Some i → Keeps old new i
@@ -479,7 +479,7 @@ module _ {K S : Type 0} (eq : K → K → Bool) (laws : IsEquivalence eq) (P : K
       after_promotion : (inner : Result (Unit {0}) (Error E X)) (old : BalanceView D R K S) (answer : Poll (Result (Unit {0}) (Error E X))) (new : BalanceView D R K S)
           → AfterPromotion eq s loaded cmp drew inner old answer new → Kept at old → Kept at new
       after_promotion (Err e) old answer new h c = subst (Kept at) (sym h.1) c
-      after_promotion (Ok u) old answer new h c = passed h.last.kept h.last (Some answer) new h.ends (went_choosing h.count (old, []) (h.last, h.asked) h.went c)
+      after_promotion (Ok u) old answer new h c = passed h.last.kept h.last (Some answer) new h.ends (went_choosing h.count (old, []) (h.last, h.polled) h.went c)
 
       after_changes : (inner : Result (Unit {0}) (Error E X)) (old : BalanceView D R K S) (answer : Poll (Result (Unit {0}) (Error E X))) (new : BalanceView D R K S)
           → AfterChanges eq s loaded cmp drew inner old answer new → Kept at old → Kept at new

@@ -72,7 +72,7 @@ module _ {M T S F ME Q A E G : Type 0} (m : ServiceOf M T S ME F) (connect : Ste
 
   polls : (old : View) (answer : Poll (Result (Unit {0}) (Error E ME))) (new : View) (p : Polled m connect s clones old answer new)
       → new.error ≡ newest (failure_in m connect s clones old answer new p) old.error
-  polls old answer new p = ended old p.passes.last answer new p.passes.count (went p.passes.count old p.passes.last p.passes.went) p.passes.ends
+  polls old answer new p = ended old p.iterations.last answer new p.iterations.count (went p.iterations.count old p.iterations.last p.iterations.went) p.iterations.ends
 
   module _ {R : Type 0} (view : R → View) where
     abbrev Turned : R → Action Q (Error E ME) (Reply G ME) → R → Type 0

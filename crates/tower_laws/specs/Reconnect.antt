@@ -43,7 +43,7 @@ module _ {M T S F ME Q A E G : Type 0} (m : ServiceOf M T S ME F) (connect : Ste
   -- the error of the connect that failed in the poll, if one did
   abbrev pub failure_in : (old : ReconnectView M F S ME T) (answer : Poll (Result (Unit {0}) (Error E ME))) (new : ReconnectView M F S ME T)
       → Polled m connect s clones old answer new → Option ME
-  failure_in old answer new p = ⊎_elim (λ ends. failure_at p.passes.last.state p.passes.last (Some answer) new ends.1) (λ tired. None) p.passes.ends
+  failure_in old answer new p = ⊎_elim (λ ends. failure_at p.iterations.last.state p.iterations.last (Some answer) new ends.1) (λ tired. None) p.iterations.ends
 
   -- The call goes to the connection that is there, once.
   pub record GoesThere (old : ReconnectView M F S ME T) (request : Q) (reply : Reply G ME) (new : ReconnectView M F S ME T) : Type 0 where

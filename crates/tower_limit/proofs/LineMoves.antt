@@ -3,7 +3,7 @@ use Rattle.std.proofs.Common.{◌≡◌, ℕ, ◌+◌, ◌-◌, ◌<◌, ◌≤�
 use Rattle.std.specs.declared.alloc.AllocError.{AllocError}
 use Rattle.tower_base.specs.Order.{has}
 use Rattle.tower_latch.specs.WaitList.{WaitList, Admits, Enters, Leaves, Looks, empty}
-use Rattle.tower_latch.specs.WaitQueue.{Follows, StandsFor, granted, waiting}
+use Rattle.tower_latch.specs.WaitQueue.{Follows, StandsFor, granted, ungranted}
 use Rattle.tower_limit.specs.Line.{Ticket, Steps}
 use Rattle.tower_limit.specs.LineCore.{Stands, StandsAt}
 use Rattle.tower_limit.specs.declared.limit.concurrency.line_core.LineStep.TheVariants.{Join, Look, Cancel, Release, Free}
@@ -117,7 +117,7 @@ module _ (max held : ℕ) (old : WaitQueue) (line : List Ticket) (s : StandsAt m
 -- of so many permits so many are held, and nobody waits without a grant while one is free
 pub record Fits (max held : ℕ) (queue : WaitQueue) : Type 0 where
   pub fits : held + granted queue ≤ max
-  pub full : 0 < waiting queue → held + granted queue ≡ max
+  pub full : 0 < ungranted queue → held + granted queue ≡ max
 
 module _ (max held : ℕ) (old new : WaitQueue) where
   same_fits : Fits max held old → SameSizes old new → Fits max held new

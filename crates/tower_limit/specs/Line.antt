@@ -78,5 +78,5 @@ key_of _ = 0
 
 -- The step asks again at this key.
 abbrev pub Asks : LineStep → ℕ → Type 0
-Asks (Look asked) key = asked ≡ key
+Asks (Look looked) key = looked ≡ key
 Asks _ key = ⊥

@@ -16,7 +16,7 @@ use Rattle.tower_base.specs.IterationsLemmas.{iterates_more, iterates_start}
 use Rattle.tower_base.specs.declared.service.Service.{Ghosts as ServiceOf}
 use Rattle.tower_limit.specs.Discover.{Found, MayInsert, inserted}
 use Rattle.tower_limit.specs.DiscoverLemmas.{inserts_later, inserts_now}
-use Rattle.tower_pool.specs.Balance.{AfterCheck, BalanceView, Chooses, Chosen, IsLighter, Iteration, IterationAt, Picked, PickedOf, Promotes, Reads, ReadsAll, CountedIteration, answer_of, asked_at}
+use Rattle.tower_pool.specs.Balance.{AfterCheck, BalanceView, Chooses, Chosen, IsLighter, Iteration, IterationAt, Picked, PickedOf, Promotes, Reads, ReadsAll, CountedIteration, answer_of, polled_at}
 use Rattle.tower_pool.specs.ReadyCache.{Checked, PendingView, ReadyCacheView, Settles}
 use Rattle.tower_pool.specs.ReadyCachePoll.{PollCases, IfThenElse, EachPolled, Ends, PendingPolled}
 use Rattle.tower_pool.specs.declared.balance.error.Error.{Error}
@@ -175,7 +175,7 @@ module _ {K S Q A E G : Type 0} (eq : K → K → Bool) (s : ServiceOf S Q A E G
 
   -- it takes the endpoint that it asked out of the ready ones
   checked_asks : (old : ReadyCacheView K S) (i : ℕ) (inner : Result Bool (Failed K E)) (new : ReadyCacheView K S) → Checked eq s old i inner new → ¬ (inner ≡ Ok true)
-      → IsPermutation old.ready (asked_at (Some i) old.ready ++ new.ready)
+      → IsPermutation old.ready (polled_at (Some i) old.ready ++ new.ready)
   checked_asks old i inner new h other = by (slice_get old.ready i) refl h
     where
       taken : (u : K × S) → slice_get old.ready i ≡ Some u → new.ready ≡ swap_remove old.ready i u → IsPermutation old.ready (u ∷ new.ready)
@@ -195,7 +195,7 @@ module _ {K S Q A E G : Type 0} (eq : K → K → Bool) (s : ServiceOf S Q A E G
 
 module _ {K S : Type 0} where
   -- the last iteration asks one at most of those that are ready
-  asked_last : (kept : Option ℕ) (ready : List (K × S)) → (rest : List (K × S)) × IsPermutation ready (asked_at kept ready ++ rest)
+  asked_last : (kept : Option ℕ) (ready : List (K × S)) → (rest : List (K × S)) × IsPermutation ready (polled_at kept ready ++ rest)
   asked_last None ready = (ready, IsPermutation-refl ready)
   asked_last (Some i) ready = by (slice_get ready i) refl
     where
@@ -233,7 +233,7 @@ module _ {D R K S Q A E G M : Type 0} (X : Type 0) (eq : K → K → Bool) (s : 
   chosen_ready old answer new h = ap (λ v. v.services.ready) h.4
 
   pass_asks : (old : BalanceView D R K S) (kept : Option ℕ) (new : BalanceView D R K S) → IterationAt {X = X} eq s loaded cmp drew kept old None new
-      → IsPermutation old.services.ready (asked_at kept old.services.ready ++ new.services.ready)
+      → IsPermutation old.services.ready (polled_at kept old.services.ready ++ new.services.ready)
   pass_asks old None new h = subst (IsPermutation old.services.ready) (sym (chosen_ready old None new h)) (IsPermutation-refl old.services.ready)
   pass_asks old (Some i) new h = by h.0 h.2 h.3
     where
@@ -241,7 +241,7 @@ module _ {D R K S Q A E G M : Type 0} (X : Type 0) (eq : K → K → Bool) (s : 
       goal o = IsPermutation old.services.ready (option_map_or (λ e. e ∷ []) o [] ++ new.services.ready)
 
       left : (inner : Result Bool (Failed K E)) → Checked eq s old.services i inner h.1 → ¬ (inner ≡ Ok true) → new.services.ready ≡ h.1.ready → goal (slice_get old.services.ready i)
-      left inner checked other is = subst (λ ready. IsPermutation old.services.ready (asked_at (Some i) old.services.ready ++ ready)) (sym is)
+      left inner checked other is = subst (λ ready. IsPermutation old.services.ready (polled_at (Some i) old.services.ready ++ ready)) (sym is)
           (checked_asks eq s old.services i inner h.1 checked other)
 
       by : (inner : Result Bool (Failed K E)) → Checked eq s old.services i inner h.1 → AfterCheck {X = X} eq s loaded cmp drew (record old { services = h.1 }) i inner None new
@@ -253,15 +253,15 @@ module _ {D R K S Q A E G M : Type 0} (X : Type 0) (eq : K → K → Bool) (s : 
   -- So many turns gave no answer, and so many are left. Those that were ready are those that were asked and those that are ready yet.
   pub record Settling (old now : BalanceView D R K S) : Type 0 where
     pub count : ℕ
-    pub asked : List (K × S)
-    pub went : Iterates (CountedIteration {X = X} eq s loaded cmp drew) count (old, []) (now, asked)
+    pub polled : List (K × S)
+    pub went : Iterates (CountedIteration {X = X} eq s loaded cmp drew) count (old, []) (now, polled)
     pub left : count + turns now ≤ length old.services.ready + 1
-    pub once : IsPermutation old.services.ready (asked ++ now.services.ready)
+    pub once : IsPermutation old.services.ready (polled ++ now.services.ready)
 
   pub settling_begins : (old : BalanceView D R K S) → Settling old old
   settling_begins old = record {
     count = 0;
-    asked = [];
+    polled = [];
     went = iterates_start (CountedIteration {X = X} eq s loaded cmp drew) (old, []);
     left = omega (arith, at_most_left old.kept (length old.services.ready));
     once = IsPermutation-refl old.services.ready;
@@ -270,10 +270,10 @@ module _ {D R K S Q A E G M : Type 0} (X : Type 0) (eq : K → K → Bool) (s : 
   pub settling_goes : (old was now : BalanceView D R K S) → Iteration {X = X} eq s loaded cmp drew was None now → Settling old was → Settling old now
   settling_goes old was now pass h = record {
     count = h.count + 1;
-    asked = h.asked ++ asked_at was.kept was.services.ready;
-    went = iterates_more (CountedIteration {X = X} eq s loaded cmp drew) h.count (old, []) (was, h.asked) (now, h.asked ++ asked_at was.kept was.services.ready) h.went (pass, refl);
+    polled = h.polled ++ polled_at was.kept was.services.ready;
+    went = iterates_more (CountedIteration {X = X} eq s loaded cmp drew) h.count (old, []) (was, h.polled) (now, h.polled ++ polled_at was.kept was.services.ready) h.went (pass, refl);
     left = omega (arith, h.left, pass_less was was.kept refl now pass);
-    once = asked_more h.asked old.services.ready was.services.ready (asked_at was.kept was.services.ready) now.services.ready h.once (pass_asks was was.kept now pass);
+    once = asked_more h.polled old.services.ready was.services.ready (polled_at was.kept was.services.ready) now.services.ready h.once (pass_asks was was.kept now pass);
   }
 
   pub settling_less : (was now : BalanceView D R K S) → Iteration {X = X} eq s loaded cmp drew was None now → turns now < turns was
@@ -286,10 +286,10 @@ module _ {D R K S Q A E G M : Type 0} (X : Type 0) (eq : K → K → Bool) (s : 
       record {
         count = h.count;
         last = was;
-        asked = h.asked;
+        polled = h.polled;
         rest = last.0;
         within = omega (arith, h.left, one_left was.kept (length was.services.ready));
         went = h.went;
         ends = pass;
-        once = asked_more h.asked old.services.ready was.services.ready (asked_at was.kept was.services.ready) last.0 h.once last.1;
+        once = asked_more h.polled old.services.ready was.services.ready (polled_at was.kept was.services.ready) last.0 h.once last.1;
       }

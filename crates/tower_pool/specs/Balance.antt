@@ -99,9 +99,9 @@ module _ {D R K S X : Type 0} (discovered : D → Found K S X → D → Type 0) 
   Changed old answer new = ChangedAt old.change old answer new
 
 -- the ready endpoint that an iteration polls, if there is one: the endpoint at the kept index
-abbrev pub asked_at : {K S : Type 0} → Option ℕ → List (K × S) → List (K × S)
-asked_at None ready = []
-asked_at (Some i) ready = option_map_or (λ e. e ∷ []) (slice_get ready i) []
+abbrev pub polled_at : {K S : Type 0} → Option ℕ → List (K × S) → List (K × S)
+polled_at None ready = []
+polled_at (Some i) ready = option_map_or (λ e. e ∷ []) (slice_get ready i) []
 
 -- If an iteration picked an endpoint, another iteration follows. If it picked none, the poll is pending.
 abbrev pub answer_of : {A : Type 0} → Option ℕ → Option (Poll A)
@@ -169,19 +169,19 @@ module _ {D R K S Q A E G X M : Type 0} (eq : K → K → Bool) (s : ServiceOf S
 
   -- an iteration, with the endpoints that were polled so far
   abbrev pub CountedIteration : BalanceView D R K S × List (K × S) → Option (Poll (Result (Unit {0}) (Error E X))) → BalanceView D R K S × List (K × S) → Type 0
-  CountedIteration old answer new = Iteration old.0 answer new.0 × (new.1 ≡ old.1 ++ asked_at old.0.kept old.0.services.ready)
+  CountedIteration old answer new = Iteration old.0 answer new.0 × (new.1 ≡ old.1 ++ polled_at old.0.kept old.0.services.ready)
 
   -- The choosing of a poll makes at most one iteration more than endpoints were ready when it began. The endpoints that were ready then are, in some
   -- order, those that were polled and the rest, so each is polled at most once.
   pub record Chosen (old : BalanceView D R K S) (answer : Poll (Result (Unit {0}) (Error E X))) (new : BalanceView D R K S) : Type 0 where
     pub count : ℕ
     pub last : BalanceView D R K S
-    pub asked : List (K × S)
+    pub polled : List (K × S)
     pub rest : List (K × S)
     pub within : count ≤ length old.services.ready
-    pub went : Iterates CountedIteration count (old, []) (last, asked)
+    pub went : Iterates CountedIteration count (old, []) (last, polled)
     pub ends : Iteration last (Some answer) new
-    pub once : IsPermutation old.services.ready ((asked ++ asked_at last.kept last.services.ready) ++ rest)
+    pub once : IsPermutation old.services.ready ((polled ++ polled_at last.kept last.services.ready) ++ rest)
 
   -- `AfterPromotion` is what follows the promotion, and `AfterChanges` what follows the changes, which come first.
   abbrev pub AfterPromotion : Result (Unit {0}) (Error E X) → BalanceView D R K S → Poll (Result (Unit {0}) (Error E X)) → BalanceView D R K S → Type 0

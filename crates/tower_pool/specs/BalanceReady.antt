@@ -31,15 +31,15 @@ module _ {D R K S Q A E G X M : Type 0} (eq : K → K → Bool) (s : ServiceOf S
   checked_ok old i (Ok false) answer new kept h e = absurd (picked_on {E = E} {X = X} h.0 (sym h.3 ∙ e))
   checked_ok old i (Err x) answer new kept h e = absurd (picked_on {E = E} {X = X} h.0 (sym h.3 ∙ e))
 
-  pass_ok : (old : BalanceView D R K S) (kept : Option ℕ) → old.kept ≡ kept → (answer : Option (Poll (Result (Unit {0}) (Error E X)))) (new : BalanceView D R K S)
+  iteration_ok : (old : BalanceView D R K S) (kept : Option ℕ) → old.kept ≡ kept → (answer : Option (Poll (Result (Unit {0}) (Error E X)))) (new : BalanceView D R K S)
       → IterationAt eq s loaded cmp drew kept old answer new → answer ≡ Some (Ready (Ok tt)) → IsReady s.ready new
-  pass_ok old None is answer new h e = absurd (picked_on {E = E} {X = X} h.0 (sym h.3 ∙ e))
-  pass_ok old (Some i) is answer new h e = checked_ok (record old { services = h.1 }) i h.0 answer new is h.3 e
+  iteration_ok old None is answer new h e = absurd (picked_on {E = E} {X = X} h.0 (sym h.3 ∙ e))
+  iteration_ok old (Some i) is answer new h e = checked_ok (record old { services = h.1 }) i h.0 answer new is h.3 e
 
   promoted_ok : (inner : Result (Unit {0}) (Error E X)) (old : BalanceView D R K S) (answer : Poll (Result (Unit {0}) (Error E X))) (new : BalanceView D R K S)
       → AfterPromotion eq s loaded cmp drew inner old answer new → answer ≡ Ready (Ok tt) → IsReady s.ready new
   promoted_ok (Err x) old answer new h e = let f : answer ≡ Ready (Err x) = h.0 in cc
-  promoted_ok (Ok u) old answer new h e = pass_ok h.last h.last.kept refl (Some answer) new h.ends (ap Some e)
+  promoted_ok (Ok u) old answer new h e = iteration_ok h.last h.last.kept refl (Some answer) new h.ends (ap Some e)
 
   changed_ok : (inner : Result (Unit {0}) (Error E X)) (old : BalanceView D R K S) (answer : Poll (Result (Unit {0}) (Error E X))) (new : BalanceView D R K S)
       → AfterChanges eq s loaded cmp drew inner old answer new → answer ≡ Ready (Ok tt) → IsReady s.ready new

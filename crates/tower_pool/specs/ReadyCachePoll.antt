@@ -31,14 +31,14 @@ module _ {K S Q A E G : Type 0} (eq : K → K → Bool) (s : ServiceOf S Q A E G
   -- once. If it is ready, it goes to the end of the ready ones, or takes the index of an older one of its key, whose key stays. If it failed, it
   -- leaves, and the poll stops. If it is pending, it stays.
   abbrev pub EachPolled : List (PendingView K S) → List (PendingView K S) → List (K × S) → Poll (Result (Unit {0}) (Error K E)) → ReadyCacheView K S → Type 0
-  EachPolled asked [] ready answer new = Ends asked answer × (new ≡ record { ready = ready; pending = asked })
-  EachPolled asked (p ∷ rest) ready answer new =
-      IfThenElse p.cancelled (EachPolled asked rest ready answer new)
-      (((answer ≡ Ready (Err Memory)) × (new ≡ record { ready = ready; pending = asked ++ p ∷ rest }))
+  EachPolled polled [] ready answer new = Ends polled answer × (new ≡ record { ready = ready; pending = polled })
+  EachPolled polled (p ∷ rest) ready answer new =
+      IfThenElse p.cancelled (EachPolled polled rest ready answer new)
+      (((answer ≡ Ready (Err Memory)) × (new ≡ record { ready = ready; pending = polled ++ p ∷ rest }))
       ⊎ ((inner : Poll (Result (Unit {0}) E)) × (left : S) × s.polled p.service inner left × PollCases inner
-      (EachPolled asked rest (insert_entry eq ready p.key left) answer new)
-      (λ e. (answer ≡ Ready (Err (Failed p.key e))) × (new ≡ record { ready = ready; pending = asked ++ rest }))
-      (EachPolled (asked ++ (record p { service = left }) ∷ []) rest ready answer new)))
+      (EachPolled polled rest (insert_entry eq ready p.key left) answer new)
+      (λ e. (answer ≡ Ready (Err (Failed p.key e))) × (new ≡ record { ready = ready; pending = polled ++ rest }))
+      (EachPolled (polled ++ (record p { service = left }) ∷ []) rest ready answer new)))
 
   -- a whole poll: none was polled yet
   abbrev pub PendingPolled : ReadyCacheView K S → Poll (Result (Unit {0}) (Error K E)) → ReadyCacheView K S → Type 0

@@ -168,7 +168,7 @@ module _ {S Q A E F L X : Type 0} (s : ServiceOf S Q A E F) (l : LatchOf L (Slot
 
   -- a poll of readiness: iterations until one has an answer, or as many as a poll makes at most
   pub record Polled (old : SpawnReadyView S X L) (answer : Poll (Result (Unit {0}) (Error E))) (new : SpawnReadyView S X L) : Type 0 where
-    pub passes : Iterations Iteration Pending old answer new
+    pub iterations : Iterations Iteration Pending old answer new
 
 module _ {S Q A E F : Type 0} (s : ServiceOf S Q A E F) where
   -- a call: one call of the service, which is here and ready

@@ -40,13 +40,13 @@ module _ {S Q A E F L X : Type 0} (s : ServiceOf S Q A E F) (l : LatchOf L (Slot
   after_poll old new service left (Ready (Ok u)) p h = rw h.1 (readies service left p)
   after_poll old new service left (Ready (Err e)) p h = absurd (let e = h.0 in cc)
 
-  pass_ok : (here : Option S) (old new : SpawnReadyView S X L) → IterationAt s l x here old (Some (Ready (Ok tt))) new → IsSomeAnd new.service s.ready
-  pass_ok (Some service) old new h = after_poll old new service h.1 h.0 h.2 h.3
-  pass_ok None old new h = absurd (after_reply old new h.0 h.2)
+  iteration_ok : (here : Option S) (old new : SpawnReadyView S X L) → IterationAt s l x here old (Some (Ready (Ok tt))) new → IsSomeAnd new.service s.ready
+  iteration_ok (Some service) old new h = after_poll old new service h.1 h.0 h.2 h.3
+  iteration_ok None old new h = absurd (after_reply old new h.0 h.2)
 
 pub polled_ok : {S Q A E F L X : Type 0} {s : ServiceOf S Q A E F} {l : LatchOf L (Slot S E) (SlotStep S E) (SlotReply S E) (Unit {0})}
     {x : ExecutorOf X (ReadyTask S Q E L A F)} → ((old new : S) → s.polled old (Ready (Ok tt)) new → s.ready new)
     → (old new : SpawnReadyView S X L) → Polled s l x old (Ready (Ok tt)) new → IsSomeAnd new.service s.ready
 polled_ok {s = s} {l = l} {x = x} readies old new p =
-    pass_ok s l x readies p.passes.last.service p.passes.last new
-    (iterations_last (Iteration s l x) Pending (Ready (Ok tt)) old new (λ e. cc) p.passes)
+    iteration_ok s l x readies p.iterations.last.service p.iterations.last new
+    (iterations_last (Iteration s l x) Pending (Ready (Ok tt)) old new (λ e. cc) p.iterations)

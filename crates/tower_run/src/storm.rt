@@ -36,7 +36,7 @@ pub struct Storm {
 /// What a thread does in each round while it holds its permit.
 pub trait Gate {
     /// Passes the gate in this round of this thread. Both are counted from 0.
-    fn pass(&self, thread: u64, round: u64);
+    fn enter(&self, thread: u64, round: u64);
 }
 
 /// The gate of the program, which does nothing.
@@ -44,7 +44,7 @@ pub trait Gate {
 pub struct Open;
 
 impl Gate for Open {
-    fn pass(&self, _thread: u64, _round: u64) {}
+    fn enter(&self, _thread: u64, _round: u64) {}
 }
 
 /// What a storm reports: how many threads it had, how many rounds they made, and how many of the permits are
@@ -230,7 +230,7 @@ where
             return Err(AllocError);
         };
         let permit = acquired?;
-        gate.pass(thread, round);
+        gate.enter(thread, round);
         made.count(permit);
     }
     Ok(made)

@@ -143,7 +143,7 @@ impl Shared {
         if let Some(mut state) = lock(&self.state) {
             let end = state.close();
             drop(state);
-            self.bell.pass(end);
+            self.bell.ring_if_due(end);
         }
         let _ended = self.turn(LAST_TICK);
     }
@@ -174,7 +174,7 @@ impl Shared {
         };
         let notice = state.wait(key, when, cx, &self.source);
         drop(state);
-        self.bell.pass(notice);
+        self.bell.ring_if_due(notice);
     }
 
     fn leave(&self, key: usize) {

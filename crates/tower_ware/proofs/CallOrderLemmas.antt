@@ -193,7 +193,7 @@ module _ {V Q N A E R : Type 0} (sv : ServiceOf V R A E N) (fl : FlowOf Q R) (st
         requests = rest.requests;
         futures = rest.futures;
         end = rest.end;
-        asked = come_open sv fl st (line st can_poll) (LineHolds st can_poll) (λ xs ys. ys ≡ xs)
+        requested = come_open sv fl st (line st can_poll) (LineHolds st can_poll) (λ xs ys. ys ≡ xs)
             (line_behaves st can_poll) s.ended s.requests stream rest.requests opens.goes opens.asks rest.come;
         made = made_open sv fl st (line st can_poll) (LineHolds st can_poll) (λ xs ys. ys ≡ xs)
             (line_behaves st can_poll) s.kept kept s.service service rest.end rest.requests rest.futures opens.keeps opens.serves rest.made;
@@ -210,7 +210,7 @@ module _ {V Q N A E R : Type 0} (sv : ServiceOf V R A E N) (fl : FlowOf Q R) (st
           requests = rest.requests;
           futures = rest.futures;
           end = rest.end;
-          asked = come_open sv fl st (bag st can_poll) (BagHolds st can_poll) IsPermutation
+          requested = come_open sv fl st (bag st can_poll) (BagHolds st can_poll) IsPermutation
               (bag_behaves st can_poll) s.ended s.requests stream rest.requests opens.goes opens.asks rest.come;
           made = made_open sv fl st (bag st can_poll) (BagHolds st can_poll) IsPermutation
               (bag_behaves st can_poll) s.kept kept s.service service rest.end rest.requests rest.futures opens.keeps opens.serves rest.made;

@@ -90,9 +90,9 @@ module _ {M T S F ME Q A E G : Type 0} (m : ServiceOf M T S ME F) (connect : Ste
   polls : (old : View) (answer : Poll (Result (Unit {0}) (Error E ME))) (new : View) → Polled m connect s clones old answer new
       → Holds (λ x. x ≡ []) old.state new.state
   polls old answer new p =
-      let so_far = went p.passes.count old p.passes.last p.passes.went in
-      ⊎_elim (λ ends. chained old.state p.passes.last.state new.state so_far (passed p.passes.last.state p.passes.last (Some answer) new refl ends.1))
-      (λ tired. held (λ x. x ≡ []) old.state p.passes.last.state new (ap (λ v. v.state) tired.2) so_far) p.passes.ends
+      let so_far = went p.iterations.count old p.iterations.last p.iterations.went in
+      ⊎_elim (λ ends. chained old.state p.iterations.last.state new.state so_far (passed p.iterations.last.state p.iterations.last (Some answer) new refl ends.1))
+      (λ tired. held (λ x. x ≡ []) old.state p.iterations.last.state new (ap (λ v. v.state) tired.2) so_far) p.iterations.ends
 
   -- the kept error is taken
   taken : (state : State F S) (old : View) (request : Q) (new : View) → old.state ≡ state → new ≡ record old { error = None } → Holds (AtMostOnce request) state new.state

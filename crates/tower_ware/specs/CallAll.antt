@@ -105,7 +105,7 @@ module _ {S Q D R A E F : Type 0} (s : ServiceOf S R A E F) (q : FlowOf Q R) (d 
 
   -- a poll: iterations up to an answer, or 64 without one, and then it is pending
   pub record Flowed (old : CallerView S Q D R) (answer : Poll (Option (Result A (Error E)))) (new : CallerView S Q D R) : Type 0 where
-    pub passes : Iterations Iteration Pending old answer new
+    pub iterations : Iterations Iteration Pending old answer new
 
 module _ {S Q R A E F : Type 0} (s : ServiceOf S R A E F) (q : FlowOf Q R) (f : StepsOf F (Result A E)) (can_poll : F → Type 0) where
   -- a poll of a `CallAll`

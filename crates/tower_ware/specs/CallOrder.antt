@@ -73,7 +73,7 @@ module _ {S Q R A E F : Type 0} (s : ServiceOf S R A E F) (q : FlowOf Q R) (f : 
     pub requests : List R
     pub futures : List F
     pub end : Option S
-    pub asked : MayYield q.flowed stream requests None
+    pub requested : MayYield q.flowed stream requests None
     pub made : Serves s (after_kept kept requests) futures service end
     pub gave : AllZip (MayGive f.stepped) futures answers
 

@@ -93,7 +93,7 @@ module _ {M T S F ME Q A E G : Type 0} (m : ServiceOf M T S ME F) (connect : Ste
 
   -- a poll of readiness: iterations up to an answer, or 64 without one, and then it is pending
   pub record Polled (old : ReconnectView M F S ME T) (answer : Poll (Result (Unit {0}) (Error E ME))) (new : ReconnectView M F S ME T) : Type 0 where
-    pub passes : Iterations Iteration Pending old answer new
+    pub iterations : Iterations Iteration Pending old answer new
 
 module _ {S F ME Q A E G : Type 0} (s : ServiceOf S Q A E G) where
   -- An error is kept, or the connection is ready.

@@ -35,14 +35,14 @@ module _ {M T S F ME Q A E G : Type 0} (m : ServiceOf M T S ME F) (connect : Ste
   after_readiness old new service left (Ready (Ok x)) p h = rw h.1 (ready_at old.error left (readies service left p))
   after_readiness old new service left (Ready (Err e)) p h = absurd (let e = h.0 in cc)
 
-  pass_ok : (state : State F S) (old new : ReconnectView M F S ME T) → IterationAt m connect s clones state old (Some (Ready (Ok tt))) new → IsReady s new
-  pass_ok Idle old new h = absurd (after_maker old new h.1 h.0 h.3)
-  pass_ok (Connecting f) old new h = after_connect old new h.1 h.0 h.3
-  pass_ok (Connected service) old new h = after_readiness old new service h.1 h.0 h.2 h.3
+  iteration_ok : (state : State F S) (old new : ReconnectView M F S ME T) → IterationAt m connect s clones state old (Some (Ready (Ok tt))) new → IsReady s new
+  iteration_ok Idle old new h = absurd (after_maker old new h.1 h.0 h.3)
+  iteration_ok (Connecting f) old new h = after_connect old new h.1 h.0 h.3
+  iteration_ok (Connected service) old new h = after_readiness old new service h.1 h.0 h.2 h.3
 
 pub polled_ok : {M T S F ME Q A E G : Type 0} {m : ServiceOf M T S ME F} {connect : StepsOf F (Result S ME)} {s : ServiceOf S Q A E G} {clones : CloneOf T}
     → ((old new : S) → s.polled old (Ready (Ok tt)) new → s.ready new)
     → (old new : ReconnectView M F S ME T) → Polled m connect s clones old (Ready (Ok tt)) new → IsReady s new
 polled_ok {m = m} {connect = connect} {s = s} {clones = clones} readies old new p =
-    pass_ok m connect s clones readies p.passes.last.state p.passes.last new
-    (iterations_last (Iteration m connect s clones) Pending (Ready (Ok tt)) old new (λ e. cc) p.passes)
+    iteration_ok m connect s clones readies p.iterations.last.state p.iterations.last new
+    (iterations_last (Iteration m connect s clones) Pending (Ready (Ok tt)) old new (λ e. cc) p.iterations)

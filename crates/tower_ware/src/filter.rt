@@ -291,7 +291,7 @@ impl<S, U> AsyncFilter<S, U> {
         U: AsyncPredicate<R>,
         requires { U.sound self.old.predicate }
         ensures checked { U.checked self.old.predicate request result self.new.predicate }
-        ensures fresh { U.Future.can_poll result }
+        ensures can_poll { U.Future.can_poll result }
         ensures sound { U.sound self.new.predicate }
         ensures same { self.new.inner ≡ self.old.inner }
     {

@@ -18,7 +18,7 @@ pub use error::Error;
 pub use future::ResponseFuture;
 use futures::task::{Context, Poll};
 use state::{Reply, State};
-use tower_base::passes::TURNS;
+use tower_base::iterations::TURNS;
 use tower_base::service::{Service, Steps};
 
 /// A service that connects to its target with its maker, and connects again if the connection's readiness
@@ -105,8 +105,8 @@ where
             ((s : ℕ) → Needs M.needs M.Future.needs S.needs (view_of self.new) s → Hears cx.new s) }
         ensures kept { Keeps cx.old cx.new }
     {
-        for _pass in 0..TURNS {
-            if let Some(answer) = pass::<Request, M, S, Target>(self, cx) {
+        for _iteration in 0..TURNS {
+            if let Some(answer) = iterate_once::<Request, M, S, Target>(self, cx) {
                 return answer;
             }
         }
@@ -144,7 +144,7 @@ where
 type Answer<E, M> = Poll<Result<(), Error<E, M>>>;
 
 // Makes one iteration. Returns the answer of the poll, or `None` if another iteration follows.
-fn pass<Request, M, S, Target>(
+fn iterate_once<Request, M, S, Target>(
     reconnect: &mut Reconnect<M, Target>,
     cx: &mut Context<'_>,
 ) -> Option<Answer<S::Error, M::Error>>
@@ -154,7 +154,7 @@ where
     Target: Clone + Drop,
     requires { Sound M.Service M.Future.Steps.own M.Future.can_poll S.sound
         (view_of reconnect.old) }
-    ensures pass { Iteration M.Service M.Future.Steps.own S.Service Target.Clone
+    ensures iteration { Iteration M.Service M.Future.Steps.own S.Service Target.Clone
         (view_of reconnect.old) result (view_of reconnect.new) }
     ensures sound { Sound M.Service M.Future.Steps.own M.Future.can_poll S.sound
         (view_of reconnect.new) }

@@ -3,7 +3,7 @@ ghost use Rattle.std.specs.Prelude.{◌≡◌, ◌≢◌, ◌<◌, ◌≤◌, �
 ghost use Rattle.slab.specs.Slab.{get};
 ghost use Rattle.tower_base.specs.Order.{first_or};
 ghost use Rattle.tower_latch.specs.Wakes.{OneGoesOn, StallsOn};
-ghost use Rattle.tower_latch.specs.WaitQueue.{granted, room, size, stalls as queue_stalls, waiting};
+ghost use Rattle.tower_latch.specs.WaitQueue.{granted, room, size, stalls as queue_stalls, ungranted};
 ghost use Rattle.tower_buffer.specs.MessageSteps.{capacity, len, queued};
 ghost use Rattle.tower_buffer.specs.declared.buffer.message.Fate.{Fate};
 ghost use Rattle.tower_buffer.specs.declared.buffer.message.Message.{Message};
@@ -32,7 +32,7 @@ pub(crate) struct Mailbox<Request, F, E> {
     ghost limit: { bound < 2 ^ 64 },
     ghost fits: { reserved + queued messages + granted queue ≤ bound },
     // Nobody waits without a place while one is free.
-    ghost full: { 0 < waiting queue → reserved + queued messages + granted queue ≡ bound },
+    ghost full: { 0 < ungranted queue → reserved + queued messages + granted queue ≡ bound },
     ghost room: { len messages + reserved + size queue ≤ capacity messages },
 }
 
@@ -234,7 +234,7 @@ impl<Request: Drop, F, E: Clone> Mailbox<Request, F, E> {
         }
         // No more messages are promised room than there is, so that their number fits in a `usize`.
         let _capacity = self.messages.capacity();
-        let promised = self.reserved + self.queue.granted() + self.queue.waiting();
+        let promised = self.reserved + self.queue.granted() + self.queue.ungranted();
         if promised == usize::MAX {
             return (MailReply::Memory, Wakes::Nobody);
         }

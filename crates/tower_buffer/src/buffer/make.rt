@@ -29,7 +29,7 @@ impl<Request: Drop, F: Steps + Drop, E: Clone, L: Latch<Mail<Request, F, E>>> Bu
         ensures refused { IfErr result (λ e. L.shares latch (Err e)) }
     {
         let share = latch.share()?;
-        Ok((Buffer::away(latch), Worker::idle(share, service)))
+        Ok((Buffer::away(latch), Worker::new(share, service)))
     }
 
     // Creates a `Buffer` and passes its worker to the executor.

@@ -13,7 +13,7 @@ use crate::buffer::mail_core::{Mail, waited};
 use futures::future::Future;
 use futures::task::{Context, Poll};
 use std::marker::{Model, PhantomData};
-use tower_base::passes::TURNS;
+use tower_base::iterations::TURNS;
 use tower_base::service::{Service, Steps};
 use tower_latch::Latch;
 use tower_latch::held::Pollable;
@@ -77,7 +77,7 @@ where
     L: Latch<Mail<Request, F, E>>,
 {
     // Creates a worker that has taken no message.
-    pub(crate) fn idle(latch: L, service: S) -> Self
+    pub(crate) fn new(latch: L, service: S) -> Self
         ensures { result
             ≡ record { latch = latch; service = service; message = None; has_failed = false } }
     {
@@ -91,9 +91,9 @@ where
     }
 
     // Makes one iteration. Returns `None` if the next one follows.
-    fn pass(&mut self, cx: &mut Context<'_>) -> Option<Poll<()>>
+    fn iterate_once(&mut self, cx: &mut Context<'_>) -> Option<Poll<()>>
         requires { S.sound self.old.service }
-        ensures pass { Iteration L.gave S.Service self.old result self.new }
+        ensures iteration { Iteration L.gave S.Service self.old result self.new }
         ensures sound { S.sound self.new.service }
         ensures armed { result ≡ Some Pending → IsArmed cx.new }
         ensures heard { result ≡ Some Pending → (s : ℕ) → Needs L.source S.needs self.new s
@@ -114,7 +114,7 @@ where
     fn take(&mut self, cx: &mut Context<'_>) -> Option<Poll<()>>
         requires sound { S.sound self.old.service }
         requires none { self.old.message ≡ None }
-        ensures pass { Iteration L.gave S.Service self.old result self.new }
+        ensures iteration { Iteration L.gave S.Service self.old result self.new }
         ensures sound { S.sound self.new.service }
         ensures armed { result ≡ Some Pending → IsArmed cx.new }
         ensures heard { result ≡ Some Pending → (s : ℕ) → Needs L.source S.needs self.new s
@@ -176,9 +176,9 @@ where
     }
 
     // Makes iterations until one returns a result, at most `TURNS`.
-    fn passes(&mut self, cx: &mut Context<'_>) -> Poll<()>
+    fn iterate(&mut self, cx: &mut Context<'_>) -> Poll<()>
         requires { S.sound self.old.service }
-        ensures passes { Stepped L.gave S.Service self.old result self.new }
+        ensures stepped { Stepped L.gave S.Service self.old result self.new }
         ensures woken { AnsweredOrWoken (Iteration L.gave S.Service)
             self.old result self.new cx.new.is_woken }
         ensures sound { S.sound self.new.service }
@@ -187,8 +187,8 @@ where
             ((s : ℕ) → Needs L.source S.needs self.new s → Hears cx.new s) }
         ensures kept { Keeps cx.old cx.new }
     {
-        for _pass in 0..TURNS {
-            if let Some(answer) = self.pass(cx) {
+        for _iteration in 0..TURNS {
+            if let Some(answer) = self.iterate_once(cx) {
                 return answer;
             }
         }
@@ -250,6 +250,6 @@ where
         ensures registered { OnPending result (Covers cx.new (Needs L.source S.needs self.new)) }
         ensures kept { Keeps cx.old cx.new }
     {
-        self.passes(cx)
+        self.iterate(cx)
     }
 }

@@ -39,7 +39,7 @@ pub trait Sender<Request>: Drop {
     fn send_request(&mut self, request: Request) -> Self::Future
         requires { can_send request }
         ensures sent { sent self.old request result self.new }
-        ensures fresh { Self.Future.can_poll result };
+        ensures can_poll { Self.Future.can_poll result };
 }
 
 /// Nothing is known of a response, or of when the connection is ready: that is between `hyper` and the peer.

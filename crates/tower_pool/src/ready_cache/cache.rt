@@ -111,7 +111,7 @@ impl<K: Eq + Hash + Clone + Drop, S: Service<Req>, Req> ReadyCache<K, S, Req> {
     pub fn pending_contains(&self, key: &K) -> bool
         ensures { result ≡ is_pending K.eq key.now self.now.lists.pending }
     {
-        self.pending.awaited(key)
+        self.pending.is_pending(key)
     }
 
     /// Returns the key's ready endpoint: its index, the key that it stands under, and its service.
@@ -183,7 +183,7 @@ impl<K: Eq + Hash + Clone + Drop, S: Service<Req>, Req> ReadyCache<K, S, Req> {
         requires sound { Sound S.sound (cache_of ready.old.entries pending.old) }
         requires some { 0 < length pending.old.items }
         ensures held { Holds K.eq K.is_clone ready.new.entries pending.new }
-        ensures asked { PolledFirst K.eq S.Service (cache_of ready.old.entries pending.old)
+        ensures polled { PolledFirst K.eq S.Service (cache_of ready.old.entries pending.old)
             result (cache_of ready.new.entries pending.new) }
         ensures sound { Sound S.sound (cache_of ready.new.entries pending.new) }
         ensures full { result ≡ Err Memory → spare ready.old ≡ 0 }
@@ -354,7 +354,7 @@ impl<K: Eq + Hash + Clone + Drop, S: Service<Req>, Req> ReadyCache<K, S, Req> {
         ensures called { AtKey K.eq key.now self.old.lists.ready
             (λ index. Called K.eq S.Service self.old.lists index request result self.new.lists) }
         ensures sound { Sound S.sound self.new.lists }
-        ensures fresh { S.Future.can_poll result }
+        ensures can_poll { S.Future.can_poll result }
         ensures touches { self.new.touches ≤ self.old.touches + 2 }
     {
         let index = self.ready.get_index_of(key).unwrap();
@@ -369,7 +369,7 @@ impl<K: Eq + Hash + Clone + Drop, S: Service<Req>, Req> ReadyCache<K, S, Req> {
         requires ready { At self.old.lists.ready index (λ e. S.ready e.1) }
         ensures called { Called K.eq S.Service self.old.lists index request result self.new.lists }
         ensures sound { Sound S.sound self.new.lists }
-        ensures fresh { S.Future.can_poll result }
+        ensures can_poll { S.Future.can_poll result }
         ensures touches { self.new.touches ≤ self.old.touches + 2 }
     {
         let (key, mut service) = self.ready.swap_remove_index(index).unwrap();

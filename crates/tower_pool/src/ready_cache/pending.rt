@@ -92,7 +92,7 @@ impl<K: Eq + Hash + Clone + Drop, S: Drop> Pending<K, S> {
     }
 
     /// Returns whether an endpoint of the key is pending and isn't cancelled.
-    pub(crate) fn awaited(&self, key: &K) -> bool
+    pub(crate) fn is_pending(&self, key: &K) -> bool
         ensures { result ≡ is_pending K.eq key.now self.now.items }
     {
         matches!(&self.last, Some((last, _, false)) if *key == *last)
@@ -201,7 +201,7 @@ impl<K: Eq + Hash + Clone + Drop, S: Drop> Pending<K, S> {
         ensures room { self.new.room ≡ self.old.room }
         ensures touches { self.new.touches ≡ self.old.touches }
     {
-        if !is_ready && !self.awaited(key) {
+        if !is_ready && !self.is_pending(key) {
             let _ = self.places.swap_remove(key);
         }
     }
@@ -215,7 +215,7 @@ impl<K: Eq + Hash + Clone + Drop, S: Drop> Pending<K, S> {
         ensures room { self.new.room ≡ self.old.room }
         ensures touches { self.new.touches ≤ self.old.touches + 2 }
     {
-        if !self.awaited(&key) {
+        if !self.is_pending(&key) {
             self.append((key, service, false));
         }
     }

@@ -16,7 +16,7 @@ use futures::task::{Context, Poll};
 use std::alloc::{AllocError, Global};
 use std::marker::PhantomData;
 use std::sync::Wait;
-use tower_base::passes::TURNS;
+use tower_base::iterations::TURNS;
 use tower_base::service::{Executor, Service};
 use tower_latch::held::Viewed;
 use tower_latch::{Guarded, Latch};
@@ -154,8 +154,8 @@ where
         ensures heard { OnPending result ((s : ℕ) → L.source self.new.latch s → Hears cx.new s) }
         ensures kept { Keeps cx.old cx.new }
     {
-        for _pass in 0..TURNS {
-            if let Some(answer) = self.pass(cx) {
+        for _iteration in 0..TURNS {
+            if let Some(answer) = self.iterate_once(cx) {
                 return answer;
             }
         }
@@ -180,9 +180,9 @@ where
     L: Latch<SlotCore<Viewed<S, Request>, E>>,
 {
     // Makes one iteration. Returns an answer, or `None` to go on with the next iteration.
-    fn pass(&mut self, cx: &mut Context<'_>) -> Answer<E>
+    fn iterate_once(&mut self, cx: &mut Context<'_>) -> Answer<E>
         requires { Sound S.sound X.Executor (view_of self.old) }
-        ensures pass { Iteration S.Service L.Latch X.Executor (view_of self.old)
+        ensures iteration { Iteration S.Service L.Latch X.Executor (view_of self.old)
             result (view_of self.new) }
         ensures sound { Sound S.sound X.Executor (view_of self.new) }
         ensures armed { IfSome result (λ answer. OnPending answer (IsArmed cx.new)) }

@@ -67,7 +67,8 @@ where
     // Returns whether nobody waits for the service any more. As long as somebody does, an abort wakes the
     // task.
     fn is_aborted(latch: &L, cx: &mut Context<'_>) -> bool
-        ensures asked { (reply : _) × L.gave latch.now Step.Aborted reply × (result ≡ tells reply) }
+        ensures stepped { (reply : _) × L.gave latch.now Step.Aborted reply
+            × (result ≡ tells reply) }
         ensures armed { result ≡ false → IsArmed cx.new }
         ensures heard { result ≡ false → (s : ℕ) → L.source latch.now s → Hears cx.new s }
         ensures kept { Keeps cx.old cx.new }

@@ -29,7 +29,7 @@ pub trait MakeBackoff: Drop {
     fn make_backoff(&mut self) -> Result<Self::Backoff, AllocError>
         requires { sound self.old }
         ensures made { made self.old result self.new }
-        ensures fresh { IfOk result Self.Backoff.sound }
+        ensures sound { IfOk result Self.Backoff.sound }
         ensures sound { sound self.new };
 }
 
@@ -48,7 +48,7 @@ pub trait Backoff: Drop {
     fn next_backoff(&mut self) -> Self::Future
         requires { sound self.old }
         ensures begins { begins self.old result self.new }
-        ensures fresh { Self.Future.can_poll result }
+        ensures can_poll { Self.Future.can_poll result }
         ensures sound { sound self.new };
 }
 

@@ -15,7 +15,7 @@ use crate::retry::{Error, Policy};
 use futures::future::Future;
 use futures::task::{Context, Poll};
 use std::marker::Model;
-use tower_base::passes::TURNS;
+use tower_base::iterations::TURNS;
 use tower_base::service::{Service, Steps};
 
 /// The future of a `Retry`, which resolves to a response after as many calls as the policy requires.
@@ -108,12 +108,12 @@ where
         let Some(attempts) = &mut self.attempts else {
             return Poll::Ready(Err(Error::Memory));
         };
-        passes(attempts, cx)
+        iterate(attempts, cx)
     }
 }
 
 #[inline(always)]
-fn passes<P, S, Request>(
+fn iterate<P, S, Request>(
     attempts: &mut Attempts<P, S, Request, S::Future, P::Future>,
     cx: &mut Context<'_>,
 ) -> Poll<Result<S::Response, Error<S::Error>>>
@@ -122,7 +122,7 @@ where
     S: Service<Request>,
     Request: Drop,
     requires { Sound P.sound S.sound S.Future.can_poll P.Future.can_poll attempts.old }
-    ensures passes { Iterations (Iteration S.Service S.Future.stepped P.Policy P.Future.stepped)
+    ensures iterations { Iterations (Iteration S.Service S.Future.stepped P.Policy P.Future.stepped)
         Pending attempts.old result attempts.new }
     ensures woken { AnsweredOrWoken (Iteration S.Service S.Future.stepped P.Policy P.Future.stepped)
         attempts.old result attempts.new cx.new.is_woken }
@@ -132,8 +132,8 @@ where
         (NeedsAt S.Future.needs P.Future.needs (S.needs attempts.new.service) attempts.new.state)) }
     ensures kept { Keeps cx.old cx.new }
 {
-    for _pass in 0..TURNS {
-        if let Some(answer) = pass(attempts, cx) {
+    for _iteration in 0..TURNS {
+        if let Some(answer) = iterate_once(attempts, cx) {
             return answer;
         }
     }
@@ -141,7 +141,7 @@ where
 }
 
 #[inline(always)]
-fn pass<P, S, Request>(
+fn iterate_once<P, S, Request>(
     attempts: &mut Attempts<P, S, Request, S::Future, P::Future>,
     cx: &mut Context<'_>,
 ) -> Option<Poll<Result<S::Response, Error<S::Error>>>>
@@ -150,7 +150,7 @@ where
     S: Service<Request>,
     Request: Drop,
     requires { Sound P.sound S.sound S.Future.can_poll P.Future.can_poll attempts.old }
-    ensures pass { Iteration S.Service S.Future.stepped P.Policy P.Future.stepped attempts.old
+    ensures iteration { Iteration S.Service S.Future.stepped P.Policy P.Future.stepped attempts.old
         result attempts.new }
     ensures again { Unanswered result
         (Sound P.sound S.sound S.Future.can_poll P.Future.can_poll attempts.new) }

@@ -33,7 +33,7 @@ pub trait Policy<Request, Response, Error>: Drop {
         requires { sound self.old }
         ensures decided { decided self.old request.old outcome.old result self.new request.new
             outcome.new }
-        ensures fresh { IfSome result Self.Future.can_poll }
+        ensures can_poll { IfSome result Self.Future.can_poll }
         ensures sound { sound self.new };
 
     /// Returns a copy of the request to be made again; or `None`, and the result of the request is the

@@ -5,7 +5,7 @@ use std::sync::{Condvar, Wait};
 use std::time::Duration;
 
 /// Says whether the thread has to look at its timers before its next turn. It can't be dropped: if the
-/// thread has to, `Bell::pass` alone takes it.
+/// thread has to, `Bell::ring_if_due` alone takes it.
 pub struct Notice {
     is_due: bool,
 }
@@ -39,7 +39,7 @@ impl Bell {
     }
 
     /// Wakes the thread if it has to look earlier.
-    pub fn pass(&self, notice: Notice) {
+    pub fn ring_if_due(&self, notice: Notice) {
         if notice.is_due {
             self.ring(notice);
         } else {

@@ -40,7 +40,7 @@ pub trait MakeConnection<Target>: Drop {
         requires ready { ready self.old }
         ensures sound { sound self.new }
         ensures called { called self.old target result self.new }
-        ensures fresh { Self.Future.can_poll result };
+        ensures can_poll { Self.Future.can_poll result };
 
     // If `poll_ready` returns `Ok`, it leaves a value that is ready.
     ghost readies: { (old new : Self) → polled old (Ready (Ok tt)) new → ready new };

@@ -48,7 +48,7 @@ pub trait MakeService<Target, Request>: Drop {
         requires ready { ready self.old }
         ensures sound { sound self.new }
         ensures called { called self.old target result self.new }
-        ensures fresh { Self.Future.can_poll result };
+        ensures can_poll { Self.Future.can_poll result };
 
     /// Turns the maker into a `Service`.
     final fn into_service(self) -> IntoService<Self, Request>

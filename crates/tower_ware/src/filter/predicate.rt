@@ -45,7 +45,7 @@ pub trait AsyncPredicate<Request>: Drop {
         requires { sound self.old }
         ensures checked { checked self.old request result self.new }
         ensures sound { sound self.new }
-        ensures fresh { Self.Future.can_poll result };
+        ensures can_poll { Self.Future.can_poll result };
 }
 
 /// A predicate that calls a closure. In the Rust the closure itself is a predicate.

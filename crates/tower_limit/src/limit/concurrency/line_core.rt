@@ -1,6 +1,6 @@
 //! The core of a semaphore: who holds a permit, and who waits for one.
 ghost use Rattle.std.specs.Prelude.{◌≡◌, ◌<◌, ◌≤◌, ◌+◌, ◌^◌};
-ghost use Rattle.tower_latch.specs.WaitQueue.{granted, waiting};
+ghost use Rattle.tower_latch.specs.WaitQueue.{granted, ungranted};
 
 use std::alloc::{AllocError, Global};
 use tower_latch::wait_queue::{WaitQueue, WaitState};
@@ -47,7 +47,7 @@ pub struct LineCore {
     ghost limit: { max < 2 ^ 64 },
     ghost fits: { held + granted queue ≤ max },
     // Nobody waits without a grant while a permit is free.
-    ghost full: { 0 < waiting queue → held + granted queue ≡ max },
+    ghost full: { 0 < ungranted queue → held + granted queue ≡ max },
 }
 
 impl LineCore {

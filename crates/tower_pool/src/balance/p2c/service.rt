@@ -17,7 +17,7 @@ use futures::future::{Future, Pending, pending};
 use futures::task::{Context, Poll};
 use std::alloc::Global;
 use std::hash::Hash;
-use tower_base::passes::TURNS;
+use tower_base::iterations::TURNS;
 use tower_base::service::Service;
 use tower_base::util::rng::{HasherRng, Rng};
 use tower_limit::discover::{Change, Discover};
@@ -43,7 +43,7 @@ where
     rng: R,
     change: Option<(D::Key, D::Service)>,
     is_over: bool,
-    idle: Pending<()>,
+    never: Pending<()>,
 }
 
 type Answer<E, X> = Result<(), Error<E, X>>;
@@ -88,7 +88,7 @@ where
             rng,
             change: None,
             is_over: false,
-            idle: pending(),
+            never: pending(),
         }
     }
 }
@@ -158,7 +158,7 @@ where
         }
     }
 
-    // Reads the discovery, unless it has ended. After the last pass the task is woken.
+    // Reads the discovery, unless it has ended. After the last iteration the task is woken.
     fn read_all(&mut self, cx: &mut Context<'_>) -> Answer<S::Error, X>
         requires { Sound D.sound D.discovered S.sound (view_of self.old) }
         ensures read { ReadsAll D.discovered K.eq (view_of self.old) result (view_of self.new) }
@@ -173,7 +173,7 @@ where
         if self.is_over {
             return Ok(());
         }
-        for _pass in 0..TURNS {
+        for _iteration in 0..TURNS {
             if let Some(answer) = self.read(cx) {
                 return answer;
             }
@@ -228,7 +228,7 @@ where
         self.kept = pick(&self.services, &mut self.rng);
         match self.kept {
             Some(_) => None,
-            None => match self.idle.poll(cx) {
+            None => match self.never.poll(cx) {
                 Poll::Pending => Some(Poll::Pending),
                 Poll::Ready(()) => unreachable!(),
             },
@@ -236,9 +236,9 @@ where
     }
 
     // Makes one iteration of choosing. Returns an answer, or `None` to go on with the next iteration.
-    fn pass(&mut self, cx: &mut Context<'_>) -> Option<Poll<Answer<S::Error, X>>>
+    fn iterate_once(&mut self, cx: &mut Context<'_>) -> Option<Poll<Answer<S::Error, X>>>
         requires { Sound D.sound D.discovered S.sound (view_of self.old) }
-        ensures pass { Iteration K.eq S.Service S.loaded S.Metric.partial_cmp R.drew
+        ensures iteration { Iteration K.eq S.Service S.loaded S.Metric.partial_cmp R.drew
             (view_of self.old) result (view_of self.new) }
         ensures sound { Sound D.sound D.discovered S.sound (view_of self.new) }
         ensures armed { IfSome result (λ answer. OnPending answer (IsArmed cx.new)) }
@@ -272,7 +272,7 @@ where
         ensures kept { Keeps cx.old cx.new }
     {
         loop {
-            if let Some(answer) = self.pass(cx) {
+            if let Some(answer) = self.iterate_once(cx) {
                 return answer;
             }
         }

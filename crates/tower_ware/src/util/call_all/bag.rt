@@ -36,7 +36,7 @@ impl<F> Bag<F> {
 // Polls the futures up to the first that is ready, and removes that one.
 fn ask_each<T: Drop, F: Steps<Output = T>>(futures: &mut Vec<F>, cx: &mut Context<'_>) -> Option<T>
     requires { All F.can_poll futures.old.items }
-    ensures asked { EachPolled F.Steps.own futures.old.items result futures.new.items }
+    ensures polled { EachPolled F.Steps.own futures.old.items result futures.new.items }
     ensures again { All F.can_poll futures.new.items }
     ensures room { vec_capacity futures.new ≡ vec_capacity futures.old }
     ensures armed { MatchOption result (¬ (futures.old.items ≡ []) → IsArmed cx.new)

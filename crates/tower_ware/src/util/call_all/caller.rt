@@ -8,7 +8,7 @@ ghost use Rattle.tower_base.specs.LastIteration.{AnsweredOrWoken};
 use crate::util::call_all::call_queue::CallQueue;
 use crate::util::call_all::error::Error;
 use futures::task::{Context, Poll};
-use tower_base::passes::TURNS;
+use tower_base::iterations::TURNS;
 use tower_base::service::{Flow, Service};
 
 type Answer<A, E> = Poll<Option<Result<A, Error<E>>>>;
@@ -128,11 +128,11 @@ where
     }
 
     // Makes one iteration. Returns the answer of the poll, or `None` if another iteration follows.
-    fn pass(&mut self, cx: &mut Context<'_>) -> Option<Answer<Svc::Response, Svc::Error>>
+    fn iterate_once(&mut self, cx: &mut Context<'_>) -> Option<Answer<Svc::Response, Svc::Error>>
         requires there { IsSomeAnd self.old.service Svc.sound }
         requires queue { Q.sound self.old.queue }
         requires flow { self.old.ended ≡ false → S.can_poll self.old.requests }
-        ensures pass { Iteration Svc.Service S.Flow.own Q.CallQueue (view_of self.old)
+        ensures iteration { Iteration Svc.Service S.Flow.own Q.CallQueue (view_of self.old)
             result (view_of self.new) }
         ensures there { IsSomeAnd self.new.service Svc.sound }
         ensures queue { Q.sound self.new.queue }
@@ -149,7 +149,7 @@ where
     }
 
     // Makes iterations up to an answer, but at most `TURNS`; then it is pending and has woken its own task.
-    pub fn passes(&mut self, cx: &mut Context<'_>) -> Answer<Svc::Response, Svc::Error>
+    pub fn iterate(&mut self, cx: &mut Context<'_>) -> Answer<Svc::Response, Svc::Error>
         requires there { IsSomeAnd self.old.service Svc.sound }
         requires queue { Q.sound self.old.queue }
         requires flow { self.old.ended ≡ false → S.can_poll self.old.requests }
@@ -163,8 +163,8 @@ where
         ensures armed { OnPending result (IsArmed cx.new) }
         ensures kept { Keeps cx.old cx.new }
     {
-        for _pass in 0..TURNS {
-            if let Some(answer) = self.pass(cx) {
+        for _iteration in 0..TURNS {
+            if let Some(answer) = self.iterate_once(cx) {
                 return answer;
             }
         }

@@ -50,7 +50,7 @@ impl<F, T> Line<F, T> {
 // Polls each future behind the front that has no answer yet.
 fn ask_others<T: Drop, F: Steps<Output = T>>(slots: &mut VecDeque<Slot<F, T>>, cx: &mut Context<'_>)
     requires { All (MayAsk F.can_poll) slots.old.items }
-    ensures asked { OthersPolled F.Steps.own slots.old.items slots.new.items }
+    ensures polled { OthersPolled F.Steps.own slots.old.items slots.new.items }
     ensures again { All (MayAsk F.can_poll) slots.new.items }
     ensures room { deque_capacity slots.new ≡ deque_capacity slots.old }
     ensures kept { Keeps cx.old cx.new }

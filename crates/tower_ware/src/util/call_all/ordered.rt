@@ -21,7 +21,7 @@ use tower_base::service::{Flow, Service};
 ///
 /// An error of the service's readiness is yielded at once and ends the requests; the answers of the
 /// calls that were made are still yielded. After `Memory` the stream goes on. A poll makes at most 64
-/// passes; then it is pending and has woken its own task.
+/// iterations; then it is pending and has woken its own task.
 ///
 /// `F`, `T` and `R` are the service's future, its answer and the request.
 #[derive(Drop)]
@@ -143,6 +143,6 @@ where
         Svc.Future.can_poll };
 
     fn flow(&mut self, cx: &mut Context<'_>) -> Poll<Option<Self::Item>> {
-        self.caller.passes(cx)
+        self.caller.iterate(cx)
     }
 }

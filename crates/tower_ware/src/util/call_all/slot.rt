@@ -16,7 +16,7 @@ impl<T: Drop, F: Steps<Output = T>> Slot<F, T> {
     // Polls the future, unless its answer is there.
     pub fn ask(&mut self, cx: &mut Context<'_>)
         requires { MayAsk F.can_poll self.old }
-        ensures asked { SlotPolled F.Steps.own self.old self.new }
+        ensures polled { SlotPolled F.Steps.own self.old self.new }
         ensures again { MayAsk F.can_poll self.new }
         ensures armed { OnWaiting self.new (IsArmed cx.new) }
         ensures kept { Keeps cx.old cx.new }

@@ -112,8 +112,8 @@ poll_ready-requires g c =
     let alive : q.cancelled ≡ false = search rules in
     sound_first g.K.PartialEq.eq g.S.Service.sound _ _ refl c.requires.sound q mid take alive
 
-pub returns-in-Pending-clause-asked : goal.returns-in-Pending-clause-asked
-returns-in-Pending-clause-asked g c =
+pub returns-in-Pending-clause-polled : goal.returns-in-Pending-clause-polled
+returns-in-Pending-clause-polled g c =
     let q = entry_of c.unwrap-key.result in
     let mid = c.take_first.new.self.items in
     let take = c.take_first.ensures.items ∙ ap (λ r. option_map_or (λ e. entry_of e ∷ c.take_first.new.self.items) r []) c.unwrap-key.ensures in
@@ -123,8 +123,8 @@ returns-in-Pending-clause-asked g c =
     asked_by g.K.PartialEq.eq g.S.Service was was refl q mid take (Ok true) (cache_of c.reserve.new.self.entries c.append-in-Pending.new.self)
     (alive, (w, c.in-Pending.ensures.polled, same_view _ _ _ _ c.reserve.ensures.entries (c.append-in-Pending.ensures.items ∙ (λ j. mid ++ entry_of (q.key, w, sym alive j) ∷ []))))
 
-pub returns-in-Ready-Err-clause-asked : goal.returns-in-Ready-Err-clause-asked
-returns-in-Ready-Err-clause-asked g c =
+pub returns-in-Ready-Err-clause-polled : goal.returns-in-Ready-Err-clause-polled
+returns-in-Ready-Err-clause-polled g c =
     let q = entry_of c.unwrap-key.result in
     let mid = c.take_first.new.self.items in
     let take = c.take_first.ensures.items ∙ ap (λ r. option_map_or (λ e. entry_of e ∷ c.take_first.new.self.items) r []) c.unwrap-key.ensures in

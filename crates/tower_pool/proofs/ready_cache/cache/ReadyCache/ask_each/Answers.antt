@@ -32,7 +32,7 @@ loop-left-preserved-in-Ok-true g c =
     let e : c.loop-left.left ≡ suc n = omega (arith, some) in
     let h : Asking g.K.PartialEq.eq g.S.Service old was (suc n) c.loop-left.waits = subst (λ m. Asking g.K.PartialEq.eq g.S.Service old was m c.loop-left.waits) e c.loop-left.invariant.asking in
     let is : c.ask.result ≡ Ok true = c.in-Ok-true.is ∙ ap Ok c.in-Ok-true.field-0-test in
-    let turn : PolledFirst g.K.PartialEq.eq g.S.Service was (Ok true) now = rw is at c.ask.ensures.asked in
+    let turn : PolledFirst g.K.PartialEq.eq g.S.Service was (Ok true) now = rw is at c.ask.ensures.polled in
     record {
       held = c.ask.ensures.held;
       asking = asking_waits g.K.PartialEq.eq g.S.Service old was now n c.loop-left.waits h turn;
@@ -54,7 +54,7 @@ loop-left-preserved g c =
     let e : c.loop-left.left ≡ suc n = omega (arith, some) in
     let h : Asking g.K.PartialEq.eq g.S.Service old was (suc n) c.loop-left.waits = subst (λ m. Asking g.K.PartialEq.eq g.S.Service old was m c.loop-left.waits) e c.loop-left.invariant.asking in
     let is : c.ask.result ≡ Ok false = c.in-Ok-false.is ∙ ap Ok c.in-Ok-false.field-0-test in
-    let turn : PolledFirst g.K.PartialEq.eq g.S.Service was (Ok false) now = rw is at c.ask.ensures.asked in
+    let turn : PolledFirst g.K.PartialEq.eq g.S.Service was (Ok false) now = rw is at c.ask.ensures.polled in
     record {
       held = c.ask.ensures.held;
       asking = asking_left g.K.PartialEq.eq g.S.Service old was now n c.loop-left.waits h turn;
@@ -75,7 +75,7 @@ returns-in-Err-clause-polled g c =
     let n = c.loop-left.left - 1 in
     let e : c.loop-left.left ≡ suc n = omega (arith, some) in
     let h : Asking g.K.PartialEq.eq g.S.Service old was (suc n) c.loop-left.waits = subst (λ m. Asking g.K.PartialEq.eq g.S.Service old was m c.loop-left.waits) e c.loop-left.invariant.asking in
-    asking_stops g.K.PartialEq.eq g.S.Service old was now n c.loop-left.waits h c.in-Err.error (cache_of c.ask.new.ready.entries c.rotate.new.self) c.in-Err.ensures.asked refl c.rotate.ensures.items
+    asking_stops g.K.PartialEq.eq g.S.Service old was now n c.loop-left.waits h c.in-Err.error (cache_of c.ask.new.ready.entries c.rotate.new.self) c.in-Err.ensures.polled refl c.rotate.ensures.items
 
 pub returns-in-Err-clause-held : goal.returns-in-Err-clause-held
 returns-in-Err-clause-held g c =

@@ -16,8 +16,8 @@ invariant_of-self g c =
     stands_marked eq g.met.K.Eq.laws es c.self.inside.entries c.self.inside.last c.self.invariant k None refl c.swap_remove.new.self.entries c.swap_remove.ensures.updates.0 c.self.inside.last
     (unmarked eq g.met.K.Eq.laws es c.self.inside.entries c.self.inside.last c.self.invariant k (right_false (names_one (lookup (eq k) es)) (is_pending eq k (last_of c.self.inside.last)) none))
 
-pub returns-then-not-awaited-clause-items : goal.returns-then-not-awaited-clause-items
-returns-then-not-awaited-clause-items g c =
+pub returns-then-not-is_pending-clause-items : goal.returns-then-not-is_pending-clause-items
+returns-then-not-is_pending-clause-items g c =
     let eq = g.K.PartialEq.eq in
     let k = c.args.key.now in
     let es = c.self.inside.places.entries in

@@ -3,9 +3,9 @@ use Rattle.tower_base.specs.Iterations.{Iterates}
 use Rattle.tower_pool.specs.SpawnReady.{Iteration, Sound, view_of}
 use Rattle.tower_pool.proofs.spawn_ready.service.SpawnReadyService.poll_ready.Given as goal
 
-abbrev pub invariant-loop-pass : goal.invariant-loop-pass
-invariant-loop-pass g l = record {
-  went : Iterates (Iteration g.S.Service g.L.Latch g.X.Executor) l._pass (view_of l.fn.self) (view_of l.self);
+abbrev pub invariant-loop-iteration : goal.invariant-loop-iteration
+invariant-loop-iteration g l = record {
+  went : Iterates (Iteration g.S.Service g.L.Latch g.X.Executor) l._iteration (view_of l.fn.self) (view_of l.self);
   sound : Sound g.S.Service.sound g.X.Executor (view_of l.self);
   kept : Keeps l.fn.cx l.cx;
 }

@@ -4,26 +4,26 @@ use Rattle.tower_pool.specs.Balance.{Reads, view_of}
 use Rattle.tower_pool.proofs.BalanceLemmas.{reads_on}
 use Rattle.tower_pool.proofs.balance.p2c.service.Balance.read_all.Goals as goal
 
-pub loop-pass-init : goal.loop-pass-init
-loop-pass-init g c = record { went = iterates_start _ _; sound = search rules; kept = search rules }
+pub loop-iteration-init : goal.loop-iteration-init
+loop-iteration-init g c = record { went = iterates_start _ _; sound = search rules; kept = search rules }
 
 pub returns-in-Some-clause-read : goal.returns-in-Some-clause-read
 returns-in-Some-clause-read g c =
     reads_on g.D.Discover.discovered g.K.PartialEq.eq (view_of c.args.self.now) c.in-Some.answer (view_of c.read.new.self) c.if-self.false
-    (iterations_answer (Reads g.D.Discover.discovered g.K.PartialEq.eq) c.loop-pass._pass _ _ _ _ _ c.loop-pass.invariant.went (omega arith) (rw c.in-Some.is at c.read.ensures.read))
+    (iterations_answer (Reads g.D.Discover.discovered g.K.PartialEq.eq) c.loop-iteration._iteration _ _ _ _ _ c.loop-iteration.invariant.went (omega arith) (rw c.in-Some.is at c.read.ensures.read))
 
 pub returns-in-Some-clause-woken : goal.returns-in-Some-clause-woken
 returns-in-Some-clause-woken g c = λ going. inl (record {
-  count = c.loop-pass._pass;
-  last = view_of c.loop-pass.self;
-  went = c.loop-pass.invariant.went;
+  count = c.loop-iteration._iteration;
+  last = view_of c.loop-iteration.self;
+  went = c.loop-iteration.invariant.went;
   below = omega arith;
   ends = rw c.in-Some.is at c.read.ensures.read;
 })
 
-pub loop-pass-preserved : goal.loop-pass-preserved
-loop-pass-preserved g c = record {
-  went = iterates_more (Reads g.D.Discover.discovered g.K.PartialEq.eq) c.loop-pass._pass _ _ _ c.loop-pass.invariant.went (rw c.in_default.is at c.read.ensures.read);
+pub loop-iteration-preserved : goal.loop-iteration-preserved
+loop-iteration-preserved g c = record {
+  went = iterates_more (Reads g.D.Discover.discovered g.K.PartialEq.eq) c.loop-iteration._iteration _ _ _ c.loop-iteration.invariant.went (rw c.in_default.is at c.read.ensures.read);
   sound = search rules;
   kept = search rules;
 }
@@ -31,7 +31,7 @@ loop-pass-preserved g c = record {
 pub returns-clause-read : goal.returns-clause-read
 returns-clause-read g c =
     reads_on g.D.Discover.discovered g.K.PartialEq.eq (view_of c.args.self.now) _ _ c.if-self.false
-    (iterations_tired (Reads g.D.Discover.discovered g.K.PartialEq.eq) c.loop-pass._pass _ _ _ _ c.loop-pass.invariant.went (omega arith) refl)
+    (iterations_tired (Reads g.D.Discover.discovered g.K.PartialEq.eq) c.loop-iteration._iteration _ _ _ _ c.loop-iteration.invariant.went (omega arith) refl)
 
 pub returns-clause-woken : goal.returns-clause-woken
 returns-clause-woken g c = λ going. inr (search rules)

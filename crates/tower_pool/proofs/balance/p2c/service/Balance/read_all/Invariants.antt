@@ -3,9 +3,9 @@ use Rattle.tower_base.specs.Iterations.{Iterates}
 use Rattle.tower_pool.specs.Balance.{Reads, Sound, view_of}
 use Rattle.tower_pool.proofs.balance.p2c.service.Balance.read_all.Given as goal
 
-abbrev pub invariant-loop-pass : goal.invariant-loop-pass
-invariant-loop-pass g l = record {
-  went : Iterates (Reads g.D.Discover.discovered g.K.PartialEq.eq {E = g.row.S-Error.Denot}) l._pass (view_of l.fn.self) (view_of l.self);
+abbrev pub invariant-loop-iteration : goal.invariant-loop-iteration
+invariant-loop-iteration g l = record {
+  went : Iterates (Reads g.D.Discover.discovered g.K.PartialEq.eq {E = g.row.S-Error.Denot}) l._iteration (view_of l.fn.self) (view_of l.self);
   sound : Sound g.D.Discover.sound g.D.Discover.discovered g.S.Service.sound (view_of l.self);
   kept : Keeps l.fn.cx l.cx;
 }

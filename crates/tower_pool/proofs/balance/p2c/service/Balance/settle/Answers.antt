@@ -15,15 +15,15 @@ loop-answer-init g c = record {
 
 pub returns-in-Some-clause-chosen : goal.returns-in-Some-clause-chosen
 returns-in-Some-clause-chosen g c =
-    settling_ends g.row.X.Denot g.K.PartialEq.eq g.S.Service g.S.Load.loaded g.S.Metric.PartialOrd.partial_cmp g.R.Rng.drew (view_of c.args.self.now) (view_of c.loop-answer.self) c.in-Some.answer (view_of c.pass.new.self)
-    (rw c.in-Some.is at c.pass.ensures.pass) c.loop-answer.invariant.settling
+    settling_ends g.row.X.Denot g.K.PartialEq.eq g.S.Service g.S.Load.loaded g.S.Metric.PartialOrd.partial_cmp g.R.Rng.drew (view_of c.args.self.now) (view_of c.loop-answer.self) c.in-Some.answer (view_of c.iterate_once.new.self)
+    (rw c.in-Some.is at c.iterate_once.ensures.iteration) c.loop-answer.invariant.settling
 
 pub loop-answer-preserved : goal.loop-answer-preserved
 loop-answer-preserved g c = record {
-  settling = settling_goes g.row.X.Denot g.K.PartialEq.eq g.S.Service g.S.Load.loaded g.S.Metric.PartialOrd.partial_cmp g.R.Rng.drew (view_of c.args.self.now) (view_of c.loop-answer.self) (view_of c.pass.new.self)
-      (rw c.in_default.is at c.pass.ensures.pass) c.loop-answer.invariant.settling;
+  settling = settling_goes g.row.X.Denot g.K.PartialEq.eq g.S.Service g.S.Load.loaded g.S.Metric.PartialOrd.partial_cmp g.R.Rng.drew (view_of c.args.self.now) (view_of c.loop-answer.self) (view_of c.iterate_once.new.self)
+      (rw c.in_default.is at c.iterate_once.ensures.iteration) c.loop-answer.invariant.settling;
   sound = search rules;
-  heard = λ h. c.pass.ensures.heard (c.loop-answer.invariant.heard h);
+  heard = λ h. c.iterate_once.ensures.heard (c.loop-answer.invariant.heard h);
   discover = search rules;
   over = search rules;
   kept = search rules;
@@ -31,4 +31,4 @@ loop-answer-preserved g c = record {
 
 pub loop-answer-smaller : goal.loop-answer-smaller
 loop-answer-smaller g c =
-    settling_less g.row.X.Denot g.K.PartialEq.eq g.S.Service g.S.Load.loaded g.S.Metric.PartialOrd.partial_cmp g.R.Rng.drew (view_of c.loop-answer.self) (view_of c.pass.new.self) (rw c.in_default.is at c.pass.ensures.pass)
+    settling_less g.row.X.Denot g.K.PartialEq.eq g.S.Service g.S.Load.loaded g.S.Metric.PartialOrd.partial_cmp g.R.Rng.drew (view_of c.loop-answer.self) (view_of c.iterate_once.new.self) (rw c.in_default.is at c.iterate_once.ensures.iteration)

@@ -1,6 +1,6 @@
 use Rattle.std.proofs.Common.{rules}
 use Rattle.tower_base.specs.GivesLemmas.{gives_same, gives_value}
-use Rattle.tower_ware.proofs.reconnect.pass.Goals as goal
+use Rattle.tower_ware.proofs.reconnect.iterate_once.Goals as goal
 
 pub returns-in-Pending-step-clause-sound : goal.returns-in-Pending-step-clause-sound
 returns-in-Pending-step-clause-sound g c =

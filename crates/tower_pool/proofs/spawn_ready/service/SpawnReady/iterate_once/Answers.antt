@@ -1,7 +1,7 @@
 use Rattle.std.proofs.Common.{rules, ◌≡◌, Some, inl, inr, ⊎_elim}
 use Rattle.futures.specs.declared.task.Poll.TheVariants.{Pending}
 use Rattle.tower_pool.specs.SpawnReady.{HandsOver, view_of}
-use Rattle.tower_pool.proofs.spawn_ready.service.SpawnReady.pass.Goals as goal
+use Rattle.tower_pool.proofs.spawn_ready.service.SpawnReady.iterate_once.Goals as goal
 
 pub returns-in-Pending-clause-pass : goal.returns-in-Pending-clause-pass
 returns-in-Pending-clause-pass g c =

@@ -3,7 +3,7 @@ use Rattle.std.specs.Map.{lookup}
 use Rattle.tower_pool.specs.ReadyCache.{is_pending}
 use Rattle.tower_pool.specs.Pending.{last_of}
 use Rattle.tower_pool.proofs.PendingPlaces.{awaited_named, not_awaited}
-use Rattle.tower_pool.proofs.ready_cache.pending.Pending.awaited.Goals as goal
+use Rattle.tower_pool.proofs.ready_cache.pending.Pending.is_pending.Goals as goal
 
 pub returns-in-Some-Some : goal.returns-in-Some-Some
 returns-in-Some-Some g c =

@@ -2,14 +2,14 @@ use Rattle.std.proofs.Common.{◌≡◌, IsSomeAnd, false}
 use Rattle.futures.specs.Task.{Keeps}
 use Rattle.tower_base.specs.Iterations.{Iterates}
 use Rattle.tower_ware.specs.CallAll.{Iteration, view_of}
-use Rattle.tower_ware.proofs.util.call_all.caller.Caller+Svc+S+Q+S+Item.passes.Given as goal
+use Rattle.tower_ware.proofs.util.call_all.caller.Caller+Svc+S+Q+S+Item.iterate.Given as goal
 
-abbrev pub invariant-loop-pass : goal.invariant-loop-pass
-invariant-loop-pass g l = record {
+abbrev pub invariant-loop-iteration : goal.invariant-loop-iteration
+invariant-loop-iteration g l = record {
   there : IsSomeAnd l.self.service g.Svc.Service.sound;
   queue : g.Q.CallQueue.sound l.self.queue;
   flow : l.self.ended ≡ false → g.S.Stream.can_poll l.self.requests;
   went : Iterates (Iteration g.Svc.Service g.S.Flow g.Q.CallQueue)
-      l._pass (view_of l.fn.self) (view_of l.self);
+      l._iteration (view_of l.fn.self) (view_of l.self);
   kept : Keeps l.fn.cx l.cx;
 }
