@@ -2,7 +2,7 @@
 use Rattle.std.proofs.Common.{◌≡◌, ◌≤◌, ◌+◌, List, [], ◌∷◌, ◌++◌, refl, subst}
 use Rattle.std.proofs.Math.Logic.{∥∥₁_map}
 use Rattle.tower_latch.specs.Latch.{Serves, Reached}
-use Rattle.tower_latch.specs.LockSteps.{Made}
+use Rattle.tower_latch.specs.LockSteps.{CoreSteps}
 use Rattle.tower_latch.specs.declared.Core.{Ghosts as CoreOf}
 
 module _ {C S R : Type 0} (opens : C → Type 0) (steps : C → S → R → C → Type 0) where
@@ -17,5 +17,5 @@ module _ {C S R : Type 0} (opens : C → Type 0) (steps : C → S → R → C �
 
 -- a step of a core that a run leads to
 pub made_on : {C S R T : Type 0} (c : CoreOf C S R T) (old new : C) (s : S) (r : R) → ((made : c.steps old s r new) → (c.terms new ≡ c.terms old) × (c.out new + c.paid s r ≡ c.out old + c.gained r) × (c.out new ≤ c.size (c.terms new)))
-    → ∥ Reached c.opens c.steps old ∥₁ → c.steps old s r new → Made c old s r new
-made_on c old new s r counts had step = record { came = (old, new, had, step, refl); counted = ((counts step).0, (counts step).1) }
+    → ∥ Reached c.opens c.steps old ∥₁ → c.steps old s r new → CoreSteps c old s r new
+made_on c old new s r counts had step = record { came = (old, new, had, step, refl); terms = (counts step).0; counted = (counts step).1 }

@@ -5,7 +5,6 @@ use Rattle.futures.specs.declared.task.context.Context.{Context}
 use Rattle.atomic_table.specs.Seated.{TableId}
 use Rattle.atomic_table.specs.declared.shared.Seat.{Seat}
 use Rattle.tower_latch.specs.CoreTable.{HasCore, LeavesBadge, MayFree, places}
-use Rattle.tower_latch.specs.Guarded.{Counted}
 use Rattle.tower_latch.specs.Latch.{Came}
 use Rattle.tower_latch.specs.declared.Core.{Ghosts as CoreOf}
 use Rattle.tower_latch.specs.declared.guarded.table.View.{View}
@@ -13,9 +12,10 @@ use Rattle.tower_latch.specs.declared.guarded.token.Token.{Token}
 
 module _ {C S R T : Type 0} (c : CoreOf C S R T) where
   -- The core makes the step in some run, keeps its terms, and counts the places that go back and those that are handed out.
-  pub record Made (old : C) (step : S) (reply : R) (new : C) : Type 0 where
+  pub record CoreSteps (old : C) (step : S) (reply : R) (new : C) : Type 0 where
     pub came : Came c.opens c.steps c.terms (c.terms old) step reply
-    pub counted : Counted c.terms c.out c.paid c.gained old step reply new
+    pub terms : c.terms new ≡ c.terms old
+    pub counted : c.out new + c.paid step reply ≡ c.out old + c.gained reply
 
   -- A task whose reply waits is registered at this source, or asked for another poll.
   pub record Awaits (source : ℕ) (reply : R) (old new : Context) : Type 0 where
@@ -45,7 +45,7 @@ module _ {C S R T : Type 0} (c : CoreOf C S R T) where
       pub left : LeavesBadge (λ k. c.out (core_of k)) seat.me token.badge.views
 
     -- The seat made the step and became a token, which has the places that the step left and those that it handed out.
-    pub record Stepped (seat : Seat K View) (step : S) (reply : R) (token : Token) : Type 0 where
+    pub record StepMade (seat : Seat K View) (step : S) (reply : R) (token : Token) : Type 0 where
       pub came : Came c.opens c.steps c.terms terms step reply
       pub its : token.badge.table_id ≡ table
       pub places : places token + c.paid step reply ≡ seat.me.0.out + c.gained reply

@@ -1,11 +1,11 @@
 //! A lock around a core.
-ghost use Rattle.std.specs.Prelude.{◌≡◌, ◌≤◌, ◌+◌, ◌⊎◌, ℕ, true, false, [], ◌∷◌, IfOk, IsTrue, IsSomeAnd, None};
+ghost use Rattle.std.specs.Prelude.{◌≡◌, ◌≤◌, false, [], IfOk, IsTrue, None};
 ghost use Rattle.std.specs.Arc.{arc_value};
 ghost use Rattle.tower_latch.specs.Latch.{Reached, Came};
 ghost use Rattle.tower_latch.specs.Guarded.{GuardedView, Settled, IsAlone};
 ghost use Rattle.tower_latch.specs.LatchMachine.{StepsAndWakes, Waits};
 ghost use Rattle.tower_latch.specs.CoreTable.{initial, Holds, HoldsBadge, places};
-ghost use Rattle.tower_latch.specs.LockSteps.{Awaits, Made, MayPutBack, MayStep, PutBack, Stepped};
+ghost use Rattle.tower_latch.specs.LockSteps.{Awaits, CoreSteps, MayPutBack, MayStep, PutBack, StepMade};
 
 mod crowd;
 mod table;
@@ -129,7 +129,7 @@ impl<C: Core, R: Wait + Copy> Guarded<C, R> {
     #[inline(always)]
     fn step_and_wake(&self, mut seat: Seat<C>, step: C::Step) -> (C::Reply, Token)
         requires { MayStep C.Core (λ k. k.core) self.now.table self.now.terms seat step }
-        ensures { Stepped C.Core (λ k. k.core) self.now.table self.now.terms seat step result.0
+        ensures { StepMade C.Core (λ k. k.core) self.now.table self.now.terms seat step result.0
             result.1 }
     {
         let kept = seat.slot_mut(&self.shared.table.shared, 0);
@@ -149,7 +149,7 @@ impl<C: Core, R: Wait + Copy> Guarded<C, R> {
         cx: &mut Context<'_>,
     ) -> (C::Reply, Token)
         requires { MayStep C.Core (λ k. k.core) self.now.table self.now.terms seat step }
-        ensures stepped { Stepped C.Core (λ k. k.core) self.now.table self.now.terms seat step
+        ensures stepped { StepMade C.Core (λ k. k.core) self.now.table self.now.terms seat step
             result.0 result.1 }
         ensures awaits { Awaits C.Core self.now.source result.0 cx.old cx.new }
     {
@@ -220,7 +220,7 @@ impl<C: Core> Shared<C> {
     fn give_and_wake(&self, mut seat: Seat<C>, step: C::Step) -> (C::Reply, Token)
         requires { MayStep C.Core (λ k. k.core) self.now.table.shared.table_id
             self.now.table.shared.key seat step }
-        ensures { Stepped C.Core (λ k. k.core) self.now.table.shared.table_id
+        ensures { StepMade C.Core (λ k. k.core) self.now.table.shared.table_id
             self.now.table.shared.key seat step result.0 result.1 }
     {
         let mut woken = Woken::nobody();
@@ -282,7 +282,7 @@ impl<C: Core> Kept<C> {
     fn step_alone(&mut self, step: C::Step) -> C::Reply
         requires admitted { C.admits step }
         requires alone { IsAlone self.old.waiters }
-        ensures made { Made C.Core self.old.core step result self.new.core }
+        ensures made { CoreSteps C.Core self.old.core step result self.new.core }
         ensures machine { StepsAndWakes C.Core self.old.core self.old.waiters step result None
             self.new.core self.new.waiters }
     {
@@ -302,7 +302,7 @@ impl<C: Core> Kept<C> {
     ) -> C::Reply
         requires admitted { C.admits step }
         requires alone { IsAlone self.old.waiters }
-        ensures made { Made C.Core self.old.core step result self.new.core }
+        ensures made { CoreSteps C.Core self.old.core step result self.new.core }
         ensures awaits { Awaits C.Core source.now.id result cx.old cx.new }
         ensures machine { Waits C.Core share cx.old self.old.core self.old.waiters step result None
             cx.new self.new.core self.new.waiters }
@@ -320,7 +320,7 @@ impl<C: Core> Kept<C> {
     fn step(&mut self, step: C::Step, woken: &mut Woken) -> C::Reply
         requires admitted { C.admits step }
         requires nobody { woken.old ≡ None }
-        ensures made { Made C.Core self.old.core step result self.new.core }
+        ensures made { CoreSteps C.Core self.old.core step result self.new.core }
         ensures machine { StepsAndWakes C.Core self.old.core self.old.waiters step result woken.new
             self.new.core self.new.waiters }
     {
@@ -342,7 +342,7 @@ impl<C: Core> Kept<C> {
     ) -> C::Reply
         requires admitted { C.admits step }
         requires nobody { woken.old ≡ None }
-        ensures made { Made C.Core self.old.core step result self.new.core }
+        ensures made { CoreSteps C.Core self.old.core step result self.new.core }
         ensures awaits { Awaits C.Core source.now.id result cx.old cx.new }
         ensures machine { Waits C.Core share cx.old self.old.core self.old.waiters step result
             woken.new cx.new self.new.core self.new.waiters }

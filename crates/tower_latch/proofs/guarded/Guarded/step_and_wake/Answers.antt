@@ -11,7 +11,7 @@ pub free-token-requires : goal.free-token-requires
 free-token-requires g c = record {
   its = c.requires.its;
   has = c.requires.has;
-  core = may_free (λ k. g.C.Core.terms k.core ≡ c.args.self.now.terms) (λ k. g.C.Core.out k.core) c.args.seat.me c.slot_mut-kept.result.now c.step-reply.new.self _ _ c.requires.core c.slot_mut-kept.ensures.value (λ it. c.step-reply.ensures.made.counted.0 ∙ it) c.step-reply.ensures.made.counted.1 (c.requires.paid c.step-reply.result);
+  core = may_free (λ k. g.C.Core.terms k.core ≡ c.args.self.now.terms) (λ k. g.C.Core.out k.core) c.args.seat.me c.slot_mut-kept.result.now c.step-reply.new.self _ _ c.requires.core c.slot_mut-kept.ensures.value (λ it. c.step-reply.ensures.made.terms ∙ it) c.step-reply.ensures.made.counted (c.requires.paid c.step-reply.result);
 }
 
 pub returns : goal.returns
@@ -20,7 +20,7 @@ returns g c =
     record {
       came = (came.0, came.1, came.2, came.3, came.4 ∙ it_is (λ k. g.C.Core.terms k.core ≡ c.args.self.now.terms) (λ k. g.C.Core.out k.core) c.args.seat.me c.slot_mut-kept.result.now c.requires.core c.slot_mut-kept.ensures.value);
       its = c.free-token.ensures.its;
-      places = after_step (λ k. g.C.Core.terms k.core ≡ c.args.self.now.terms) (λ k. g.C.Core.out k.core) c.args.seat.me c.slot_mut-kept.result.now c.step-reply.new.self _ _ _ c.requires.core c.slot_mut-kept.ensures.value c.step-reply.ensures.made.counted.1 (c.requires.paid c.step-reply.result) c.free-token.ensures.left;
+      places = after_step (λ k. g.C.Core.terms k.core ≡ c.args.self.now.terms) (λ k. g.C.Core.out k.core) c.args.seat.me c.slot_mut-kept.result.now c.step-reply.new.self _ _ _ c.requires.core c.slot_mut-kept.ensures.value c.step-reply.ensures.made.counted (c.requires.paid c.step-reply.result) c.free-token.ensures.left;
       held = (
         c.slot_mut-kept.result.now.core,
         c.step-reply.new.self.core,

@@ -11,7 +11,7 @@ pub free-token-requires : goal.free-token-requires
 free-token-requires g c = record {
   its = c.requires.its;
   has = c.requires.has;
-  core = may_free (λ k. g.C.Core.terms k.core ≡ c.args.self.now.terms) (λ k. g.C.Core.out k.core) c.args.seat.me c.slot_mut-kept.result.now c.wait-reply.new.self _ _ c.requires.core c.slot_mut-kept.ensures.value (λ it. c.wait-reply.ensures.made.counted.0 ∙ it) c.wait-reply.ensures.made.counted.1 (c.requires.paid c.wait-reply.result);
+  core = may_free (λ k. g.C.Core.terms k.core ≡ c.args.self.now.terms) (λ k. g.C.Core.out k.core) c.args.seat.me c.slot_mut-kept.result.now c.wait-reply.new.self _ _ c.requires.core c.slot_mut-kept.ensures.value (λ it. c.wait-reply.ensures.made.terms ∙ it) c.wait-reply.ensures.made.counted (c.requires.paid c.wait-reply.result);
 }
 
 pub returns-clause-stepped : goal.returns-clause-stepped
@@ -20,7 +20,7 @@ returns-clause-stepped g c =
     record {
       came = (came.0, came.1, came.2, came.3, came.4 ∙ it_is (λ k. g.C.Core.terms k.core ≡ c.args.self.now.terms) (λ k. g.C.Core.out k.core) c.args.seat.me c.slot_mut-kept.result.now c.requires.core c.slot_mut-kept.ensures.value);
       its = c.free-token.ensures.its;
-      places = after_step (λ k. g.C.Core.terms k.core ≡ c.args.self.now.terms) (λ k. g.C.Core.out k.core) c.args.seat.me c.slot_mut-kept.result.now c.wait-reply.new.self _ _ _ c.requires.core c.slot_mut-kept.ensures.value c.wait-reply.ensures.made.counted.1 (c.requires.paid c.wait-reply.result) c.free-token.ensures.left;
+      places = after_step (λ k. g.C.Core.terms k.core ≡ c.args.self.now.terms) (λ k. g.C.Core.out k.core) c.args.seat.me c.slot_mut-kept.result.now c.wait-reply.new.self _ _ _ c.requires.core c.slot_mut-kept.ensures.value c.wait-reply.ensures.made.counted (c.requires.paid c.wait-reply.result) c.free-token.ensures.left;
       held = (
         c.slot_mut-kept.result.now.core,
         c.wait-reply.new.self.core,

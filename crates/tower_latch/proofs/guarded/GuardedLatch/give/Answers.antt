@@ -16,7 +16,7 @@ free-requires g c =
     record {
       its = c.lock_with-seat.ensures.its;
       has = ap (λ m. m.0.has) c.lock_with-seat.ensures.has.2.1;
-      core = may_free (λ k. g.C.Core.terms k.core ≡ c.args.self.now.terms) (λ k. g.C.Core.out k.core) c.lock_with-seat.result.me c.slot_mut-kept.result.now c.step_alone-reply.new.self _ _ b.0 c.slot_mut-kept.ensures.value (λ it. c.step_alone-reply.ensures.made.counted.0 ∙ it) c.step_alone-reply.ensures.made.counted.1 (omega (arith, c.requires.paid c.step_alone-reply.result, b.1));
+      core = may_free (λ k. g.C.Core.terms k.core ≡ c.args.self.now.terms) (λ k. g.C.Core.out k.core) c.lock_with-seat.result.me c.slot_mut-kept.result.now c.step_alone-reply.new.self _ _ b.0 c.slot_mut-kept.ensures.value (λ it. c.step_alone-reply.ensures.made.terms ∙ it) c.step_alone-reply.ensures.made.counted (omega (arith, c.requires.paid c.step_alone-reply.result, b.1));
     }
 
 pub give_and_wake-requires : goal.give_and_wake-requires
@@ -37,7 +37,7 @@ returns-then-is_alone-clause-places g c =
     let h = b.0 in
     let out = b.1 in
     let after =
-    after_step (λ k. g.C.Core.terms k.core ≡ c.args.self.now.terms) (λ k. g.C.Core.out k.core) c.lock_with-seat.result.me c.slot_mut-kept.result.now c.step_alone-reply.new.self _ _ _ h c.slot_mut-kept.ensures.value c.step_alone-reply.ensures.made.counted.1 (omega (arith, c.requires.paid c.step_alone-reply.result, out)) c.free.ensures.left in
+    after_step (λ k. g.C.Core.terms k.core ≡ c.args.self.now.terms) (λ k. g.C.Core.out k.core) c.lock_with-seat.result.me c.slot_mut-kept.result.now c.step_alone-reply.new.self _ _ _ h c.slot_mut-kept.ensures.value c.step_alone-reply.ensures.made.counted (omega (arith, c.requires.paid c.step_alone-reply.result, out)) c.free.ensures.left in
     omega (arith, after, out)
 
 pub returns-clause-places : goal.returns-clause-places

@@ -14,7 +14,7 @@ free-requires g c =
     record {
       its = c.lock-seat.ensures.its;
       has = ap (λ m. m.0.has) c.lock-seat.ensures.has.1;
-      core = may_free (λ k. g.C.Core.terms k.core ≡ c.args.self.now.terms) (λ k. g.C.Core.out k.core) c.lock-seat.result.me c.slot_mut-kept.result.now c.step_alone-reply.new.self _ _ h c.slot_mut-kept.ensures.value (λ it. c.step_alone-reply.ensures.made.counted.0 ∙ it) c.step_alone-reply.ensures.made.counted.1 (omega (arith, c.requires.unpaid c.step_alone-reply.result));
+      core = may_free (λ k. g.C.Core.terms k.core ≡ c.args.self.now.terms) (λ k. g.C.Core.out k.core) c.lock-seat.result.me c.slot_mut-kept.result.now c.step_alone-reply.new.self _ _ h c.slot_mut-kept.ensures.value (λ it. c.step_alone-reply.ensures.made.terms ∙ it) c.step_alone-reply.ensures.made.counted (omega (arith, c.requires.unpaid c.step_alone-reply.result));
     }
 
 pub step_and_wake-reply-requires : goal.step_and_wake-reply-requires

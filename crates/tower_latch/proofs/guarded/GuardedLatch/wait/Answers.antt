@@ -14,7 +14,7 @@ free-requires g c =
     record {
       its = c.lock-seat.ensures.its;
       has = ap (λ m. m.0.has) c.lock-seat.ensures.has.1;
-      core = may_free (λ k. g.C.Core.terms k.core ≡ c.args.self.now.terms) (λ k. g.C.Core.out k.core) c.lock-seat.result.me c.slot_mut-kept.result.now c.wait_alone-reply.new.self _ _ h c.slot_mut-kept.ensures.value (λ it. c.wait_alone-reply.ensures.made.counted.0 ∙ it) c.wait_alone-reply.ensures.made.counted.1 (omega (arith, c.requires.unpaid c.wait_alone-reply.result));
+      core = may_free (λ k. g.C.Core.terms k.core ≡ c.args.self.now.terms) (λ k. g.C.Core.out k.core) c.lock-seat.result.me c.slot_mut-kept.result.now c.wait_alone-reply.new.self _ _ h c.slot_mut-kept.ensures.value (λ it. c.wait_alone-reply.ensures.made.terms ∙ it) c.wait_alone-reply.ensures.made.counted (omega (arith, c.requires.unpaid c.wait_alone-reply.result));
     }
 
 pub wait_or_wake-requires : goal.wait_or_wake-requires
@@ -39,7 +39,7 @@ returns-then-is_alone-clause-places g c =
     let h = has_core (λ k. g.C.Core.terms k.core ≡ c.args.self.now.terms) (λ k. g.C.Core.out k.core) initial c.lock-seat.result.me c.lock-seat.ensures.has in
     let out = ap (λ m. m.0.out) c.lock-seat.ensures.has.1 in
     let none = c.requires.unpaid c.wait_alone-reply.result in
-    let after = after_step (λ k. g.C.Core.terms k.core ≡ c.args.self.now.terms) (λ k. g.C.Core.out k.core) c.lock-seat.result.me c.slot_mut-kept.result.now c.wait_alone-reply.new.self _ _ _ h c.slot_mut-kept.ensures.value c.wait_alone-reply.ensures.made.counted.1 (omega (arith, none)) c.free.ensures.left in
+    let after = after_step (λ k. g.C.Core.terms k.core ≡ c.args.self.now.terms) (λ k. g.C.Core.out k.core) c.lock-seat.result.me c.slot_mut-kept.result.now c.wait_alone-reply.new.self _ _ _ h c.slot_mut-kept.ensures.value c.wait_alone-reply.ensures.made.counted (omega (arith, none)) c.free.ensures.left in
     omega (arith, after, out, none)
 
 pub returns-clause-places : goal.returns-clause-places
