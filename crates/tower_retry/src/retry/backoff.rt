@@ -29,7 +29,7 @@ pub trait MakeBackoff: Drop {
     fn make_backoff(&mut self) -> Result<Self::Backoff, AllocError>
         requires { sound self.old }
         ensures made { made self.old result self.new }
-        ensures made { IfOk result Self.Backoff.sound }
+        ensures backoff { IfOk result Self.Backoff.sound }
         ensures sound { sound self.new };
 }
 
