@@ -8,3 +8,4 @@ pub mod PendingLemmas
 pub mod PendingPlaces
 pub mod PlaceLemmas
 pub mod SlotRuns
+pub mod SpawnReadyLemmas

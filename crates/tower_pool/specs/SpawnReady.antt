@@ -166,11 +166,22 @@ module _ {S Q A E F L X : Type 0} (s : ServiceOf S Q A E F) (l : LatchOf L (Slot
   abbrev pub Iteration : SpawnReadyView S X L → Answer → SpawnReadyView S X L → Type 0
   Iteration old answer new = IterationAt old.service old answer new
 
+  -- The end of an iteration, which has polled the service if it is here.
+  abbrev pub Ends : Option (Poll (Result (Unit {0}) E)) → SpawnReadyView S X L → Answer → SpawnReadyView S X L → Type 0
+  Ends (Some readiness) old answer new = IfSome old.service (λ left. AfterPoll old left readiness answer new)
+  Ends None old answer new = Looks old answer new
+
   -- a poll of readiness: iterations until one has an answer, or as many as a poll makes at most
   pub record Polled (old : SpawnReadyView S X L) (answer : Poll (Result (Unit {0}) (Error E))) (new : SpawnReadyView S X L) : Type 0 where
     pub iterations : Iterations Iteration Pending old answer new
 
 module _ {S Q A E F : Type 0} (s : ServiceOf S Q A E F) where
+  -- The beginning of an iteration: the service is polled if it is here.
+  abbrev pub Begins : {X L : Type 0} → SpawnReadyView S X L → Option (Poll (Result (Unit {0}) E)) → SpawnReadyView S X L → Type 0
+  Begins old (Some readiness) new = (service : S) × (left : S) × (old.service ≡ Some service) × s.polled service readiness left
+      × (new ≡ record old { service = Some left })
+  Begins old None new = (old.service ≡ None) × (new ≡ old)
+
   -- a call: one call of the service, which is here and ready
   pub record Called {X L : Type 0} (old : SpawnReadyView S X L) (request : Q) (future : Option F) (new : SpawnReadyView S X L) : Type 0 where
     pub service : S

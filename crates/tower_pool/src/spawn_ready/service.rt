@@ -1,9 +1,9 @@
 //! A service that becomes ready in a task of its own.
-ghost use Rattle.std.specs.Prelude.{◌≡◌, ℕ, IfOk, IfSome, IsSome, IsSomeAnd, None, Some, true, false};
+ghost use Rattle.std.specs.Prelude.{◌≡◌, ℕ, IfNone, IfOk, IfSome, IsSome, IsSomeAnd, None, Some, true, false};
 ghost use Rattle.futures.specs.Task.{Hears, IsArmed, Keeps};
 ghost use Rattle.futures.specs.Poll.{OnPending};
 ghost use Rattle.tower_base.specs.LastIteration.{AnsweredOrWoken};
-ghost use Rattle.tower_pool.specs.SpawnReady.{Called, HandsOver, HandsTo, Looks, New, Iteration, Polled, Sound, Starts, view_of};
+ghost use Rattle.tower_pool.specs.SpawnReady.{Begins, Called, Ends, HandsOver, HandsTo, Looks, New, Iteration, Polled, Sound, Starts, view_of};
 ghost use Rattle.tower_pool.specs.SpawnReadyReady.{polled_ok};
 ghost use Rattle.tower_pool.specs.declared.spawn_ready.slot_core.SlotStep.{SlotStep as Step};
 
@@ -154,12 +154,11 @@ where
         ensures heard { OnPending result ((s : ℕ) → L.source self.new.latch s → Hears cx.new s) }
         ensures kept { Keeps cx.old cx.new }
     {
-        for _iteration in 0..TURNS {
-            if let Some(answer) = self.iterate_once(cx) {
-                return answer;
-            }
+        let polled = self.poll_service(cx);
+        if let Some(Poll::Ready(Ok(()))) = polled {
+            return Poll::Ready(Ok(()));
         }
-        cx.yield_now()
+        self.go_on(polled, cx)
     }
 
     fn call(&mut self, request: Request) -> Self::Future {
@@ -170,6 +169,9 @@ where
     }
 }
 
+// What a poll of the service returned, or `None` if a task has the service.
+type Readiness<E> = Option<Poll<Result<(), E>>>;
+
 type Answer<E> = Option<Poll<Result<(), Error<E>>>>;
 
 impl<S, Request, E, X, L> SpawnReady<S, Request, E, X, L>
@@ -179,6 +181,48 @@ where
     X: Executor<ReadyTask<S, Request, E, L>> + Drop,
     L: Latch<SlotCore<Viewed<S, Request>, E>>,
 {
+    // Polls the service, if it is here.
+    fn poll_service(&mut self, cx: &mut Context<'_>) -> Readiness<E>
+        requires { Sound S.sound X.Executor (view_of self.old) }
+        ensures begins { Begins S.Service (view_of self.old) result (view_of self.new) }
+        ensures here { IfSome result (λ _. IsSome self.new.service) }
+        ensures away { IfNone result (self.new.service ≡ None) }
+        ensures sound { Sound S.sound X.Executor (view_of self.new) }
+        ensures kept { Keeps cx.old cx.new }
+    {
+        let service = self.service.as_mut()?;
+        Some(service.poll_ready(cx))
+    }
+
+    // Makes the iterations of a poll, of which the first has polled the service already. It is a call, so
+    // that whoever polls a service that is ready saves no registers for it.
+    #[cold]
+    #[inline(never)]
+    fn go_on(&mut self, polled: Readiness<E>, cx: &mut Context<'_>) -> Poll<Result<(), Error<E>>>
+        requires sound { Sound S.sound X.Executor (view_of self.old) }
+        requires here { IfSome polled (λ _. IsSome self.old.service) }
+        requires away { IfNone polled (self.old.service ≡ None) }
+        ensures polled { (start : _) → Begins S.Service start polled (view_of self.old)
+            → Polled S.Service L.Latch X.Executor start result (view_of self.new) }
+        ensures sound { Sound S.sound X.Executor (view_of self.new) }
+        ensures woken { (start : _) → Begins S.Service start polled (view_of self.old)
+            → AnsweredOrWoken (Iteration S.Service L.Latch X.Executor) start result
+            (view_of self.new) cx.new.is_woken }
+        ensures armed { OnPending result (IsArmed cx.new) }
+        ensures heard { OnPending result ((s : ℕ) → L.source self.new.latch s → Hears cx.new s) }
+        ensures kept { Keeps cx.old cx.new }
+    {
+        if let Some(answer) = self.end_iteration(polled, cx) {
+            return answer;
+        }
+        for _iteration in 1..TURNS {
+            if let Some(answer) = self.iterate_once(cx) {
+                return answer;
+            }
+        }
+        cx.yield_now()
+    }
+
     // Makes one iteration. Returns an answer, or `None` to go on with the next iteration.
     fn iterate_once(&mut self, cx: &mut Context<'_>) -> Answer<E>
         requires { Sound S.sound X.Executor (view_of self.old) }
@@ -190,13 +234,28 @@ where
             (λ answer. OnPending answer ((s : ℕ) → L.source self.new.latch s → Hears cx.new s)) }
         ensures kept { Keeps cx.old cx.new }
     {
-        let Some(service) = &mut self.service else {
-            return self.look(cx);
-        };
-        match service.poll_ready(cx) {
-            Poll::Ready(Ok(())) => Some(Poll::Ready(Ok(()))),
-            Poll::Ready(Err(error)) => Some(Poll::Ready(Err(Error::Inner(error)))),
-            Poll::Pending => self.hand_over(),
+        let polled = self.poll_service(cx);
+        self.end_iteration(polled, cx)
+    }
+
+    // Ends an iteration, which has polled the service if it is here.
+    fn end_iteration(&mut self, polled: Readiness<E>, cx: &mut Context<'_>) -> Answer<E>
+        requires sound { Sound S.sound X.Executor (view_of self.old) }
+        requires here { IfSome polled (λ _. IsSome self.old.service) }
+        requires away { IfNone polled (self.old.service ≡ None) }
+        ensures ends { Ends S.Service L.Latch X.Executor polled (view_of self.old)
+            result (view_of self.new) }
+        ensures sound { Sound S.sound X.Executor (view_of self.new) }
+        ensures armed { IfSome result (λ answer. OnPending answer (IsArmed cx.new)) }
+        ensures heard { IfSome result
+            (λ answer. OnPending answer ((s : ℕ) → L.source self.new.latch s → Hears cx.new s)) }
+        ensures kept { Keeps cx.old cx.new }
+    {
+        match polled {
+            None => self.look(cx),
+            Some(Poll::Ready(Ok(()))) => Some(Poll::Ready(Ok(()))),
+            Some(Poll::Ready(Err(error))) => Some(Poll::Ready(Err(Error::Inner(error)))),
+            Some(Poll::Pending) => self.hand_over(),
         }
     }
 
