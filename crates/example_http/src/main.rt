@@ -10,6 +10,7 @@
 #![tactic(auto)]
 
 mod answer;
+mod asked;
 mod client;
 mod connection;
 mod crowd;
