@@ -1,4 +1,4 @@
-//! Tests of `tower_latch` over the library's cores: behind `Logged` from threads, and beside plain ones on random steps; shares of a
+//! Tests of `tower_latch` over the library's cores: behind `Logged` from threads; shares of a
 //! latch.
 #![tactic(auto)]
 
@@ -18,10 +18,6 @@ mod mail;
 mod plain_line;
 #[cfg(test)]
 mod plain_mail;
-#[cfg(test)]
-mod random;
-#[cfg(test)]
-mod random_mail;
 #[cfg(test)]
 mod refused;
 #[cfg(test)]

@@ -26,10 +26,6 @@ impl PlainLine {
         }
     }
 
-    pub fn len(&self) -> usize {
-        self.tickets.len()
-    }
-
     pub fn free(&self) -> usize {
         self.max.saturating_sub(self.tickets.len())
     }
@@ -38,16 +34,6 @@ impl PlainLine {
         ensures { IfSome result (λ place. place < vec_len self.now.tickets) }
     {
         self.tickets.iter().position(|other| *other == ticket)
-    }
-
-    fn take(&mut self, ticket: Ticket) -> bool {
-        match self.place_of(ticket) {
-            Some(place) => {
-                self.tickets.remove(place);
-                true
-            }
-            None => false,
-        }
     }
 
     // A permit of the first `max` tickets is seen.
@@ -78,15 +64,11 @@ impl PlainLine {
     }
 
     fn leave(&mut self, ticket: Ticket) -> LineReply {
-        if self.take(ticket) {
-            return LineReply::Left;
-        }
-        LineReply::Unknown
-    }
-
-    // Nobody waits any more.
-    pub fn hold_only(&mut self) {
-        self.tickets.retain(|ticket| *ticket == Ticket::Held);
+        let Some(place) = self.place_of(ticket) else {
+            return LineReply::Unknown;
+        };
+        self.tickets.remove(place);
+        LineReply::Left
     }
 
     // Makes the step, and works its reply out. One who waits has this key, which must be fresh.
@@ -101,7 +83,7 @@ impl PlainLine {
     }
 
     // Makes the step. Whether it has this reply.
-    pub fn answers(&mut self, step: LineStep, reply: LineReply) -> Result<bool, Fail> {
+    fn answers(&mut self, step: LineStep, reply: LineReply) -> Result<bool, Fail> {
         let key = match reply {
             LineReply::Waiting(key) => key,
             _ => 0,

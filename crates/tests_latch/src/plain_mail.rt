@@ -1,4 +1,4 @@
-//! Mail as its definition says it: a plain list of messages beside a plain line.
+//! Mail as its definition says it, of the steps that a storm makes: a plain list of messages beside a plain line.
 
 use crate::plain_line::PlainLine;
 use std::alloc::Global;
@@ -11,46 +11,26 @@ pub type Step = MailStep<u64, u64, u64>;
 pub type Reply = MailReply<u64, u64, u64>;
 
 #[derive(Clone, Copy, Debug, PartialEq, Eq)]
-enum Fate {
-    Open,
+enum State {
+    Queued(u64),
+    Taken,
     Answered(u64),
-    Failed,
-    Cancelled,
-    Lost,
-    // It has its id no more.
-    Gone,
 }
 
-// A message has its request while it is queued.
-#[derive(Clone, Copy, Debug, PartialEq, Eq)]
-struct Sent {
-    id: u64,
-    request: Option<u64>,
-    fate: Fate,
-}
-
-// Mail as a plain list of all messages in the order of sending, with a plain line for the places.
+// Mail as a plain list of messages, by id and in the order of sending, with a plain line for the places.
 #[derive(Drop)]
 pub struct PlainMail {
     line: PlainLine,
-    messages: Vec<Sent>,
+    messages: Vec<(u64, State)>,
     reserved: u64,
-    stored: Option<u64>,
-    closed: bool,
-    buffers: u64,
-    has_worker: bool,
 }
 
 impl PlainMail {
-    pub fn new(alloc: Global, bound: usize) -> PlainMail {
+    fn new(alloc: Global, bound: usize) -> PlainMail {
         PlainMail {
             line: PlainLine::new(alloc, bound),
             messages: Vec::new(alloc),
             reserved: 0,
-            stored: None,
-            closed: false,
-            buffers: 1,
-            has_worker: true,
         }
     }
 
@@ -60,62 +40,19 @@ impl PlainMail {
 
     // No message has its id any more.
     pub fn is_empty(&self) -> bool {
-        self.messages.iter().all(|sent| sent.fate == Fate::Gone)
+        self.messages.is_empty()
     }
 
-    // The message of this id, and where it stands.
-    fn find(&self, id: u64) -> Option<(usize, Sent)> {
-        let place = self
-            .messages
-            .iter()
-            .position(|sent| sent.id == id && sent.fate != Fate::Gone)?;
-        Some((place, *self.messages.get(place)?))
+    fn state(&self, id: u64) -> Option<State> {
+        let place = self.messages.iter().position(|it| it.0 == id)?;
+        Some(self.messages.get(place)?.1)
     }
 
-    // The worker has it, and it has no outcome or nobody waits for it.
-    fn taken(&self, id: u64) -> Option<(usize, Sent)> {
-        let (place, sent) = self.find(id)?;
-        match (sent.request, sent.fate) {
-            (None, Fate::Open | Fate::Cancelled) => Some((place, sent)),
-            _ => None,
-        }
-    }
-
-    // Somebody may wait for it.
-    fn known(&self, id: u64) -> Option<(usize, Sent)> {
-        let (place, sent) = self.find(id)?;
-        match sent.fate {
-            Fate::Cancelled => None,
-            _ => Some((place, sent)),
-        }
-    }
-
-    fn oldest(&self) -> Option<(usize, Sent)> {
-        let place = self
-            .messages
-            .iter()
-            .position(|sent| sent.request.is_some())?;
-        Some((place, *self.messages.get(place)?))
-    }
-
-    fn put(&mut self, place: usize, request: Option<u64>, fate: Fate) {
-        if let Some(sent) = self.messages.get_mut(place) {
-            sent.request = request;
-            sent.fate = fate;
-        }
-    }
-
-    fn release(&mut self) -> Result<(), Fail> {
-        match self.line.reply(LineStep::Release, 0)? {
-            LineReply::Left => Ok(()),
-            _ => Err("no place was held".into()),
-        }
-    }
-
-    fn shut(&self) -> Reply {
-        match self.stored {
-            Some(error) => MailReply::Failed(error),
-            None => MailReply::Closed,
+    fn put(&mut self, id: u64, state: State) {
+        for message in self.messages.iter_mut() {
+            if message.0 == id {
+                message.1 = state;
+            }
         }
     }
 
@@ -126,7 +63,6 @@ impl PlainMail {
                 MailReply::Place
             }
             LineReply::Waiting(key) => MailReply::Waiting(key),
-            LineReply::Left => MailReply::Done,
             _ => MailReply::Unknown,
         })
     }
@@ -135,215 +71,64 @@ impl PlainMail {
         if self.reserved == 0 {
             return Ok(MailReply::Unknown);
         }
-        self.reserved = self.reserved.saturating_sub(1);
-        if !self.has_worker {
-            self.release()?;
-            return Ok(self.shut());
-        }
-        if self.find(fresh).is_some() {
+        if self.state(fresh).is_some() {
             return Err("an id isn't fresh".into());
         }
-        self.messages.push(Sent {
-            id: fresh,
-            request: Some(request),
-            fate: Fate::Open,
-        })?;
+        self.reserved = self.reserved.saturating_sub(1);
+        self.messages.push((fresh, State::Queued(request)))?;
         Ok(MailReply::Sent(fresh))
     }
 
-    // The cancelled ones before the first that is waited for leave their places, whose number is told.
-    fn clear(&mut self) -> Result<usize, Fail> {
-        for cleared in 0..self.messages.len() {
-            match self.oldest() {
-                Some((place, sent)) if sent.fate == Fate::Cancelled => {
-                    self.put(place, None, Fate::Gone);
-                    self.release()?;
-                }
-                _ => return Ok(cleared),
+    // The oldest message that is queued leaves its place.
+    fn take(&mut self) -> Result<Reply, Fail> {
+        for place in 0..self.messages.len() {
+            if let Some(&(id, State::Queued(request))) = self.messages.get(place) {
+                self.put(id, State::Taken);
+                return match self.line.reply(LineStep::Release, 0)? {
+                    LineReply::Left => Ok(MailReply::Message(id, request)),
+                    _ => Err("no place was held".into()),
+                };
             }
         }
-        Ok(self.messages.len())
-    }
-
-    fn take(&mut self) -> Result<Reply, Fail> {
-        let cleared = self.clear()?;
-        let Some((place, sent)) = self.oldest() else {
-            return Ok(self.rest(cleared));
-        };
-        let Some(request) = sent.request else {
-            return Err("the oldest isn't queued".into());
-        };
-        self.put(place, None, Fate::Open);
-        self.release()?;
-        Ok(MailReply::Message(sent.id, request))
-    }
-
-    // What is told where none is queued.
-    fn rest(&self, cleared: usize) -> Reply {
-        if cleared > 0 {
-            return MailReply::Cleared;
-        }
-        if self.reserved == 0 && (self.closed || self.buffers == 0) {
-            return MailReply::End;
-        }
-        MailReply::Empty
-    }
-
-    // One that nobody waits for is gone.
-    fn live(&mut self, id: u64) -> Reply {
-        let Some((place, sent)) = self.taken(id) else {
-            return MailReply::Unknown;
-        };
-        if sent.fate == Fate::Open {
-            return MailReply::Truth(true);
-        }
-        self.put(place, None, Fate::Gone);
-        MailReply::Truth(false)
+        Ok(MailReply::Empty)
     }
 
     fn answer(&mut self, id: u64, future: u64) -> Reply {
-        let Some((place, sent)) = self.taken(id) else {
+        if self.state(id) != Some(State::Taken) {
             return MailReply::Unknown;
-        };
-        if sent.fate == Fate::Open {
-            self.put(place, None, Fate::Answered(future));
-            return MailReply::Done;
         }
-        self.put(place, None, Fate::Gone);
-        MailReply::Back(future)
-    }
-
-    fn settle(&mut self, id: u64) -> Reply {
-        let Some((place, sent)) = self.taken(id) else {
-            return MailReply::Unknown;
-        };
-        let fate = match sent.fate {
-            Fate::Open => Fate::Failed,
-            _ => Fate::Gone,
-        };
-        self.put(place, None, fate);
+        self.put(id, State::Answered(future));
         MailReply::Done
-    }
-
-    fn fail(&mut self, id: u64, error: u64) -> Reply {
-        let reply = self.settle(id);
-        if reply == MailReply::Done {
-            self.line.hold_only();
-            self.closed = true;
-            self.stored = Some(self.stored.unwrap_or(error));
-        }
-        reply
-    }
-
-    fn fail_stored(&mut self, id: u64) -> Reply {
-        match self.stored {
-            Some(_) => self.settle(id),
-            None => MailReply::Unknown,
-        }
     }
 
     fn outcome(&mut self, id: u64) -> Reply {
-        let Some((place, sent)) = self.known(id) else {
-            return MailReply::Unknown;
-        };
-        let reply = match sent.fate {
-            Fate::Open => return MailReply::Waiting(id),
-            Fate::Answered(future) => MailReply::Future(future),
-            Fate::Failed => self.shut(),
-            _ => MailReply::Lost,
-        };
-        self.put(place, None, Fate::Gone);
-        reply
-    }
-
-    fn forget(&mut self, id: u64) -> Reply {
-        let Some((place, sent)) = self.known(id) else {
-            return MailReply::Unknown;
-        };
-        match sent.fate {
-            Fate::Open => self.put(place, sent.request, Fate::Cancelled),
-            _ => self.put(place, None, Fate::Gone),
-        }
-        MailReply::Done
-    }
-
-    fn worker_gone(&mut self) -> Result<Reply, Fail> {
-        self.line.hold_only();
-        for place in 0..self.messages.len() {
-            let Some(sent) = self.messages.get(place) else {
-                break;
-            };
-            let (request, fate) = (sent.request, sent.fate);
-            if request.is_some() {
-                self.release()?;
+        match self.state(id) {
+            None => MailReply::Unknown,
+            Some(State::Answered(future)) => {
+                self.messages.retain(|it| it.0 != id);
+                MailReply::Future(future)
             }
-            match fate {
-                Fate::Open => self.put(place, None, Fate::Lost),
-                Fate::Cancelled => self.put(place, None, Fate::Gone),
-                _ => {}
-            }
-        }
-        self.closed = true;
-        self.has_worker = false;
-        Ok(MailReply::Done)
-    }
-
-    fn part(&mut self) -> Reply {
-        if self.buffers == 0 {
-            return MailReply::Unknown;
-        }
-        self.buffers = self.buffers.saturating_sub(1);
-        MailReply::Done
-    }
-
-    // A step that asks for places.
-    fn asks(&mut self, step: Step, fresh: u64) -> Result<Reply, Fail> {
-        match (step, self.closed) {
-            (MailStep::Reserve | MailStep::Look(_), true) => Ok(self.shut()),
-            (MailStep::Cancel(_), true) => Ok(MailReply::Done),
-            (MailStep::Reserve, false) => self.in_line(LineStep::Join, fresh),
-            (MailStep::Look(key), false) => self.in_line(LineStep::Look(key), fresh),
-            (MailStep::Cancel(key), false) => self.in_line(LineStep::Cancel(key), fresh),
-            _ if self.reserved == 0 => Ok(MailReply::Unknown),
-            _ => {
-                self.reserved = self.reserved.saturating_sub(1);
-                self.in_line(LineStep::Release, fresh)
-            }
+            Some(_) => MailReply::Waiting(id),
         }
     }
 
-    // Makes the step, and works its reply out. One who waits, or what is sent, has this number, which must
-    // be fresh.
-    fn reply(&mut self, step: Step, fresh: u64) -> Result<Reply, Fail> {
-        match step {
-            MailStep::Join => {
-                self.buffers = self.buffers.saturating_add(1);
-                Ok(MailReply::Done)
-            }
-            MailStep::Part => Ok(self.part()),
-            MailStep::Reserve | MailStep::Look(_) | MailStep::Cancel(_) | MailStep::Unreserve => {
-                self.asks(step, fresh)
-            }
-            MailStep::Send(request) => self.send(request, fresh),
-            MailStep::Take => self.take(),
-            MailStep::Live(id) => Ok(self.live(id)),
-            MailStep::Answer(id, future) => Ok(self.answer(id, future)),
-            MailStep::Fail(id, error) => Ok(self.fail(id, error)),
-            MailStep::FailStored(id) => Ok(self.fail_stored(id)),
-            MailStep::Outcome(id) => Ok(self.outcome(id)),
-            MailStep::Forget(id) => Ok(self.forget(id)),
-            MailStep::WorkerGone => self.worker_gone(),
-        }
-    }
-
-    // Makes the step. Whether it has this reply.
-    pub fn answers(&mut self, step: Step, reply: Reply) -> Result<bool, Fail> {
+    // Makes the step. Whether it has this reply. One who waits, or what is sent, has a number that is fresh.
+    fn answers(&mut self, step: Step, reply: Reply) -> Result<bool, Fail> {
         let fresh = match reply {
             MailReply::Waiting(key) => key,
             MailReply::Sent(id) => id,
             _ => 0,
         };
-        Ok(self.reply(step, fresh)? == reply)
+        let want = match step {
+            MailStep::Reserve => self.in_line(LineStep::Join, fresh)?,
+            MailStep::Look(key) => self.in_line(LineStep::Look(key), fresh)?,
+            MailStep::Send(request) => self.send(request, fresh)?,
+            MailStep::Take => self.take()?,
+            MailStep::Answer(id, future) => self.answer(id, future),
+            MailStep::Outcome(id) => self.outcome(id),
+            _ => return Err("a storm makes no such step".into()),
+        };
+        Ok(want == reply)
     }
 
     // Makes all steps of a history of mail that nobody had asked.

@@ -6,10 +6,6 @@ mod apart;
 #[cfg(test)]
 mod errors;
 #[cfg(test)]
-mod plain_cache;
-#[cfg(test)]
-mod random_cache;
-#[cfg(test)]
 mod refused;
 #[cfg(test)]
 mod slot_core;

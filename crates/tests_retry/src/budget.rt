@@ -1,6 +1,6 @@
-//! `tower::retry::budget`: a core by hand and beside a list, the lock's writes, and one step for each.
+//! `tower::retry::budget`: a core by hand, the lock's writes, and one step for each.
 
-use std::alloc::{AllocError, AllocGlobal};
+use std::alloc::AllocGlobal;
 use std::cell::Cell;
 use std::process::Abort;
 use std::sync::Wait;
@@ -181,87 +181,4 @@ fn one_latch_step_each(rt: HostRuntime) -> Result<(), Fail> {
     let core = BudgetCore::new(alloc, 10 * SECOND, 10, Fraction::new(1, 5), 3)?;
     let latch = Noting::new(&log, &shares, Guarded::new(rt, alloc, core)?);
     each_is_a_reading_and_a_step(&rt, &log, &moment, latch, Hand::new(&log, &moment))
-}
-
-// The budget's definition for windows of a second and 1/2, made at a moment: a plain list of all amounts
-// that count, each with its generation.
-#[derive(Drop)]
-struct Plain {
-    made: u64,
-    generation: u64,
-    amounts: Vec<(u64, i64)>,
-}
-
-impl Plain {
-    fn advance(&mut self, at: u64) {
-        let now = self.generation.max(at.saturating_sub(self.made) / SECOND);
-        self.amounts
-            .retain(|amount| now <= amount.0.saturating_add(10));
-        self.generation = now;
-    }
-
-    fn answer(&mut self, step: BudgetStep) -> Result<BudgetReply, AllocError> {
-        match step {
-            BudgetStep::Deposit(at) => {
-                self.advance(at);
-                self.amounts.push((self.generation, 1))?;
-                Ok(BudgetReply::Done)
-            }
-            BudgetStep::Withdraw(at) => {
-                self.advance(at);
-                let mut balance = 0i64;
-                for amount in &self.amounts {
-                    balance = balance.saturating_add(amount.1);
-                }
-                if balance >= 2 {
-                    self.amounts.push((self.generation, -2))?;
-                }
-                Ok(BudgetReply::Allowed(balance >= 2))
-            }
-        }
-    }
-}
-
-// The next moment: mostly within the window, at times up to thirteen windows later, at times earlier.
-fn moved(at: u64, draw: u64) -> u64 {
-    match draw % 32 {
-        0 => at.saturating_sub(SECOND),
-        1 | 2 | 3 | 4 => at.saturating_add(draw / 32 % (13 * SECOND)),
-        _ => at.saturating_add(draw / 32 % (SECOND / 2)),
-    }
-}
-
-#[test]
-fn a_hundred_thousand_steps_as_of_the_plain_list(rt: HostRuntime) -> Result<(), Fail> {
-    let mut core = BudgetCore::new(
-        rt.alloc(),
-        10 * SECOND,
-        0,
-        Fraction::new(1, 2),
-        7 * SECOND + 3,
-    )?;
-    let mut plain = Plain {
-        made: 7 * SECOND + 3,
-        generation: 0,
-        amounts: Vec::new(rt.alloc()),
-    };
-    let (mut seed, mut at) = (1u64, 0u64);
-    let (mut made, mut refused) = (0u32, 0u32);
-    for number in 0..100_000u32 {
-        seed = seed
-            .wrapping_mul(6364136223846793005)
-            .wrapping_add(1442695040888963407);
-        at = moved(at, seed / 65536);
-        let step = if seed / 4096 % 8 < 5 {
-            BudgetStep::Deposit(at)
-        } else {
-            BudgetStep::Withdraw(at)
-        };
-        let reply = core.step(step).0;
-        assert_eq!(rt; reply, plain.answer(step)?, "at {number}: {step:?}");
-        made = made.saturating_add(u32::from(reply == BudgetReply::Allowed(true)));
-        refused = refused.saturating_add(u32::from(reply == BudgetReply::Allowed(false)));
-    }
-    assert!(rt; made > 5000 && refused > 5000, "{made} {refused}");
-    Ok(())
 }

@@ -1,5 +1,5 @@
 -- The contents of the lock of a `Guarded`.
-use Rattle.std.specs.Prelude.{◌≡◌, ◌⊎◌, ◌+◌, ℕ, true, List, [], Option, None, Some, IsSomeAnd, cond, length, nat_lt, slice_get, slice_index_or, sum_by}
+use Rattle.std.specs.Prelude.{◌≡◌, ◌⊎◌, ℕ, true, List, [], Option, None, Some, IsSomeAnd, cond, length, nat_lt, slice_get, slice_index_or, sum_by}
 use Rattle.futures.specs.Task.{Wakes as WakesTask}
 use Rattle.futures.specs.declared.task.context.Context.{Context}
 use Rattle.atomic_table.specs.Seated.{TableId}
@@ -64,8 +64,3 @@ IsOf share cx waiter = (waiter.share ≡ share) × (waiter.task ≡ cx.turn.task
 -- The poll began with the context `old`. The task's waker is among these waiters, or the poll wakes its task itself.
 abbrev pub IsKept : ℕ → Context → Context → List Waiter → Type 0
 IsKept share old new waiters = (new.is_woken ≡ true) ⊎ ((new.lacks_waker ≡ true) ⊎ ((place : ℕ) × IsSomeAnd (slice_get waiters place) (IsOf share old)))
-
-module _ {C S R T : Type 0} (terms : C → T) (out : C → ℕ) (paid : S → R → ℕ) (gained : R → ℕ) where
-  -- The step keeps the terms, and counts the places that go back and those that are handed out.
-  abbrev pub Counted : C → S → R → C → Type 0
-  Counted old step reply new = (terms new ≡ terms old) × (out new + paid step reply ≡ out old + gained reply)

@@ -12,5 +12,6 @@ pub mod WaitQueue
 pub mod Waiters
 pub mod Wakes
 pub mod LatchMachine
+pub mod LockSteps
 pub mod Group
 pub mod Woken

@@ -1,11 +1,11 @@
 //! A lock around a core.
-ghost use Rattle.std.specs.Prelude.{◌≡◌, ◌≤◌, ◌+◌, ◌⊎◌, ℕ, true, false, [], ◌∷◌, IfOk, IsTrue, IsSomeAnd, None};
+ghost use Rattle.std.specs.Prelude.{◌≡◌, ◌≤◌, false, [], IfOk, IsTrue, None};
 ghost use Rattle.std.specs.Arc.{arc_value};
-ghost use Rattle.futures.specs.Task.{Hears, IsArmed, Keeps};
 ghost use Rattle.tower_latch.specs.Latch.{Reached, Came};
-ghost use Rattle.tower_latch.specs.Guarded.{GuardedView, Settled, IsAlone, Counted};
+ghost use Rattle.tower_latch.specs.Guarded.{GuardedView, Settled, IsAlone};
 ghost use Rattle.tower_latch.specs.LatchMachine.{StepsAndWakes, Waits};
-ghost use Rattle.tower_latch.specs.CoreTable.{initial, Holds, HoldsBadge, HasCore, MayFree, LeavesBadge, places};
+ghost use Rattle.tower_latch.specs.CoreTable.{initial, Holds, HoldsBadge, places};
+ghost use Rattle.tower_latch.specs.LockSteps.{Awaits, CoreSteps, MayPutBack, MayStep, PutBack, StepMade};
 
 mod crowd;
 mod table;
@@ -128,17 +128,9 @@ impl<C: Core, R: Wait + Copy> Guarded<C, R> {
     // steps of `Latch`, so that those have no place for the woken if no waker is kept.
     #[inline(always)]
     fn step_and_wake(&self, mut seat: Seat<C>, step: C::Step) -> (C::Reply, Token)
-        requires admitted { C.admits step }
-        requires paid { (reply : C.Reply) → C.paid step reply ≤ seat.me.0.out }
-        requires its { seat.table_id ≡ self.now.table }
-        requires has { seat.me.0.has ≡ true }
-        requires core { HasCore (λ k. C.terms k.core ≡ self.now.terms) (λ k. C.out k.core) seat.me }
-        ensures came { Came C.opens C.steps C.terms self.now.terms step result.0 }
-        ensures its { result.1.badge.table_id ≡ self.now.table }
-        ensures places { places result.1 + C.paid step result.0
-            ≡ seat.me.0.out + C.gained result.0 }
-        ensures held { (old : C) × (new : C) × C.steps old step result.0 new
-            × (seat.me.0.out ≤ C.out old) }
+        requires { MayStep C.Core (λ k. k.core) self.now.table self.now.terms seat step }
+        ensures { StepMade C.Core (λ k. k.core) self.now.table self.now.terms seat step result.0
+            result.1 }
     {
         let kept = seat.slot_mut(&self.shared.table.shared, 0);
         let mut woken = Woken::nobody();
@@ -156,18 +148,10 @@ impl<C: Core, R: Wait + Copy> Guarded<C, R> {
         step: C::Step,
         cx: &mut Context<'_>,
     ) -> (C::Reply, Token)
-        requires admitted { C.admits step }
-        requires paid { (reply : C.Reply) → C.paid step reply ≤ seat.me.0.out }
-        requires its { seat.table_id ≡ self.now.table }
-        requires has { seat.me.0.has ≡ true }
-        requires core { HasCore (λ k. C.terms k.core ≡ self.now.terms) (λ k. C.out k.core) seat.me }
-        ensures came { Came C.opens C.steps C.terms self.now.terms step result.0 }
-        ensures armed { C.is_wait result.0 ≡ true → IsArmed cx.new }
-        ensures heard { C.is_wait result.0 ≡ true → Hears cx.new self.now.source }
-        ensures keeps { Keeps cx.old cx.new }
-        ensures its { result.1.badge.table_id ≡ self.now.table }
-        ensures places { places result.1 + C.paid step result.0
-            ≡ seat.me.0.out + C.gained result.0 }
+        requires { MayStep C.Core (λ k. k.core) self.now.table self.now.terms seat step }
+        ensures stepped { StepMade C.Core (λ k. k.core) self.now.table self.now.terms seat step
+            result.0 result.1 }
+        ensures awaits { Awaits C.Core self.now.source result.0 cx.old cx.new }
     {
         let kept = seat.slot_mut(&self.shared.table.shared, 0);
         let mut woken = Woken::nobody();
@@ -180,11 +164,8 @@ impl<C: Core, R: Wait + Copy> Guarded<C, R> {
     // Puts the core back.
     #[inline(always)]
     fn free(&self, seat: Seat<C>) -> Token
-        requires its { seat.table_id ≡ self.now.table }
-        requires has { seat.me.0.has ≡ true }
-        requires core { MayFree (λ k. C.terms k.core ≡ self.now.terms) (λ k. C.out k.core) seat.me }
-        ensures its { result.badge.table_id ≡ self.now.table }
-        ensures left { LeavesBadge (λ k. C.out k.core) seat.me result.badge.views }
+        requires { MayPutBack C.Core (λ k. k.core) self.now.table self.now.terms seat }
+        ensures { PutBack C.Core (λ k. k.core) self.now.table self.now.terms seat result }
     {
         self.shared.free(seat)
     }
@@ -237,18 +218,10 @@ impl<C: Core> Shared<C> {
     #[cold]
     #[inline(never)]
     fn give_and_wake(&self, mut seat: Seat<C>, step: C::Step) -> (C::Reply, Token)
-        requires admitted { C.admits step }
-        requires paid { (reply : C.Reply) → C.paid step reply ≤ seat.me.0.out }
-        requires its { seat.table_id ≡ self.now.table.shared.table_id }
-        requires has { seat.me.0.has ≡ true }
-        requires core { HasCore (λ k. C.terms k.core ≡ self.now.table.shared.key)
-            (λ k. C.out k.core) seat.me }
-        ensures came { Came C.opens C.steps C.terms self.now.table.shared.key step result.0 }
-        ensures its { result.1.badge.table_id ≡ self.now.table.shared.table_id }
-        ensures places { places result.1 + C.paid step result.0
-            ≡ seat.me.0.out + C.gained result.0 }
-        ensures held { (old : C) × (new : C) × C.steps old step result.0 new
-            × (seat.me.0.out ≤ C.out old) }
+        requires { MayStep C.Core (λ k. k.core) self.now.table.shared.table_id
+            self.now.table.shared.key seat step }
+        ensures { StepMade C.Core (λ k. k.core) self.now.table.shared.table_id
+            self.now.table.shared.key seat step result.0 result.1 }
     {
         let mut woken = Woken::nobody();
         let reply = seat.slot_mut(&self.table.shared, 0).step(step, &mut woken);
@@ -260,12 +233,10 @@ impl<C: Core> Shared<C> {
     // Puts the core back, and wakes a thread that waits for it, if there is one.
     #[inline(always)]
     fn free(&self, mut seat: Seat<C>) -> Token
-        requires its { seat.table_id ≡ self.now.table.shared.table_id }
-        requires has { seat.me.0.has ≡ true }
-        requires core { MayFree (λ k. C.terms k.core ≡ self.now.table.shared.key)
-            (λ k. C.out k.core) seat.me }
-        ensures its { result.badge.table_id ≡ self.now.table.shared.table_id }
-        ensures left { LeavesBadge (λ k. C.out k.core) seat.me result.badge.views }
+        requires { MayPutBack C.Core (λ k. k.core) self.now.table.shared.table_id
+            self.now.table.shared.key seat }
+        ensures { PutBack C.Core (λ k. k.core) self.now.table.shared.table_id
+            self.now.table.shared.key seat result }
     {
         if self.table.shared.swap::<Frees>(&mut seat, 0, 0) == 2 {
             self.table.shared.wake_one(0);
@@ -311,9 +282,7 @@ impl<C: Core> Kept<C> {
     fn step_alone(&mut self, step: C::Step) -> C::Reply
         requires admitted { C.admits step }
         requires alone { IsAlone self.old.waiters }
-        ensures came { Came C.opens C.steps C.terms (C.terms self.old.core) step result }
-        ensures counted { Counted C.terms C.out C.paid C.gained self.old.core step result
-            self.new.core }
+        ensures made { CoreSteps C.Core self.old.core step result self.new.core }
         ensures machine { StepsAndWakes C.Core self.old.core self.old.waiters step result None
             self.new.core self.new.waiters }
     {
@@ -333,12 +302,8 @@ impl<C: Core> Kept<C> {
     ) -> C::Reply
         requires admitted { C.admits step }
         requires alone { IsAlone self.old.waiters }
-        ensures came { Came C.opens C.steps C.terms (C.terms self.old.core) step result }
-        ensures counted { Counted C.terms C.out C.paid C.gained self.old.core step result
-            self.new.core }
-        ensures armed { C.is_wait result ≡ true → IsArmed cx.new }
-        ensures heard { C.is_wait result ≡ true → Hears cx.new source.now.id }
-        ensures keeps { Keeps cx.old cx.new }
+        ensures made { CoreSteps C.Core self.old.core step result self.new.core }
+        ensures awaits { Awaits C.Core source.now.id result cx.old cx.new }
         ensures machine { Waits C.Core share cx.old self.old.core self.old.waiters step result None
             cx.new self.new.core self.new.waiters }
     {
@@ -355,9 +320,7 @@ impl<C: Core> Kept<C> {
     fn step(&mut self, step: C::Step, woken: &mut Woken) -> C::Reply
         requires admitted { C.admits step }
         requires nobody { woken.old ≡ None }
-        ensures came { Came C.opens C.steps C.terms (C.terms self.old.core) step result }
-        ensures counted { Counted C.terms C.out C.paid C.gained self.old.core step result
-            self.new.core }
+        ensures made { CoreSteps C.Core self.old.core step result self.new.core }
         ensures machine { StepsAndWakes C.Core self.old.core self.old.waiters step result woken.new
             self.new.core self.new.waiters }
     {
@@ -379,12 +342,8 @@ impl<C: Core> Kept<C> {
     ) -> C::Reply
         requires admitted { C.admits step }
         requires nobody { woken.old ≡ None }
-        ensures came { Came C.opens C.steps C.terms (C.terms self.old.core) step result }
-        ensures counted { Counted C.terms C.out C.paid C.gained self.old.core step result
-            self.new.core }
-        ensures armed { C.is_wait result ≡ true → IsArmed cx.new }
-        ensures heard { C.is_wait result ≡ true → Hears cx.new source.now.id }
-        ensures keeps { Keeps cx.old cx.new }
+        ensures made { CoreSteps C.Core self.old.core step result self.new.core }
+        ensures awaits { Awaits C.Core source.now.id result cx.old cx.new }
         ensures machine { Waits C.Core share cx.old self.old.core self.old.waiters step result
             woken.new cx.new self.new.core self.new.waiters }
     {

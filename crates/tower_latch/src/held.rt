@@ -23,14 +23,6 @@ pub fn open<T, P: Fact<T>>(value: T) -> T
     value
 }
 
-/// Does what `open` does, but for a value that stays where it is kept.
-pub fn known<T, P: Fact<T>>(value: &T)
-    requires { ∥ P.holds value.now ∥₁ }
-    ensures { P.holds value.now }
-{
-    let _value = value;
-}
-
 /// The fact that the service is sound.
 pub struct IsSound<Request> {
     request: PhantomData<Request>,
@@ -45,6 +37,13 @@ pub struct MayPoll;
 
 impl<F: Steps> Fact<F> for MayPoll {
     ghost holds = { F.can_poll };
+}
+
+// The same of a future that stays where it is kept.
+struct MayPollThere;
+
+impl<F: Steps> Fact<&mut F> for MayPollThere {
+    ghost holds = { λ f. F.can_poll f.now };
 }
 
 /// A sound service that is kept for others. Contracts see the service.
@@ -181,8 +180,7 @@ impl<F: Steps> Place<F> {
         let Some(future) = &mut self.future else {
             return None;
         };
-        known::<F, MayPoll>(future);
-        let answer = future.step(cx);
+        let answer = open::<&mut F, MayPollThere>(future).step(cx);
         if answer.is_ready() {
             self.future = None;
         }

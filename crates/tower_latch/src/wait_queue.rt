@@ -146,8 +146,7 @@ impl WaitQueue {
         let Some(first) = self.waiters.front() else {
             return Wakes::Nobody;
         };
-        // The granted waiters fit in the capacity, so their number fits in a `usize`.
-        let _capacity = self.waiters.capacity();
+        prove!(self.granted < self.waiters.capacity());
         self.waiters.unlink(first);
         self.granted += 1;
         Wakes::One(first)

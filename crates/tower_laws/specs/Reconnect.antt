@@ -40,7 +40,7 @@ module _ {M T S F ME Q A E G : Type 0} (m : ServiceOf M T S ME F) (connect : Ste
   abbrev pub OnlyLastFails : Type 0
   OnlyLastFails = (old new : ReconnectView M F S ME T) (pass : Iteration m connect s clones old None new) → failure_at old.state old None new pass ≡ None
 
-  -- the error of the connect that failed in the poll, if one did
+  -- The error of the connect that failed in the poll, if one did. (`⊎_elim f g x` is `f` or `g` of the one of two facts that `x` proves.)
   abbrev pub failure_in : (old : ReconnectView M F S ME T) (answer : Poll (Result (Unit {0}) (Error E ME))) (new : ReconnectView M F S ME T)
       → Polled m connect s clones old answer new → Option ME
   failure_in old answer new p = ⊎_elim (λ ends. failure_at p.iterations.last.state p.iterations.last (Some answer) new ends.1) (λ tired. None) p.iterations.ends

@@ -41,7 +41,7 @@ initial num per = record { num = num; per = per; moments = []; passed = false }
 abbrev pub is_limited : Calls → Bool
 is_limited plain = nat_le plain.num (length plain.moments)
 
--- the moment of the `num`-th last call, if that many were made
+-- The moment of the `num`-th last call, if that many were made. (`slice_index xs i` is the element of `xs` at the index `i`.)
 abbrev pub oldest : Calls → ℕ
 oldest plain = slice_index plain.moments (plain.num - 1)
 

@@ -59,7 +59,7 @@ module _ {K S : Type 0} (eq : K → K → Bool) where
   put_back k s ps = if is_pending k ps then ps else ps ++ pending_entry k s ∷ []
 
   -- A push of this key may have been refused: a clone of the key may fail; or the key has no endpoint yet, and no further key fits; or there is room
-  -- for one more endpoint at most.
+  -- for one more endpoint at most. (`lookup (eq key) es` is the value under the key in a list of pairs, if there is one.)
   abbrev pub MayRefuse : CloneOf K → CountedView K S → K → Type 0
   MayRefuse clones old key = (¬ (clones.is_infallible key))
       ⊎ ((old.room.keys ≡ 0) × ((is_some (lookup (eq key) old.lists.ready) || is_pending key old.lists.pending) ≡ false))
@@ -70,7 +70,7 @@ module _ {K S : Type 0} (eq : K → K → Bool) where
   Apart [] = Unit {0}
   Apart (p ∷ ps) = (p.cancelled ≡ false → is_pending p.key ps ≡ false) × Apart ps
 
-  -- the index of the key's ready endpoint
+  -- The index of the key's ready endpoint. (`keys_of` lists the keys of a list of pairs.)
   abbrev pub place : K → List (K × S) → Option ℕ
   place k es = position (eq k) (keys_of es)
 
@@ -111,7 +111,8 @@ AtKey eq k es P = (i : ℕ) × (place eq k es ≡ Some i) × P i
 
 module _ {K S Q A E G : Type 0} (eq : K → K → Bool) (s : ServiceOf S Q A E G) where
   -- What follows a poll of the ready endpoint `e`. If it is ready still, it stays (`Ok true`). If it failed, it leaves, with its key and error.
-  -- If it is pending, it goes back to the pending ones (`Ok false`). The last ready endpoint takes the index of one that leaves (`swap_remove`).
+  -- If it is pending, it goes back to the pending ones (`Ok false`). The last ready endpoint takes the index of one that leaves (`swap_remove`, whose
+  -- last argument matters only for an index past the end). `set_value_at es i v` is `es` with the value `v` at the index `i`.
   abbrev pub Settles : ReadyCacheView K S → ℕ → K × S → S → Poll (Result (Unit {0}) E) → Result Bool (Failed K E) → ReadyCacheView K S → Type 0
   Settles old index e left (Ready (Ok u)) answer new = (answer ≡ Ok true) × (new ≡ record old { ready = set_value_at old.ready index left })
   Settles old index e left (Ready (Err x)) answer new =

@@ -27,7 +27,9 @@ pub struct State<'a> {
 /// The number of grants that are left.
 #[derive(Clone, Copy)]
 enum Grants {
+    /// Any number is left.
     Unlimited,
+    /// This number is left.
     Left(u64),
 }
 
@@ -57,9 +59,13 @@ impl Grants {
 /// The outcome of a `Directive`.
 #[derive(Drop)]
 pub enum Turned {
+    /// The clock stands at this moment.
     At(u64),
+    /// This number of grants is left.
     Allowed(u64),
+    /// The inner call of this number has its answer.
     Answered(u64),
+    /// The directive was skipped.
     Skipped,
 }
 

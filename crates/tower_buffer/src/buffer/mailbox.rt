@@ -232,8 +232,8 @@ impl<Request: Drop, F, E: Clone> Mailbox<Request, F, E> {
         if self.closed {
             return (self.messages.shut(), Wakes::Nobody);
         }
-        // No more messages are promised room than there is, so that their number fits in a `usize`.
-        let _capacity = self.messages.capacity();
+        // No more messages are promised room than there is.
+        prove!(self.reserved <= self.messages.capacity());
         let promised = self.reserved + self.queue.granted() + self.queue.ungranted();
         if promised == usize::MAX {
             return (MailReply::Memory, Wakes::Nobody);

@@ -32,8 +32,11 @@ impl<'a, K, S> IterReady<'a, K, S> {
 impl<'a, K, S> Iterator for IterReady<'a, K, S> {
     type Item = (&'a K, &'a S);
 
+    // A call of `next` takes the first pair and returns references to its key and value. At the end
+    // it returns `None`.
     ghost next_gives = { TakesFirst deref_pair };
 
+    // At most as many calls as there are pairs return one.
     ghost remaining = { λ s. at_most (length s) };
 
     fn next(&mut self) -> Option<(&'a K, &'a S)> {

@@ -44,7 +44,8 @@ impl<K: Eq + Hash, S> Model for Pending<K, S> {
     ghost invariant = { λ w. Stands K.eq w.places.entries w.entries w.last };
 }
 
-// Clears the key's place if it names this entry. Returns whether it did.
+// Clears the key's place if it names this entry. Returns whether it did. (`cond b x y` is `x` if
+// `b` is true, and `y` otherwise.)
 fn release<K: Eq + Hash>(places: &mut IndexMap<K, Option<usize>>, key: &K, entry: usize) -> bool
     ensures named { result ≡ names entry (lookup (K.eq key.now) places.old.entries) }
     ensures released { result ≡ true → (q : K) → lookup (K.eq q) places.new.entries

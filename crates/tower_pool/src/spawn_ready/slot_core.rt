@@ -49,11 +49,17 @@ pub enum SlotReply<S, E> {
 /// The state of a slot.
 #[derive(Drop)]
 pub enum Slot<S, E> {
+    /// No task has the service.
     Idle,
+    /// A task has the service.
     Running,
+    /// The task put the service here.
     Holds(S),
+    /// The service failed in the task, and the error wasn't returned yet.
     Failed(E),
+    /// There is neither a service nor a task.
     Ended,
+    /// Nobody waits for the service any more.
     Aborted,
 }
 

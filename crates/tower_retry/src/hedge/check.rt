@@ -24,8 +24,11 @@ pub struct CheckFuture<Request> {
 /// ready.
 #[derive(Drop)]
 pub(crate) enum CheckState<Request, N> {
+    /// The request, which the next poll returns.
     Passed(Request),
+    /// The request was returned.
     Given,
+    /// A future that is never ready, since the request may not be made again.
     Waiting(N),
 }
 

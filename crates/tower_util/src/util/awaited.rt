@@ -27,10 +27,14 @@ pub struct FutureService<F, S> {
     state: State<F, S>,
 }
 
+/// The state of a `FutureService`.
 #[derive(Clone, Drop)]
 pub enum State<F, S> {
+    /// The future, which hasn't returned the service yet.
     Coming(F),
+    /// The service that the future returned.
     There(S),
+    /// The future returned an error.
     Lost,
 }
 

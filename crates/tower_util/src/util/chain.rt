@@ -4,7 +4,10 @@
 /// its output.
 #[derive(Drop)]
 pub enum Chain<F1, F2, N> {
+    /// The inner future and the closure.
     First(F1, N),
+    /// The future that the closure returned.
     Second(F2),
+    /// The output was returned.
     Done,
 }

@@ -17,7 +17,9 @@ use tower_base::service::{Service, Steps};
 /// One of two services or layers. It is the Rust's `tower::util::Either`.
 #[derive(Clone, Copy, Drop)]
 pub enum Either<A, B> {
+    /// A service or layer of the first type.
     Left(A),
+    /// A service or layer of the second type.
     Right(B),
 }
 
@@ -120,7 +122,9 @@ pub fn option_layer<L>(layer: Option<L>) -> Either<L, Identity>
 /// The response future of an `Either`. It is the Rust's `tower::util::future::EitherResponseFuture`.
 #[derive(Drop)]
 pub enum EitherResponseFuture<A, B> {
+    /// The response of a `Left`.
     First(A),
+    /// The response of a `Right`.
     Second(B),
 }
 

@@ -22,10 +22,14 @@ pub struct Oneshot<S: Service<Request>, Request> {
     state: State<S, Request, S::Future>,
 }
 
+/// The state of a `Oneshot`.
 #[derive(Drop)]
 pub enum State<S, Request, F> {
+    /// The service, which isn't ready yet, and the request.
     NotReady(S, Request),
+    /// The response.
     InFlight(F),
+    /// The response was returned.
     Done,
 }
 

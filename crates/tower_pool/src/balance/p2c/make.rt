@@ -118,7 +118,9 @@ impl<M: Clone + Drop, R: Clone, Req, K: Clone> Clone for MakeBalance<M, R, Req, 
 // A discovery that was requested, with the generator of its balancer until the balancer is made.
 #[derive(Drop)]
 enum State<F, R> {
+    /// The maker's future, and the generator.
     Asked(F, Option<R>),
+    /// The generator couldn't be cloned at the call.
     Refused,
 }
 

@@ -8,7 +8,9 @@ use tower_base::service::Steps;
 /// The future of a call, or the answer that it returned.
 #[derive(Drop)]
 pub enum Slot<F, T> {
+    /// The future, which has no answer yet.
     Waiting(F),
+    /// The answer that the future returned.
     Answered(T),
 }
 

@@ -10,22 +10,26 @@ slot_mut-kept-requires g c =
     let h = b.0 in
     (c.lock_with-seat.ensures.its ∙ ap (λ v. v.table) (sym c.self.view_is) ∙ sym (ap (λ t. t.table.shared.table_id) c.deref.ensures), (h.0, has_slot (λ k. g.C.Core.terms k.core ≡ c.args.self.now.terms) (λ k. g.C.Core.out k.core) _ _ h.1))
 
-pub free-requires-clause-core : goal.free-requires-clause-core
-free-requires-clause-core g c =
+pub free-requires : goal.free-requires
+free-requires g c =
     let b = badge_core (λ k. g.C.Core.terms k.core ≡ c.args.self.now.terms) (λ k. g.C.Core.out k.core) c.args.token.badge.views c.lock_with-seat.result.me c.lock_with-seat.ensures.has in
-    let h = b.0 in
-    may_free (λ k. g.C.Core.terms k.core ≡ c.args.self.now.terms) (λ k. g.C.Core.out k.core) c.lock_with-seat.result.me c.slot_mut-kept.result.now c.step_alone-reply.new.self _ _ h c.slot_mut-kept.ensures.value (λ it. c.step_alone-reply.ensures.counted.0 ∙ it) c.step_alone-reply.ensures.counted.1
-    (omega (arith, c.requires.paid c.step_alone-reply.result, b.1))
+    record {
+      its = c.lock_with-seat.ensures.its;
+      has = ap (λ m. m.0.has) c.lock_with-seat.ensures.has.2.1;
+      core = may_free (λ k. g.C.Core.terms k.core ≡ c.args.self.now.terms) (λ k. g.C.Core.out k.core) c.lock_with-seat.result.me c.slot_mut-kept.result.now c.step_alone-reply.new.self _ _ b.0 c.slot_mut-kept.ensures.value (λ it. c.step_alone-reply.ensures.made.terms ∙ it) c.step_alone-reply.ensures.made.counted (omega (arith, c.requires.paid c.step_alone-reply.result, b.1));
+    }
 
-pub give_and_wake-requires-clause-core : goal.give_and_wake-requires-clause-core
-give_and_wake-requires-clause-core g c =
+pub give_and_wake-requires : goal.give_and_wake-requires
+give_and_wake-requires g c =
     let b = badge_core (λ k. g.C.Core.terms k.core ≡ c.args.self.now.terms) (λ k. g.C.Core.out k.core) c.args.token.badge.views c.lock_with-seat.result.me c.lock_with-seat.ensures.has in
-    let h = b.0 in
-    subst (λ n. HasCore (λ k. g.C.Core.terms k.core ≡ n) (λ k. g.C.Core.out k.core) (c.lock_with-seat.result.me.0, (0, c.slot_mut-kept.result.now) ∷ rest c.lock_with-seat.result.me.1)) (sym (ap (λ t. t.table.shared.key) c.deref-2.ensures ∙ ap (λ v. v.terms) c.self.view_is))
-    (still (λ k. g.C.Core.terms k.core ≡ c.args.self.now.terms) (λ k. g.C.Core.out k.core) c.lock_with-seat.result.me c.slot_mut-kept.result.now h c.slot_mut-kept.ensures.value)
-
-pub give_and_wake-requires-clause-paid : goal.give_and_wake-requires-clause-paid
-give_and_wake-requires-clause-paid g c = λ reply. omega (arith, c.requires.paid reply, (badge_core (λ k. g.C.Core.terms k.core ≡ c.args.self.now.terms) (λ k. g.C.Core.out k.core) c.args.token.badge.views c.lock_with-seat.result.me c.lock_with-seat.ensures.has).1)
+    record {
+      admitted = c.requires.admitted;
+      paid = λ reply. omega (arith, c.requires.paid reply, b.1);
+      its = c.lock_with-seat.ensures.its ∙ sym (ap (λ t. t.table.shared.table_id) c.deref-2.ensures ∙ ap (λ v. v.table) c.self.view_is);
+      has = ap (λ m. m.0.has) c.lock_with-seat.ensures.has.2.1;
+      core = subst (λ n. HasCore (λ k. g.C.Core.terms k.core ≡ n) (λ k. g.C.Core.out k.core) (c.lock_with-seat.result.me.0, (0, c.slot_mut-kept.result.now) ∷ rest c.lock_with-seat.result.me.1)) (sym (ap (λ t. t.table.shared.key) c.deref-2.ensures ∙ ap (λ v. v.terms) c.self.view_is))
+          (still (λ k. g.C.Core.terms k.core ≡ c.args.self.now.terms) (λ k. g.C.Core.out k.core) c.lock_with-seat.result.me c.slot_mut-kept.result.now b.0 c.slot_mut-kept.ensures.value);
+    }
 
 pub returns-then-is_alone-clause-places : goal.returns-then-is_alone-clause-places
 returns-then-is_alone-clause-places g c =
@@ -33,7 +37,7 @@ returns-then-is_alone-clause-places g c =
     let h = b.0 in
     let out = b.1 in
     let after =
-    after_step (λ k. g.C.Core.terms k.core ≡ c.args.self.now.terms) (λ k. g.C.Core.out k.core) c.lock_with-seat.result.me c.slot_mut-kept.result.now c.step_alone-reply.new.self _ _ _ h c.slot_mut-kept.ensures.value c.step_alone-reply.ensures.counted.1 (omega (arith, c.requires.paid c.step_alone-reply.result, out)) c.free.ensures.left in
+    after_step (λ k. g.C.Core.terms k.core ≡ c.args.self.now.terms) (λ k. g.C.Core.out k.core) c.lock_with-seat.result.me c.slot_mut-kept.result.now c.step_alone-reply.new.self _ _ _ h c.slot_mut-kept.ensures.value c.step_alone-reply.ensures.made.counted (omega (arith, c.requires.paid c.step_alone-reply.result, out)) c.free.ensures.left in
     omega (arith, after, out)
 
 pub returns-clause-places : goal.returns-clause-places

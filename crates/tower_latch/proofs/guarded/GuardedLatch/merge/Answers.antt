@@ -10,12 +10,16 @@ join_seat-requires g c =
     let back = ap (λ v. v.table) (sym c.self.view_is) ∙ sym (ap (λ t. t.table.shared.table_id) c.deref.ensures) in
     (c.lock_with-seat.ensures.its ∙ back, c.into_seat.ensures.its ∙ c.requires.others ∙ back, c.into_seat.ensures.away.0, room, gathers (λ k. g.C.Core.terms k.core ≡ table.key) (λ k. g.C.Core.out k.core) _ _ _ _ c.into_seat.ensures.away.1)
 
-pub free-requires-clause-core : goal.free-requires-clause-core
-free-requires-clause-core g c =
+pub free-requires : goal.free-requires
+free-requires g c =
     let b = badge_core (λ k. g.C.Core.terms k.core ≡ c.args.self.now.terms) (λ k. g.C.Core.out k.core) c.args.token.badge.views c.lock_with-seat.result.me c.lock_with-seat.ensures.has in
     let h = b.0 in
     let me = c.join_seat.ensures.2 in
-    (h.0, ap (λ m. m.1) me ∙ h.1, h.2, omega (arith, ap (λ m. m.0.held) me, h.3))
+    record {
+      its = c.join_seat.ensures.0 ∙ c.lock_with-seat.ensures.its;
+      has = ap (λ m. m.0.has) me ∙ ap (λ m. m.0.has) c.lock_with-seat.ensures.has.2.1;
+      core = (h.0, ap (λ m. m.1) me ∙ h.1, h.2, omega (arith, ap (λ m. m.0.held) me, h.3));
+    }
 
 pub returns-clause-places : goal.returns-clause-places
 returns-clause-places g c =

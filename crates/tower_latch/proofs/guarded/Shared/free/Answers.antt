@@ -19,7 +19,10 @@ swap-requires g c =
           (frees_at (λ k. g.C.Core.terms k.core ≡ place.key) (λ k. g.C.Core.out k.core) c.args.seat.id c.args.seat.me.0 h.0 c.args.seat.me me c.requires.has terms h.3),
     )
 
-pub returns-clause-left : goal.returns-clause-left
-returns-clause-left g c =
+pub returns : goal.returns
+returns g c =
     let left = c.swap.ensures.2 in
-    (left.0, left.1, c.into_badge.ensures.2 ∙ ap (λ m. m.0 ∷ []) left.2, left.3)
+    record {
+      its = cc (c.into_badge.ensures.0, c.swap.ensures.0, c.requires.its);
+      left = (left.0, left.1, c.into_badge.ensures.2 ∙ ap (λ m. m.0 ∷ []) left.2, left.3);
+    }
