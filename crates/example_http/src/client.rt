@@ -19,7 +19,6 @@ use tokio::io::{AsyncRead, AsyncWrite};
 use tower::service::Clock;
 use tower::timeout::Timeout;
 use tower::util::Oneshot;
-use tower::{ServiceBuilder, ServiceExt};
 use tower_hyper::client::Client;
 
 // The time that the head of an answer may take, in nanoseconds.
@@ -99,13 +98,11 @@ impl<I: AsyncRead + AsyncWrite, C: Clock> Party<I> for Asker<C> {
 
     fn talk<R: RandomSource + AllocGlobal>(&self, rt: &R, io: I) -> anyhow::Result<Asked<I, C>> {
         let (sender, connection) = http1::handshake(rt.alloc(), RandomState::new(rt)?, io)?;
-        let client = ServiceBuilder::new()
-            .timeout(LONGEST, self.clock.share())
-            .service(Client::new(sender))?;
+        let client = Timeout::new(Client::new(sender), LONGEST, self.clock.share());
         let request = Request::get(rt.alloc(), "/slow/50")
             .header(HOST, "h")
             .body(Empty::new())?;
-        let page = Page::new(rt.alloc(), client.oneshot(request));
+        let page = Page::new(rt.alloc(), Oneshot::new(client, request));
         Ok(join(connection, page))
     }
 }
