@@ -301,11 +301,11 @@ module _ {V Q D N A E R : Type 0} (sv : ServiceOf V R A E N) (fl : FlowOf Q R) (
 
   flows_back : (s : St) (a : Poll (Option (Result A (Error E)))) (t : St) → Flowing s a t → Back s (Some a) t
   flows_back s a t h =
-      let went : Back s None h.passes.last = iterates_keeps Passing (λ w. Back s None w)
-      (λ v w step back. back_trans s v w None back (pass_back v None w step)) h.passes.count s h.passes.last h.passes.went
+      let went : Back s None h.iterations.last = iterates_keeps Passing (λ w. Back s None w)
+      (λ v w step back. back_trans s v w None back (pass_back v None w step)) h.iterations.count s h.iterations.last h.iterations.went
       (λ fine. (fine, λ items rest. rest)) in
-      ⊎_elim (λ answered. back_trans s h.passes.last t (Some a) went (pass_back h.passes.last (Some a) t answered.1))
-      (λ out. rw (out.1, out.2) went) h.passes.ends
+      ⊎_elim (λ answered. back_trans s h.iterations.last t (Some a) went (pass_back h.iterations.last (Some a) t answered.1))
+      (λ out. rw (out.1, out.2) went) h.iterations.ends
 
   next_back : (n : ℕ) (s : St) (x : Result A (Error E)) (items : It) (P : St → Type 0) → ((t : St) → Fine t → P t → Rest t items) → Fine s
       → NextAfter Flowing n s (Some x) P → Rest s (x ∷ items)

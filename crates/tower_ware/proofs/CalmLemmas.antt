@@ -79,11 +79,11 @@ module _ {V Q D N A E R : Type 0} (sv : ServiceOf V R A E N) (fl : FlowOf Q R) (
   pub flows_calm : (s t : CallerView V Q D R) (a : Poll (Option (Result A (Error E)))) → Flowed sv fl dr s a t
       → Flowed (unfailing sv) fl dr s a t
   flows_calm s t a h = record {
-    passes = record {
-      count = h.passes.count;
-      last = h.passes.last;
+    iterations = record {
+      count = h.iterations.count;
+      last = h.iterations.last;
       went = iterates_map (Iteration sv fl dr) (Iteration (unfailing sv) fl dr)
-          (λ v w p. pass_calm v None w p) h.passes.count s h.passes.last h.passes.went;
-      ends = ⊎_elim (λ x. inl (x.0, pass_calm h.passes.last (Some a) t x.1)) inr h.passes.ends;
+          (λ v w p. pass_calm v None w p) h.iterations.count s h.iterations.last h.iterations.went;
+      ends = ⊎_elim (λ x. inl (x.0, pass_calm h.iterations.last (Some a) t x.1)) inr h.iterations.ends;
     };
   }

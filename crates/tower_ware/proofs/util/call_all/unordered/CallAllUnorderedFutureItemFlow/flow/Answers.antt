@@ -1,4 +1,4 @@
 use Rattle.tower_ware.proofs.util.call_all.unordered.CallAllUnorderedFutureItemFlow.flow.Goals as goal
 
 pub returns-clause-flow : goal.returns-clause-flow
-returns-clause-flow g c = rw (← c.self.view_is) c.passes.ensures.flowed
+returns-clause-flow g c = rw (← c.self.view_is) c.iterate.ensures.flowed
