@@ -66,7 +66,7 @@ def check(address):
     for text in UNFINISHED:
         with socket.create_connection(address, WAIT) as it:
             it.sendall(text)  # and hangs up
-    for path, status in (("/length", 413), ("/nowhere", 404)):
+    for path, status in (("/length", 413), ("/nowhere", 413)):
         try:  # a body longer than what the program reads. Its page says that the client may be reset
             assert answer(HTTPConnection(*address, WAIT), path, b"x" * 1_100_000)[0] == status, path
         except OSError:

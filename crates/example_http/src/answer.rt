@@ -23,31 +23,21 @@ impl From<http::Error> for Failure {
     }
 }
 
-impl<E: StackError + Drop> From<load_shed::Error<E>> for Failure {
-    fn from(error: load_shed::Error<E>) -> Failure {
-        match error.refusal() {
-            Some(refusal) => Failure::Refused(refusal),
-            None => Failure::NoResponse,
-        }
-    }
-}
-
 /// Passes a response on. Turns `Overloaded` into a 503 and `Elapsed` into a 504. Any other error ends the
 /// connection.
 pub fn respond<E: StackError + Drop>(
     alloc: Global,
     outcome: Result<Response<Page>, load_shed::Error<E>>,
 ) -> Result<Response<Page>, Failure> {
-    let failure = match outcome {
+    let error = match outcome {
         Ok(response) => return Ok(response),
-        Err(error) => Failure::from(error),
+        Err(error) => error,
     };
-    match failure {
-        Failure::Refused(Refusal::Overloaded) => Ok(busy(alloc)?),
-        Failure::Refused(Refusal::Elapsed) => {
-            Ok(text(alloc, StatusCode::GATEWAY_TIMEOUT, "too slow")?)
-        }
-        _ => Err(failure),
+    match error.refusal() {
+        Some(Refusal::Overloaded) => Ok(busy(alloc)?),
+        Some(Refusal::Elapsed) => Ok(text(alloc, StatusCode::GATEWAY_TIMEOUT, "too slow")?),
+        Some(refusal) => Err(Failure::Refused(refusal)),
+        None => Err(Failure::NoResponse),
     }
 }
 
