@@ -22,20 +22,20 @@ pub stands_as : (max held other : ℕ) (queue : WaitQueue) (line : List Ticket) 
 stands_as max held other queue line same s = (s.0, s.1, (s.2.0 ∙ same, s.2.1, s.2.2))
 
 module _ (max held : ℕ) (old : WaitQueue) (line : List Ticket) (s : StandsAt max held old line) where
-  line_length : length line ≡ held + (granted old + waiting old)
+  line_length : length line ≡ held + (granted old + ungranted old)
   line_length = omega (arith, counted line, s.2.0, ap length s.2.1, keys_count old.granted old.waiters s.0 s.1)
 
-  pub joins : held + granted old < max → (0 < waiting old → held + granted old ≡ max) → (next : List Ticket) × Steps max line Join Granted next × StandsAt max (held + 1) old next
+  pub joins : held + granted old < max → (0 < ungranted old → held + granted old ≡ max) → (next : List Ticket) × Steps max line Join Granted next × StandsAt max (held + 1) old next
   joins free full =
-      let lt : length line < max = omega (arith, line_length, nobody (waiting old) full) in
+      let lt : length line < max = omega (arith, line_length, nobody (ungranted old) full) in
       (line ++ Ticket.held ∷ [], (lt, refl), (s.0, s.1, held_last max held s.0.keys line s.2 lt))
     where
       nobody : (n : ℕ) → (0 < n → held + granted old ≡ max) → n ≡ 0
       nobody zero full = refl
       nobody (suc n) full = absurd (omega (arith, free, full (omega arith)))
 
-  pub counts : (free : ℕ) → free ≡ max - (held + granted old) → (0 < waiting old → held + granted old ≡ max) → Steps max line Free (Count free) line
-  counts free is full = (at (waiting old) full line_length, refl)
+  pub counts : (free : ℕ) → free ≡ max - (held + granted old) → (0 < ungranted old → held + granted old ≡ max) → Steps max line Free (Count free) line
+  counts free is full = (at (ungranted old) full line_length, refl)
     where
       at : (n : ℕ) → (0 < n → held + granted old ≡ max) → length line ≡ held + (granted old + n) → free ≡ max - length line
       at zero full size = omega (arith, is, size)
@@ -138,7 +138,7 @@ module _ (max held : ℕ) (old new : WaitQueue) where
       record { fits = omega (arith, f.fits, n.0); full = λ some. omega (arith, f.full (omega (arith, some, n.1)), n.0) }
 
   pub waits_on_fits : Fits max held old → (key : ℕ) → Follows old (λ p q. Looks p key IsWaiting q) new → Fits max held new
-  waits_on_fits f key follows = same_fits f (saw_waiting old new key follows).1
+  waits_on_fits f key follows = same_fits f (saw_ungranted old new key follows).1
 
   pub nobody_fits : Fits max held old → (key : ℕ) → Follows old (λ p q. Looks p key HasNobody q) new → Fits max held new
   nobody_fits f key follows = same_fits f (saw_nobody old new key follows)
