@@ -33,7 +33,8 @@ def main(rust):
         subprocess.run(["cc", "-O2", "-shared", "-fPIC", "-o", counter, source], check=True)
         for name in [*FLIGHTS, *OTHERS, *(f"flight_64_{it}" for it in FLIGHTS)]:
             programs = ([BENCH, name], [rust, "rounds", name])
-            row(f"`{name}`", *(f"{per_round(2000, it, r'allocations (\d+)', LD_PRELOAD=counter):.3g}" for it in programs))
+            counts = [per_round(2000, it, r"allocations (\d+)", LD_PRELOAD=counter) for it in programs]
+            row(f"`{name}`", *(f"{it:.3g}" for it in counts))
 
 
 if __name__ == "__main__":
