@@ -1,10 +1,10 @@
 #!/usr/bin/env python3
-"""scripts/ample.py: each public call of the libraries that may report want of memory is made with ample memory by a script
-or a test, which compares its answer. Without it a call whose body only gives up could stand there: it is proved under any
-contract.
+"""scripts/ample.py: each public call of the libraries that may report want of memory is made with ample memory by a
+script or a test, which compares its answer. Without it a call whose body only gives up could stand there: it is proved
+under any contract.
 
-A script makes the calls that a line `# ample: TYPE::CALL ..` at its head names; a test those that its source names beside
-their type. It prints each call that nobody makes, and each mark of a call that the libraries don't have.
+A script makes the calls that a line `# ample: TYPE::CALL ..` at its head names; a test those that its source names
+beside their type. It prints each call that nobody makes, and each mark of a call that the libraries don't have.
 """
 import re
 import sys

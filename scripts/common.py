@@ -1,4 +1,5 @@
-"""What the scripts here share: the proved programs, libraries that have their calls fail, files of scripts (docs/SCRIPTS.md)."""
+"""What the scripts here share: the proved programs, libraries that have their calls fail, files of scripts
+(docs/SCRIPTS.md)."""
 import collections
 import functools
 import os

@@ -1,12 +1,12 @@
 #!/usr/bin/env python3
-"""scripts/drops.py: drops each handle, response, worker and task of scripts at each point between two of their lines, and
-all of them at once. Without it a drop at another point than those of the scripts could lose a permit, a place or a
+"""scripts/drops.py: drops each handle, response, worker and task of scripts at each point between two of their lines,
+and all of them at once. Without it a drop at another point than those of the scripts could lose a permit, a place or a
 message: no contract says what a drop does to others.
 
-At each point of each script of PLAYED it drops one thing, whichever there is, and the script goes on; or all handles and
-then all responses, or all responses and then all handles, and the script ends. Of each run, by what was noted: each
-service, response, clone and share of a noted latch was dropped once, and nothing else was; and what the functions of the
-four kinds say. It prints how many runs there were. Status 1 and a line for each that isn't so."""
+At each point of each script of PLAYED it drops one thing, whichever there is, and the script goes on; or all handles
+and then all responses, or all responses and then all handles, and the script ends. Of each run, by what was noted: each
+service, response, clone and share of a noted latch was dropped once, and nothing else was; and what the functions of
+the four kinds say. It prints how many runs there were. Status 1 and a line for each that isn't so."""
 import functools
 import itertools
 import re
@@ -40,9 +40,10 @@ def loads(run, *_):
 
 
 def mail(run, notes, count, is_fresh):
-    """It is at its end, and no request is left. Each `Join` has its `Part`, each place its `Send` or `Unreserve`, and each
-    wait its place, its error or its `Cancel`; each message's outcome is told or forgotten, once. If the worker is kept and
-    the mail open, then once all else is dropped as many clones as there are places are ready, and one more is pending."""
+    """It is at its end, and no request is left. Each `Join` has its `Part`, each place its `Send` or `Unreserve`, and
+    each wait its place, its error or its `Cancel`; each message's outcome is told or forgotten, once. If the worker is
+    kept and the mail open, then once all else is dropped as many clones as there are places are ready, and one more is
+    pending."""
     yield notes[-1] != "mail at its end, 0 requests left", notes[-1]
     places = waits = 0
     for line in run:
@@ -68,7 +69,8 @@ def is_told(line):
 
 
 def slot(run, _notes, count, _):
-    """A handle aborts its slot once. Each task that was spawned puts its service or error back, is gone, or ends by an abort."""
+    """A handle aborts its slot once. Each task that was spawned puts its service or error back, is gone, or ends by an
+    abort."""
     by_abort = 0
     for notes in (notes_of(line.notes) for line in run if line.answer == "ended"):
         by_abort += notes.count("Aborted") * (not {"Put", "PutError"} & {*notes})
@@ -112,8 +114,8 @@ def variants(kind, script):
 
 
 def with_spare(asked, place, letters, responses):
-    """The handle b is made first and never polled. Once all others are dropped, its clones are polled; if there are more
-    places than letters, it sends a message for each."""
+    """The handle b is made first and never polled. Once all others are dropped, its clones are polled; if there are
+    more places than letters, it sends a message for each."""
     shift = lambda letter: chr(ord(letter) + 1)
     shifted = lambda word: re.sub(r"^(poll|call|clone|drop) ([b-z])\b", lambda it: f"{it[1]} {shift(it[2])}", word)
     parts, *rest = asked[:place]

@@ -2,13 +2,14 @@
 """scripts/forgets_nothing.py: no contract sees a leak, so the library has no way to make one. It prints where there is
 one, with status 1. A value ends without its drop
 
-- by what the kit's std has for it: `forget` (of `std::mem`, and of a handle), `ManuallyDrop`, `leak` (of a `Box`, a `Vec`,
-  a cell's `Ref`), `into_raw` and its like; however it is called or imported, since each name is refused wherever it stands;
+- by what the kit's std has for it: `forget` (of `std::mem`, and of a handle), `ManuallyDrop`, `leak` (of a `Box`, a
+  `Vec`, a cell's `Ref`), `into_raw` and its like; however it is called or imported, since each name is refused wherever
+  it stands;
 - in `unsafe` code, which may write over a value or read it twice: the library has `unsafe impl` alone;
 - in a `static`, which is never dropped;
 - where a value whose type has a `drop` of its own is taken apart by a pattern, since its `drop` isn't called then. Only
-  that `drop` may do it, and the functions of `ALLOWED`, whose contracts say what they return in place of it, or that they
-  make its step. Such a type isn't imported by another name."""
+  that `drop` may do it, and the functions of `ALLOWED`, whose contracts say what they return in place of it, or that
+  they make its step. Such a type isn't imported by another name."""
 import re
 import sys
 from collections import defaultdict
@@ -25,7 +26,8 @@ AFTER = r"(?:[^;{}=]*?\))*\s*(?:if\b[^;{}]*?)?(?:=>|=(?![=>])|\|(?!\|)|:(?!:))"
 
 
 def taken_apart(texts):
-    """Where the files of a crate take a value of a type with a drop apart, or rename such a type. (Other crates don't see its fields.)"""
+    """Where the files of a crate take a value of a type with a drop apart, or rename such a type. (Other crates don't
+    see its fields.)"""
     types = "|".join(sorted({name for text in texts.values() for name in DROPS.findall(text)}))
     if not types:
         return

@@ -1,5 +1,6 @@
 #!/usr/bin/env python3
-"""scripts/hostile.py: plays random scripts over a hostile party: without it only what somebody thought of would be played.
+"""scripts/hostile.py: plays random scripts over a hostile party: without it only what somebody thought of would be
+played.
 
 Each generator hostile/NAME.py writes files CRATE.NAME.script, of 10000 events at least, whose answers and notes a plain
 machine tells. They are played with the proved programs. It fails if any line is wrong. The scripts are always the same,

@@ -1,6 +1,6 @@
 #!/usr/bin/env bash
-# scripts/lint.sh: reads each Python file of scripts/ by pyflakes (Debian's pyflakes3), or compiles it alone if that isn't
-# here, and each shell script by `bash -n`. Without it a name that is wrong in a rare branch, as in a generator of
+# scripts/lint.sh: reads each Python file of scripts/ by pyflakes (Debian's pyflakes3), or compiles it alone if that
+# isn't here, and each shell script by `bash -n`. Without it a name that is wrong in a rare branch, as in a generator of
 # scripts/hostile for another SEED, would be seen only in the run that comes there.
 cd "$(dirname "${BASH_SOURCE[0]}")/.." || exit 1
 mapfile -t python < <(find scripts -name '*.py' | sort)

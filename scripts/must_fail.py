@@ -1,29 +1,30 @@
 #!/usr/bin/env python3
-"""scripts/must_fail.py [--built] [--gate] [--look] [--anew] [CRATE ..] [EDIT ..]: the prover has to refuse each wrong body.
-Without it nothing would say that a contract still tells a right body from a wrong one. (The kit's `rt must-fail` proves a
-whole crate for each edit.)
+"""scripts/must_fail.py [--built] [--gate] [--look] [--anew] [CRATE ..] [EDIT ..]: the prover has to refuse each wrong
+body. Without it nothing would say that a contract still tells a right body from a wrong one. (The kit's `rt must-fail`
+proves a whole crate for each edit.)
 
-The wrong bodies are edits of the code. Those of a module stand in `must-fail/CRATE/MODULE.edits`: each begins with a line
-`edit: NAME`, or `edit: NAME gate`, and then has lines `file:`, `old:` and `new:` as the kit's `rt must-fail` reads them. A
-file `must-fail/CRATE/NAME.edit`, or `crates/CRATE/must-fail/NAME.edit`, has one, without the first line.
+The wrong bodies are edits of the code. Those of a module stand in `must-fail/CRATE/MODULE.edits`: each begins with a
+line `edit: NAME`, or `edit: NAME gate`, and then has lines `file:`, `old:` and `new:` as the kit's `rt must-fail` reads
+them. A file `must-fail/CRATE/NAME.edit`, or `crates/CRATE/must-fail/NAME.edit`, has one, without the first line.
 
-Many are tried in one check: a function is proved from the contracts of those that it calls, and so a wrong body fails its
-own function alone. An edit counts as refused only where its own function isn't proved and calls none that isn't; where it
-calls such a one, it is tried again in another check. What changes more than bodies (a bound, a constant) shares a check
-with edits of files alone that don't name its own. An edit that stands in no function names by a line `function: PATH` the
-one that has to be refused.
+Many are tried in one check: a function is proved from the contracts of those that it calls, and so a wrong body fails
+its own function alone. An edit counts as refused only where its own function isn't proved and calls none that isn't;
+where it calls such a one, it is tried again in another check. What changes more than bodies (a bound, a constant)
+shares a check with edits of files alone that don't name its own. An edit that stands in no function names by a line
+`function: PATH` the one that has to be refused.
 
-An edit of a law changes a machine and the body alike, in the crate that a line `crate: NAME` names, the law's own or one
-below: the functions that it changes there have to be proved with it, and the law, which `function:` names, has to be
-refused. It is tried alone.
+An edit of a law changes a machine and the body alike, in the crate that a line `crate: NAME` names, the law's own or
+one below: the functions that it changes there have to be proved with it, and the law, which `function:` names, has to
+be refused. It is tried alone.
 
-All edits are tried, or those of the crates that are named, or those alone that are named after them. With --gate those are
-tried that are marked `gate` or stand in `crates/`, and of the others it is seen that each can be applied, as its old text
-stands there exactly once. With --look that is seen of all, and none is tried. With --built the libraries are taken as
-`rt ci` left them; else they are proved first, where they have changed. What was refused is kept on this machine, by the
-checksums of the edit's lines, of this script, and of all that the kit reads for the crate: a later run tries only what has
-changed. With --anew it tries all. No check is begun after MUST_FAIL_UNTIL, a moment in seconds since 1970, if the
-environment has it: so a gate on a slow machine ends in its time. What is left then is named, and is untried.
+All edits are tried, or those of the crates that are named, or those alone that are named after them. With --gate those
+are tried that are marked `gate` or stand in `crates/`, and of the others it is seen that each can be applied, as its
+old text stands there exactly once. With --look that is seen of all, and none is tried. With --built the libraries are
+taken as `rt ci` left them; else they are proved first, where they have changed. What was refused is kept on this
+machine, by the checksums of the edit's lines, of this script, and of all that the kit reads for the crate: a later run
+tries only what has changed. With --anew it tries all. No check is begun after MUST_FAIL_UNTIL, a moment in seconds
+since 1970, if the environment has it: so a gate on a slow machine ends in its time. What is left then is named, and is
+untried.
 
 The last line is `N refused, M not`, or `N refused, M not, K untried`; status 1 where M isn't 0.
 """
@@ -95,7 +96,8 @@ def module_path(path):
 
 
 def function_at(path, text, place):
-    """A pattern for the name of the function in whose text a place stands, its text, and whether the place is in its body."""
+    """A pattern for the name of the function in whose text a place stands, its text, and whether the place is in its
+    body."""
     head = next((it for it in reversed([*FUNCTION.finditer(text)]) if it.start() <= place), None)
     end = text.find(f"\n{head[1]}}}\n", head.start()) if head else -1
     if end < place:
@@ -129,8 +131,8 @@ def functions_of(crate):
 
 
 class Edit:
-    """A wrong body: the pairs of texts, the functions that it changes, and whether it changes bodies alone. `why` says why
-    it can't be tried."""
+    """A wrong body: the pairs of texts, the functions that it changes, and whether it changes bodies alone. `why` says
+    why it can't be tried."""
 
     def __init__(self, crate, name, text, is_in_gate):
         self.crate, self.name, self.text, self.is_in_gate = crate, name, text, is_in_gate
@@ -157,8 +159,8 @@ class Edit:
         return not any(one.meets(other) for one, other in pairs) and texts_of([*others, self]) is not None
 
     def meets(self, other):
-        """Whether this edit changes a function of the other's, or calls one in the same module (other modules are rarely
-        called), or changes more than bodies, and the other's files are the same or name it."""
+        """Whether this edit changes a function of the other's, or calls one in the same module (other modules are
+        rarely called), or changes more than bodies, and the other's files are the same or name it."""
         here = {it.split("::")[:2][-1] and tuple(it.split("::")[:2]) for it in self.functions}
         called = [it.split("::")[-1] for it in other.functions if tuple(it.split("::")[:2]) in here]
         if not self.functions or {*self.functions} & {*other.functions}:
@@ -219,7 +221,8 @@ def edits_of(crate):
 
 
 def is_of(crate, printed, name):
-    """Whether a check's line is of the function or of a closure in it, which is printed `MODULE::fn::FUNCTION::CLOSURE`."""
+    """Whether a check's line is of the function or of a closure in it, which is printed
+    `MODULE::fn::FUNCTION::CLOSURE`."""
     printed = re.sub(r"(^|::)fn::", r"\1", printed.removeprefix(f"{crate.name}::"))
     return printed == name or printed.startswith((f"{name}::", f"{name}+"))
 
@@ -260,8 +263,8 @@ class Tried:
         self.first, self.sum = touched(crate), crate.stamp()
 
     def kept(self, edit):
-        """The file of what earlier runs on this machine saw refused, named by the sum of all that it was refused for, so it
-        never goes stale."""
+        """The file of what earlier runs on this machine saw refused, named by the sum of all that it was refused for,
+        so it never goes stale."""
         whole = repr((Path(__file__).read_text(encoding="utf-8"), self.sum, edit.text))
         return self.store / hashlib.sha256(whole.encode()).hexdigest()
 
@@ -274,8 +277,8 @@ class Tried:
                 self.kept(edit).write_text(why, encoding="utf-8")
 
     def check(self, edits, functions):
-        """Checks these functions of the crate with the edits, or all. A check that a signal ended, as where memory runs out,
-        is made once more."""
+        """Checks these functions of the crate with the edits, or all. A check that a signal ended, as where memory runs
+        out, is made once more."""
         with self.lanes:
             ran = self.check_over_copy(edits, functions)
             return self.check_over_copy(edits, functions) if ran.returncode < 0 else ran
@@ -300,7 +303,8 @@ class Tried:
         return ran
 
     def is_proved_without(self):
-        """Whether the crate is proved without an edit: a library if it was built; of a program a function, or the whole."""
+        """Whether the crate is proved without an edit: a library if it was built; of a program a function, or the
+        whole."""
         names = functions_of(self.crate)
         if names and not self.crate.is_program:
             return True
@@ -310,8 +314,9 @@ class Tried:
         return not ran.returncode
 
     def try_law(self, edit):
-        """Checks the law together with the functions that the edit changes, or the modules where they can't be named, in the
-        crate below that has them. It and the libraries that use it are read as texts, the others as they were built."""
+        """Checks the law together with the functions that the edit changes, or the modules where they can't be named,
+        in the crate below that has them. It and the libraries that use it are read as texts, the others as they were
+        built."""
         below = next(it for it in [*self.crate.below(), self.crate] if it.name == edit.below)
         before, names = "" if below is self.crate else f"{below.name}::", functions_of(below)
         changed = [(path, place[0]) for (path, _, _), place in zip(edit.pairs, edit.places) if path.startswith("src/")]
@@ -420,7 +425,8 @@ def tries(edits, store, room):
 
 
 def are_built(edits):
-    """Proves the libraries of these edits, where they have changed, and those below. Returns whether they are proved."""
+    """Proves the libraries of these edits, where they have changed, and those below. Returns whether they are
+    proved."""
     # (an older kit doesn't share what other clones proved)
     getattr(rt, "share_work", lambda _: None)(False)
     lacking = {below.name: below for it in edits for below in [*it.crate.below(), *[it.crate] * (not it.crate.is_program)]}

@@ -32,7 +32,8 @@ def waiting(waits, line):
 
 
 def are_let_on(waits, notes):
-    """Whether these steps of a buffer's worker give a handle its place, or tell a response its outcome. (They are polled in its task.)"""
+    """Whether these steps of a buffer's worker give a handle its place, or tell a response its outcome. (They are
+    polled in its task.)"""
     tells = any(note.startswith(("Answer", "Fail")) for note in notes)
     return any("Take" in notes[:-1] if who.isalpha() else tells for who in waits)
 

@@ -1,11 +1,11 @@
 #!/usr/bin/env python3
 """scripts/refused.py CRATE [LAST]: refuses each allocation of the crate's tests of refused memory, one in a run, in the
-proved tests that `rt ci` or `rt test` left in out/ (each test in a process of its own, under fail_alloc.c). Without it no
-run would refuse memory to what has no script, and of a growth that the kit refuses no clause says what is left.
+proved tests that `rt ci` or `rt test` left in out/ (each test in a process of its own, under fail_alloc.c). Without it
+no run would refuse memory to what has no script, and of a growth that the kit refuses no clause says what is left.
 
 At each number every test `refused_..` has to pass, and some `ample_..`, which makes the same calls, to fail, up to the
-last number at which one fails. The kit's strings ask for more room than they need and do without it, so a few numbers may
-show nothing: it stops after four (or LAST) in a row at which none fails. Status 1 where one isn't so."""
+last number at which one fails. The kit's strings ask for more room than they need and do without it, so a few numbers
+may show nothing: it stops after four (or LAST) in a row at which none fails. Status 1 where one isn't so."""
 import os
 import re
 import resource

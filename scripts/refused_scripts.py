@@ -1,7 +1,8 @@
 #!/usr/bin/env python3
-"""scripts/refused_scripts.py CRATE..: plays each file of scripts of the crates' data/ once for each allocation, which is
-refused, with the proved program. One run does it: it is forked at each allocation (fork_alloc.c). Without it a part could
-be left behind, or an answer be wrong, once memory was refused in the middle of a call: no clause says what is kept then.
+"""scripts/refused_scripts.py CRATE..: plays each file of scripts of the crates' data/ once for each allocation, which
+is refused, with the proved program. One run does it: it is forked at each allocation (fork_alloc.c). Without it a part
+could be left behind, or an answer be wrong, once memory was refused in the middle of a call: no clause says what is
+kept then.
 
 Each time the program ends for want of its own memory, or one line of one script meets the refusal, or nothing changes.
 (The parts are `quiet`, so a wake of the task's own shows.) The lines before it are as in a play with ample memory, and
@@ -26,8 +27,8 @@ import replay
 
 # These count the steps of what other files ask with refusals, up to a thousand steps in a script.
 COUNTING = "counting_latch.script"
-# What a program makes only once the first parts are there, by a word of the first line: a second service, the service of a
-# policy with a budget, a stream of calls.
+# What a program makes only once the first parts are there, by a word of the first line: a second service, the service
+# of a policy with a budget, a stream of calls.
 LATER = {"two": "t", "get_mut": "t", "retry_budget": "s", "buffer_beside_a_stream": "requests"}
 WOKEN = re.compile("(; )?woken$")
 COPY = re.compile(r"\b([a-z])(\d+)\b")
@@ -85,7 +86,8 @@ def ordered(before, lines):
 
 
 def recounted(lines):
-    """The lines, with `right` as the answer of each `count` that tells what is in the notes of the last line that had some."""
+    """The lines, with `right` as the answer of each `count` that tells what is in the notes of the last line that had
+    some."""
     last = []
     for line in lines:
         last = notes_of(line.notes) or last
@@ -94,8 +96,8 @@ def recounted(lines):
 
 
 def alike(script, place):
-    """Scripts that lead to the state that the refusal left: the lines before that one, those in place of it, and whether
-    the first of these is compared too."""
+    """Scripts that lead to the state that the refusal left: the lines before that one, those in place of it, and
+    whether the first of these is compared too."""
     yield script[:place], [], False
     if script[0].asked.startswith("semaphore") and script[place].asked.startswith("poll "):
         # (a share alone was asked for)
@@ -136,8 +138,8 @@ def is_by_machine(machine, base, came, place):
 
 
 def is_woken(base, came, place):
-    """Whether a poll that was pending has woken its task, and all else is as with ample memory, as where a waker found no
-    room. Who wasn't kept may not be woken later."""
+    """Whether a poll that was pending has woken its task, and all else is as with ample memory, as where a waker found
+    no room. Who wasn't kept may not be woken later."""
     bare = lambda lines: [line._replace(notes=WOKEN.sub("", line.notes)) for line in lines]
     more = [at for at, pair in enumerate(zip(base, came)) if [bool(WOKEN.search(it.notes)) for it in pair] == [False, True]]
     return more == [place] and bare(base) == bare(came)

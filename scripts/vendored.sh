@@ -1,6 +1,7 @@
 #!/usr/bin/env bash
-# scripts/vendored.sh: a repository that scripts/vendor makes in an empty folder. A program with a layer of the user's own is proved and run there, and
-# a second run of scripts/vendor leaves all that is the user's as it is. Without it the README's way to use the library could break unseen.
+# scripts/vendored.sh: a repository that scripts/vendor makes in an empty folder. A program with a layer of the user's
+# own is proved and run there, and a second run of scripts/vendor leaves all that is the user's as it is. Without it the
+# README's way to use the library could break unseen.
 set -euo pipefail
 cd "$(dirname "${BASH_SOURCE[0]}")/.."
 room=$(mktemp -d)

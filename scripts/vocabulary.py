@@ -1,7 +1,7 @@
 #!/usr/bin/env python3
-"""scripts/vocabulary.py: without this, one word would come to name two ideas again. Each word of vocabulary.txt that has a
-file there is declared once in the libraries, in this file, and no code of theirs has one of the others, which are retired.
-It prints what is otherwise."""
+"""scripts/vocabulary.py: without this, one word would come to name two ideas again. Each word of vocabulary.txt that
+has a file there is declared once in the libraries, in this file, and no code of theirs has one of the others, which are
+retired. It prints what is otherwise."""
 import re
 import sys
 

@@ -18,8 +18,8 @@ def output(*words, **how):
 
 
 def per_round(rounds, words, pattern, **more):
-    """What a program tells on its standard error, for a round: of twice as many rounds less of so many. The words end with
-    the number of rounds."""
+    """What a program tells on its standard error, for a round: of twice as many rounds less of so many. The words end
+    with the number of rounds."""
 
     def of(count):
         environment = {**os.environ, **more}

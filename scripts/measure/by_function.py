@@ -1,13 +1,13 @@
 #!/usr/bin/env python3
-"""scripts/measure/by_function.py [--list] NAME ..: the instructions of a round of lines of `tower-bench`, by function, and
-those of them that are the compiler's.
+"""scripts/measure/by_function.py [--list] NAME ..: the instructions of a round of lines of `tower-bench`, by function,
+and those of them that are the compiler's.
 
 A round is the mean of 20,000, by callgrind, whose addresses are looked up in the disassembly (objdump) of
 crates/tower_bench/out/tower_bench. The compiler's are the tests of its flag, after each call of what may wait: an
-instruction that reads the flag, and the jump behind it; clears: stores of a vector register that was set to zero; copies
-of an enum's padding: moves of several bytes at an odd offset; and frames of functions that weren't compiled into their
-callers: calls, returns, and what saves registers. The flag is the byte that most instructions compare with 0. With --list
-each instruction of a round is printed too.
+instruction that reads the flag, and the jump behind it; clears: stores of a vector register that was set to zero;
+copies of an enum's padding: moves of several bytes at an odd offset; and frames of functions that weren't compiled into
+their callers: calls, returns, and what saves registers. The flag is the byte that most instructions compare with 0.
+With --list each instruction of a round is printed too.
 """
 import collections
 import re

@@ -1,11 +1,11 @@
 #!/usr/bin/env python3
-"""scripts/measure/counts.py [--write] [NAME ..]: counts the instructions a round of the lines of docs/SPEED.md, or of the
-named ones.
+"""scripts/measure/counts.py [--write] [NAME ..]: counts the instructions a round of the lines of docs/SPEED.md, or of
+the named ones.
 
-A line is a row of a table with a column "Ours", whose first cell is a name of `tower-bench`. It is counted by callgrind on
-crates/tower_bench/out/tower_bench as `rt run` builds it, and compared with the page: status 1 if one differs by more than
-1. With --write the page gets what was counted, and its picture, docs/speed.svg, is drawn anew from the page; a figure
-above the Rust's is bold. The picture needs matplotlib (Debian's python3-matplotlib, for /usr/bin/python3).
+A line is a row of a table with a column "Ours", whose first cell is a name of `tower-bench`. It is counted by callgrind
+on crates/tower_bench/out/tower_bench as `rt run` builds it, and compared with the page: status 1 if one differs by more
+than 1. With --write the page gets what was counted, and its picture, docs/speed.svg, is drawn anew from the page; a
+figure above the Rust's is bold. The picture needs matplotlib (Debian's python3-matplotlib, for /usr/bin/python3).
 """
 import os
 import re
@@ -20,7 +20,8 @@ LONGEST = 2.6
 
 
 def rows(lines):
-    """Each row of a table with a column "Ours": the line's number, the row's name, our figure and the Rust's, if there is one."""
+    """Each row of a table with a column "Ours": the line's number, the row's name, our figure and the Rust's, if there
+    is one."""
     for at, line in enumerate(lines):
         if match := re.fullmatch(r"\|`([a-z0-9_]+)`\|\**(\d+)\**\|(?:(\d*)\|)?", line):
             yield at, match[1], int(match[2]), match[3] or ""

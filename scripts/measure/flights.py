@@ -1,12 +1,13 @@
 #!/usr/bin/env python3
-"""scripts/measure/flights.py FOLDER [--idle]: prints the figures "Responses in flight" of docs/SPEED.md, for 1, 100, 1,000
-and 10,000 of them.
+"""scripts/measure/flights.py FOLDER [--idle]: prints the figures "Responses in flight" of docs/SPEED.md, for 1, 100,
+1,000 and 10,000 of them.
 
-FOLDER becomes a repository with the library (by scripts/vendor) and a crate `bench_flights`, of scripts/measure/flights,
-which `rt run` proves and builds there. It prints for each clock and each kind of response all polls, the processor time,
-and how late a response was seen. With --idle it prints instead what share of a processor they take while none is due: in
-the run `Timers, own time` all responses are made at once, and the first is due 500 ms later. The processor time of all
-threads is read from /proc 150 ms and 450 ms after the run began. Status 1 if a share is 1 per cent or more.
+FOLDER becomes a repository with the library (by scripts/vendor) and a crate `bench_flights`, of
+scripts/measure/flights, which `rt run` proves and builds there. It prints for each clock and each kind of response all
+polls, the processor time, and how late a response was seen. With --idle it prints instead what share of a processor
+they take while none is due: in the run `Timers, own time` all responses are made at once, and the first is due 500 ms
+later. The processor time of all threads is read from /proc 150 ms and 450 ms after the run began. Status 1 if a share
+is 1 per cent or more.
 """
 import subprocess
 import sys

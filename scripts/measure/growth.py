@@ -1,12 +1,12 @@
 #!/usr/bin/env python3
 """scripts/measure/growth.py FOLDER RUST [KIND ..]: prints the tables "Growth" of docs/SPEED.md, ours beside the Rust's.
 
-FOLDER becomes a repository with the library (by scripts/vendor) and a crate `growth`, of scripts/measure/growth and of the
-crowds of `tests_buffer`, which `rt run` proves and builds there. RUST is the program that scripts/measure/rust/build.sh
-builds. Both print the polls of a crowd of N: of its tasks and workers, or of its responses. Instructions a call are those
-of a crowd over N, of as many crowds as make 2,000 calls at least. The balancers' kinds are N rounds in place of a crowd. A
-count of more than 20 minutes is left out. At the end it prints the polls of a `SpawnReady` whose service is pending once,
-and ten times, in its task.
+FOLDER becomes a repository with the library (by scripts/vendor) and a crate `growth`, of scripts/measure/growth and of
+the crowds of `tests_buffer`, which `rt run` proves and builds there. RUST is the program that
+scripts/measure/rust/build.sh builds. Both print the polls of a crowd of N: of its tasks and workers, or of its
+responses. Instructions a call are those of a crowd over N, of as many crowds as make 2,000 calls at least. The
+balancers' kinds are N rounds in place of a crowd. A count of more than 20 minutes is left out. At the end it prints the
+polls of a `SpawnReady` whose service is pending once, and ten times, in its task.
 """
 import re
 import subprocess

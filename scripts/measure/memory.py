@@ -1,7 +1,7 @@
 #!/usr/bin/env python3
-"""scripts/measure/memory.py RUST: prints the tables "Memory" of docs/SPEED.md, ours beside those of RUST, the program that
-scripts/measure/rust/build.sh builds: the bytes of each middleware's service, and of a place for its response (an `Option`
-of it); and the allocations of a round of lines of `tower-bench`, counted by scripts/measure/count_alloc.c."""
+"""scripts/measure/memory.py RUST: prints the tables "Memory" of docs/SPEED.md, ours beside those of RUST, the program
+that scripts/measure/rust/build.sh builds: the bytes of each middleware's service, and of a place for its response (an
+`Option` of it); and the allocations of a round of lines of `tower-bench`, counted by scripts/measure/count_alloc.c."""
 import re
 import subprocess
 import sys

@@ -2,14 +2,14 @@
 """scripts/measure/pairs.py FOLDER [WORD ..]: tries which middleware of `tower` are proved around which.
 
 For each pair of pairs/wares.txt it writes a function over any runtime `R`, which makes the outer middleware around the
-inner one around a service, and calls it once. FOLDER becomes a repository with the library (by scripts/vendor) and a crate
-of such functions, a batch at a time, which `rt check` proves there. What each check said is kept in FOLDER/pairs.json, so
-that a later run tries only what is left. With WORDs it takes the functions whose names have one of them (`timeout_over_`,
-say). In the end the table of all that is known so far is printed, in Markdown, with the words of crates/tower/README.md,
-`not run` and `no`, and the messages of what isn't proved in one function.
+inner one around a service, and calls it once. FOLDER becomes a repository with the library (by scripts/vendor) and a
+crate of such functions, a batch at a time, which `rt check` proves there. What each check said is kept in
+FOLDER/pairs.json, so that a later run tries only what is left. With WORDs it takes the functions whose names have one
+of them (`timeout_over_`, say). In the end the table of all that is known so far is printed, in Markdown, with the words
+of crates/tower/README.md, `not run` and `no`, and the messages of what isn't proved in one function.
 
-A pair that isn't proved in one function is tried in more: one that makes the inner middleware, and one, over any
-`S: Service`, for the outer one and the call. No pair is tried that the types exclude: the outer one clones what is inside,
+A pair that isn't proved in one function is tried in more: one that makes the inner middleware, and one, over any `S:
+Service`, for the outer one and the call. No pair is tried that the types exclude: the outer one clones what is inside,
 which isn't `Clone`. It takes hours: four pairs took 75 processor seconds, and nine with hedges more than 440.
 """
 import json
@@ -34,7 +34,8 @@ TEXTS = dict(it.split("\n", 1) for it in (HERE / "functions.txt").read_text(enco
 
 
 def fill(name, **words):
-    """A text of functions.txt with these words. A line goes with what is empty, and is indented with what has several."""
+    """A text of functions.txt with these words. A line goes with what is empty, and is indented with what has
+    several."""
     lines = []
     for line in TEXTS[name].splitlines():
         filled = Template(line).safe_substitute(words)
@@ -61,7 +62,8 @@ def around(name, inner):
 
 
 def over_any(outer):
-    """Around any service lists are made by `one`, and endpoints are sealed, so that their type says that they are sound."""
+    """Around any service lists are made by `one`, and endpoints are sealed, so that their type says that they are
+    sound."""
     made = re.sub(r"vec!\[in rt\.alloc\(\); (.*)\]\?", r"one(rt.alloc(), \1)?", around(outer, "inner") if outer else "inner")
     return made.replace("Constant::new(inner", "Constant::new(Sealed::<_, u32>::new(inner)")
 
@@ -92,8 +94,9 @@ def around_any(outer):
 
 
 def hedge(name, last, has_tasks=False, is_same=False):
-    """The functions through which a hedge goes. A check of all its types at once takes minutes, so each lets one more be a
-    parameter; the last one has the lines `last`. With tasks they take a pool, too; the clone of an error may equal it."""
+    """The functions through which a hedge goes. A check of all its types at once takes minutes, so each lets one more
+    be a parameter; the last one has the lines `last`. With tasks they take a pool, too; the clone of an error may equal
+    it."""
     takes, types, passes, tasks = (", tasks: LocalPool<W>", ", W", ", tasks", "W: Future<Output = ()>,") if has_tasks else [""] * 4
     made = [f"let hedge = {around('hedge', 'inner')};", f"{name}_whole(rt, hedge{passes})"]
     parts = []
@@ -135,7 +138,8 @@ def is_excluded(outer, inner):
 
 
 def crate_of(pairs):
-    """The files of the crate of these pairs, each with its form, and for each the names of the functions that it needs."""
+    """The files of the crate of these pairs, each with its form, and for each the names of the functions that it
+    needs."""
     texts = {it: written(*it) for it in pairs}
     text = "\n".join(dict.fromkeys(part for parts in texts.values() for part in parts))
     used = text.replace(".block_on_call", " BlockOnExt").replace(".oneshot", " ServiceExt").replace("filter::", " filter ")
@@ -148,7 +152,8 @@ def crate_of(pairs):
 
 
 def check(folder, pairs):
-    """Checks the pairs in one crate. Returns what it said of each that it decided: nothing if it is proved, or a message."""
+    """Checks the pairs in one crate. Returns what it said of each that it decided: nothing if it is proved, or a
+    message."""
     files, names = crate_of(pairs)
     crate = listed(folder, CRATE, ": tower futures thiserror", files)
     how = {"stdin": subprocess.DEVNULL, "stdout": subprocess.PIPE, "stderr": subprocess.STDOUT, "text": True, "errors": "replace"}

@@ -1,10 +1,10 @@
 #!/usr/bin/env python3
-"""scripts/tests/must_fail.py: tests of scripts/must_fail.py, which says of each wrong body whether the prover refuses it.
-Without them a change of the script, or a kit that prints something else, could count as refused what was never tried, and
-the gate would still pass.
+"""scripts/tests/must_fail.py: tests of scripts/must_fail.py, which says of each wrong body whether the prover refuses
+it. Without them a change of the script, or a kit that prints something else, could count as refused what was never
+tried, and the gate would still pass.
 
-The first test runs the script over a tiny repository, with the kit's prover. In the others a stand-in for the prover says
-what it would say.
+The first test runs the script over a tiny repository, with the kit's prover. In the others a stand-in for the prover
+says what it would say.
 """
 import contextlib
 import io
@@ -37,7 +37,8 @@ ONE, TWO, ANY = (edit(it, f"    of_{it}", "    0") for it in ("one", "two", "any
 OTHER, GONE, LAW = edit("other", "of_one = x;", "of_one = 2;"), edit("gone", "of_three", "0"), edit("law", "    of_two", "    0", "crate: tiny\nfunction: one\n")
 UNREAD = "src/lib.rt:9:5: error: `one`: `nothing` is not in scope\nfn tiny::one: no proof\nfn tiny::two: no proof\nonly="
 UNTOLD = "fn tiny::one: could not tell: a limit\n"
-# What comes of edits: what the stand-in says in a check of this number, by itself or as told; the answers, and the functions of each check.
+# What comes of edits: what the stand-in says in a check of this number, by itself or as told; the answers, and the
+# functions of each check.
 CASES = {
     "refused": (ONE, {}, {"one": "refused"}, "one/one"),
     "not refused": (ANY, {}, {"any": "NOT REFUSED"}, "any/any/"),
@@ -73,8 +74,8 @@ class Tests(unittest.TestCase):
         self.addCleanup(shutil.rmtree, self.room)
 
     def checked(self, _crate, texts, flags, _kept):
-        """What the prover says of these functions, or what the test has it say in this check. It refuses each function whose
-        body was changed, but for `any`."""
+        """What the prover says of these functions, or what the test has it say in this check. It refuses each function
+        whose body was changed, but for `any`."""
         only = flags[3::2]
         self.checks.append(" ".join(only))
         if len(self.checks) in self.says:

@@ -1,9 +1,10 @@
 #!/usr/bin/env bash
-# scripts/measure/rust/build.sh FOLDER UPSTREAM: builds FOLDER/target/release/rust-tower, the Rust program of this folder,
-# over tower 0.5.3, whose src/ UPSTREAM has. It is laid out in FOLDER/tower, with a Cargo.toml that names what it needs.
-# tokio 1.24.2, tokio-util 0.7.3, futures 0.3.21, indexmap 1.9.2 and what these need are Debian 12's packages (apt-get
-# download), unpacked in FOLDER/debian. `hdrhistogram` and `sync_wrapper` aren't packaged: so `hedge` is left out, and the
-# second is a crate of ten lines here. Needs cargo (1.95.0 was measured), dpkg and a mirror of Debian's packages.
+# scripts/measure/rust/build.sh FOLDER UPSTREAM: builds FOLDER/target/release/rust-tower, the Rust program of this
+# folder, over tower 0.5.3, whose src/ UPSTREAM has. It is laid out in FOLDER/tower, with a Cargo.toml that names what
+# it needs. tokio 1.24.2, tokio-util 0.7.3, futures 0.3.21, indexmap 1.9.2 and what these need are Debian 12's packages
+# (apt-get download), unpacked in FOLDER/debian. `hdrhistogram` and `sync_wrapper` aren't packaged: so `hedge` is left
+# out, and the second is a crate of ten lines here. Needs cargo (1.95.0 was measured), dpkg and a mirror of Debian's
+# packages.
 set -euo pipefail
 here=$(dirname "$(realpath "$0")")
 folder=$(realpath -m "$1") upstream=$(realpath "$2")
