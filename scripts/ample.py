@@ -43,9 +43,11 @@ def main():
     library = re.findall(r"^tower(?!_run|_bench|_laws|_hyper|_refusal)\w*", (TOP / "crates.txt").read_text(), re.M)
     calls = dict(it for text in texts(*(f"{it}/src/**/*.rt" for it in library)) for it in calls_of(text))
     tests = texts("tests_*/src/**/*.rt", "uses/src/**/*.rt")
-    marks = {it for text in texts("*/data/**/*.script") for line in re.findall("(?m)^# ample: (.*)$", text) for it in line.split()}
+    marked = re.findall("(?m)^# ample: (.*)$", "\n".join(texts("*/data/**/*.script")))
+    marks = {it for line in marked for it in line.split()}
     wanted = sorted(call for call, may_lack in calls.items() if may_lack)
-    wrong = [f"{it} is made by no test, and no script has its mark" for it in wanted if it not in marks and not is_named(it, tests)]
+    unmade = [it for it in wanted if it not in marks and not is_named(it, tests)]
+    wrong = [f"{it} is made by no test, and no script has its mark" for it in unmade]
     wrong += [f"a script marks {it}, which isn't there" for it in sorted(marks - {*calls})]
     print(*wrong, f"ample: {len(wanted)} calls are made with ample memory", sep="\n")
     return bool(wrong) or not wanted

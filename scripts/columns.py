@@ -12,6 +12,7 @@ from common import TOP
 
 NAMES = re.findall(r"^tower(?!_bench)\w*", (TOP / "crates.txt").read_text(), re.M)
 PATHS = sorted(it for name in NAMES for it in (TOP / "crates" / name / "src").rglob("*.rt"))
-WIDE = [f"{path}: {it}" for path in PATHS for it in re.findall(r"^(?! *(?://|#\[|ghost use)).{101,}$", path.read_text(), re.M)]
+LONG = re.compile(r"^(?! *(?://|#\[|ghost use)).{101,}$", re.M)
+WIDE = [f"{path}: {it}" for path in PATHS for it in LONG.findall(path.read_text(encoding="utf-8"))]
 print("\n".join(WIDE), f"{len(PATHS)} files, {len(WIDE)} lines too long")
 sys.exit(bool(WIDE) or not PATHS)

@@ -97,9 +97,10 @@ def variants(kind, script):
     asked = [it.asked for it in script]
     others = {mail: ["worker"], slot: ["task", "ended"]}.get(kind, [])
     for place in range(1, len(script)):
-        clones = [it.answer for it in script[:place] if it.asked.startswith("clone") and re.fullmatch("[a-z]", it.answer)]
-        letters = ["a", *clones]
-        numbers = [it.answer.split()[1] for it in script[:place] if re.fullmatch(r"call \d+", it.answer)]
+        answers = [it.answer for it in script[:place]]
+        clones = [it.answer for it in script[:place] if it.asked.startswith("clone")]
+        letters = ["a", *(it for it in clones if re.fullmatch("[a-z]", it))]
+        numbers = [it.split()[1] for it in answers if re.fullmatch(r"call \d+", it)]
         for word in [*letters, *numbers, *others]:
             yield [*asked[:place], f"drop {word}", *asked[place:]], False
         rest, handles, responses = ([f"drop {it}" for it in words] for words in (others, letters, numbers))
@@ -125,7 +126,8 @@ def with_spare(asked, place, letters, responses):
         polls = [it for letter in fresh for it in ("clone b", f"poll {chr(ord('b') + len(letters) + letter)}")]
     else:
         polls = ["poll b", "call b 0"] * len(fresh)
-    return [parts, "clone", *map(shifted, rest), *drops, *responses, "shares 255", "readiness ready", "work", *polls, "end"]
+    rest = [*map(shifted, rest), *drops, *responses]
+    return [parts, "clone", *rest, "shares 255", "readiness ready", "work", *polls, "end"]
 
 
 def places_of(first):
@@ -146,8 +148,9 @@ def faults(kind, run, is_fresh):
     made = Counter(s=1, t="get_mut" in run[0].asked, c=calls * ("checked" in run[0].asked), latch=kind != mail)
     made.update(filter(None, map(made_by, notes)))
     dropped = Counter(filter(None, map(dropped_by, notes)))
-    yield from (f"{it} was made {made[it]} times and dropped {dropped[it]} times" for it in made if made[it] != dropped[it])
-    yield from (f"{it} was dropped and never made" for it in dropped.keys() - made.keys())
+    for name in made.keys() | dropped.keys():
+        if made[name] != dropped[name]:
+            yield f"{name} was made {made[name]} times and dropped {dropped[name]} times"
     answers = Counter(it.asked for it in run if it.asked.startswith("fut ") and it.answer.startswith(("ok", "error")))
     yield from (f"{asked} answered {count} times" for asked, count in answers.items() if count > 1 and kind != loads)
     told = kind(run, notes, Counter(map(step_of, notes)), is_fresh)

@@ -18,7 +18,8 @@ from common import TOP
 
 LIMIT = "tower_limit/src/limit/concurrency"
 ALLOWED = (f"{LIMIT}/semaphore.rt:into_token", f"{LIMIT}/semaphore.rt:release", f"{LIMIT}/future.rt:into_permit")
-NAMES = r"forget|forget_promise|ManuallyDrop|MaybeUninit|leak|into_raw(?:_with_allocator|_parts)?|from_raw(?:_parts(?:_mut)?)?"
+RAW = "into_raw(?:_with_allocator|_parts)?|from_raw(?:_parts(?:_mut)?)?"
+NAMES = rf"forget|forget_promise|ManuallyDrop|MaybeUninit|leak|{RAW}"
 REFUSED = re.compile(rf"\b(?:{NAMES})\b|\bunsafe\b(?! +impl\b)|(?<!')\bstatic\b")
 DROPS = re.compile(r"^impl\b[^{]*?\bDrop\s+for\s+(\w+)", re.M)
 # After a pattern's braces come those that end a pattern around them, and then what follows it: `=`, `=>`, `|`, a type.

@@ -27,7 +27,8 @@ def main():
             how = {"stdout": subprocess.PIPE, "stderr": subprocess.STDOUT, "text": True}
             ran = subprocess.run([program_of(crate), file], timeout=120, check=False, **how)
             if ran.returncode or events < LEAST or not ran.stdout.endswith(" scripts, 0 lines wrong\n"):
-                sys.exit(f"{ran.stdout[:2000]}..{ran.stdout[-500:]}hostile: {name}: {events} events, status {ran.returncode}")
+                said = f"{ran.stdout[:2000]}..{ran.stdout[-500:]}"
+                sys.exit(f"{said}hostile: {name}: {events} events, status {ran.returncode}")
             print(f"hostile: {name}: {events} events as its machine says")
 
 

@@ -6,7 +6,8 @@ cd "$(dirname "${BASH_SOURCE[0]}")/.." || exit 1
 mapfile -t python < <(find scripts -name '*.py' | sort)
 mapfile -t shell < <(grep -lE '^#!.*bash' test prove tower-run .ci/run scripts/vendor $(find scripts -name '*.sh'))
 read=(pyflakes3)
-command -v pyflakes3 > /dev/null || read=(python3 -W error -c 'import sys; [compile(open(it).read(), it, "exec") for it in sys.argv[1:]]')
+compiles='import sys; [compile(open(it).read(), it, "exec") for it in sys.argv[1:]]'
+command -v pyflakes3 > /dev/null || read=(python3 -W error -c "$compiles")
 failed=0
 "${read[@]}" "${python[@]}" || failed=1
 for file in "${shell[@]}"; do

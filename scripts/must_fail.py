@@ -137,8 +137,8 @@ class Edit:
     def __init__(self, crate, name, text, is_in_gate):
         self.crate, self.name, self.text, self.is_in_gate = crate, name, text, is_in_gate
         lines = [it for it in text.split("\n") if it.strip()]
-        told = {word: [it.removeprefix(word).strip() for it in lines if it.startswith(word)] for word in ("function: ", "crate: ")}
-        self.below, self.functions = "".join(told["crate: "]), []
+        told = lambda word: [it.removeprefix(word).strip() for it in lines if it.startswith(word)]
+        self.below, self.functions = "".join(told("crate: ")), []
         self.folder = Path(crate.folder).parent / (self.below or crate.name)
         odd = next((it for it in lines if not it.startswith(LINES)), None)
         self.why = f"a line that isn't read: {odd[:60]}" if odd else rt.edited(text, self.folder)[1]
@@ -147,9 +147,10 @@ class Edit:
             path = file.strip() or path
             self.pairs += [(path, old, new)] * bool(old)
         self.texts = {path: rt.rtlib.text_of(f"{self.folder}/{path}") for path, _, _ in self.pairs}
-        self.places = [] if self.why else [function_at(it, self.texts[it], self.texts[it].find(old)) for it, old, _ in self.pairs]
+        places = ((path, self.texts[path], self.texts[path].find(old)) for path, old, _ in self.pairs)
+        self.places = [] if self.why else [function_at(*it) for it in places]
         own = [it for it, _, _ in self.places if it and not self.below]
-        self.patterns = [*dict.fromkeys([*told["function: "], *own])]
+        self.patterns = [*dict.fromkeys([*told("function: "), *own])]
         self.bodies = "".join(it for _, it, _ in self.places)
         self.is_of_bodies = all(it for _, _, it in self.places)
 
@@ -167,9 +168,11 @@ class Edit:
             return True
         if any(re.search(rf"\b{it}(::<.*>)?\(", self.bodies) for it in called):
             return True
+        if self.is_of_bodies:
+            return False
         words = {it for path in self.texts for it in re.findall(r"\w+", path)} - {"src", "rt"}
-        theirs = {it for path, text in other.texts.items() for it in re.findall(r"\w+", path + text)} if not self.is_of_bodies else {}
-        return not self.is_of_bodies and bool(words & {"lib", "main", *theirs})
+        theirs = {it for path, text in other.texts.items() for it in re.findall(r"\w+", path + text)}
+        return bool(words & {"lib", "main", *theirs})
 
 
 def texts_of(edits):
@@ -251,7 +254,8 @@ def flags_of(functions):
 
 def touched(crate):
     """Each file that a check of the crate reads, and when it was written."""
-    return [(file, os.stat(file).st_mtime_ns) for it in [*crate.below(), crate] for file in rt.rtlib.files_of(it.folder)]
+    files = [file for it in [*crate.below(), crate] for file in rt.rtlib.files_of(it.folder)]
+    return [(file, os.stat(file).st_mtime_ns) for file in files]
 
 
 class Tried:
@@ -308,9 +312,11 @@ class Tried:
         names = functions_of(self.crate)
         if names and not self.crate.is_program:
             return True
-        ran = self.check([], next(([name] for it in self.edits for name in it.functions if not names or name in names), []))
+        functions = [name for it in self.edits for name in it.functions if not names or name in names]
+        ran = self.check([], functions[:1])
         if ran.returncode:
-            print(f"must-fail {self.crate.name}: NOT PROVED without an edit ({ran.returncode}):\n{ran.stdout[-3000:]}", flush=True)
+            print(f"must-fail {self.crate.name}: NOT PROVED without an edit ({ran.returncode}):", flush=True)
+            print(ran.stdout[-3000:], flush=True)
         return not ran.returncode
 
     def try_law(self, edit):
@@ -320,8 +326,9 @@ class Tried:
         below = next(it for it in [*self.crate.below(), self.crate] if it.name == edit.below)
         before, names = "" if below is self.crate else f"{below.name}::", functions_of(below)
         changed = [(path, place[0]) for (path, _, _), place in zip(edit.pairs, edit.places) if path.startswith("src/")]
-        changed = [before + (pattern and named(pattern, names) or "::".join(module_path(path))) for path, pattern in changed]
-        words = self.crate.words(flags_of([*edit.functions, *dict.fromkeys(changed)]), keeps=False, as_source=bool(before))
+        changed = [pattern and named(pattern, names) or "::".join(module_path(path)) for path, pattern in changed]
+        flags = flags_of([*edit.functions, *(before + it for it in dict.fromkeys(changed))])
+        words = self.crate.words(flags, keeps=False, as_source=bool(before))
         known = {it.name: it for it in self.crate.below()}
         with tempfile.TemporaryDirectory(dir=self.room) as folder, self.lanes:
             self.begin()
@@ -336,15 +343,17 @@ class Tried:
                     words[at + 1] = words[at + 1].replace(f"={it.folder}/", f"={folder}/")
                 elif it and below not in it.below():
                     words[at : at + 2] = ["--extern", f"{it.name}={it.rlib}"]
-            how = {"stdin": subprocess.DEVNULL, "stdout": subprocess.PIPE, "stderr": subprocess.STDOUT, "errors": "replace"}
+            how = {"stdin": subprocess.DEVNULL, "stdout": subprocess.PIPE, "stderr": subprocess.STDOUT}
             words = [*rt.rtlib.guarded(), rt.rtlib.RATTLE, "check", *words]
-            ran = subprocess.run(words, cwd=self.crate.folder if before else folder, check=False, **how)
+            how["cwd"] = self.crate.folder if before else folder
+            ran = subprocess.run(words, errors="replace", check=False, **how)
         told = [it for it in told_of(ran.stdout) if not any(is_of(self.crate, it[0], law) for law in edit.functions)]
         failed = next((f"{name}: {what}" for name, what in told if what != "proved"), "")
         lines = ran.stdout.rstrip("\n").split("\n")
         answer, why = verdict(edit, ran.stdout)
         if failed or not told or not lines[-1].startswith("only="):
-            answer, why = "BAD EDIT", f"what it changes in {edit.below} is not proved: " + (failed or " / ".join(lines[-4:]))
+            why = f"what it changes in {edit.below} is not proved: {failed or ' / '.join(lines[-4:])}"
+            answer = "BAD EDIT"
         elif answer == "again":
             answer, why = "BAD EDIT", "the law is not proved for what it calls"
         self.answer(edit, answer, why)
@@ -419,7 +428,8 @@ def tries(edits, store, room):
     lanes, by_crate = threading.Semaphore(number), collections.defaultdict(list)
     for it in edits:
         by_crate[it.crate].append(it)
-    tried = [Tried(crate, its, room, lanes, store) for crate, its in sorted(by_crate.items(), key=lambda it: -len(it[1]))]
+    most_first = sorted(by_crate.items(), key=lambda it: -len(it[1]))
+    tried = [Tried(crate, its, room, lanes, store) for crate, its in most_first]
     with ThreadPoolExecutor(max(len(tried), 1)) as pool:
         return [answer for answers in pool.map(Tried.run, tried) for answer in answers]
 
@@ -429,8 +439,8 @@ def are_built(edits):
     proved."""
     # (an older kit doesn't share what other clones proved)
     getattr(rt, "share_work", lambda _: None)(False)
-    lacking = {below.name: below for it in edits for below in [*it.crate.below(), *[it.crate] * (not it.crate.is_program)]}
-    return not any(it.build_rlib([], anew=False) for it in lacking.values())
+    needed = {it.name: it for edit in edits for it in [*edit.crate.below(), edit.crate] if not it.is_program}
+    return not any(it.build_rlib([], anew=False) for it in needed.values())
 
 
 def main(words):
@@ -442,10 +452,12 @@ def main(words):
     of_crates = {it for it in words if it in crates}
     of_edits = {*words} - flags - of_crates
     unknown = {*os.listdir("must-fail")} - {*crates} | of_edits - {it.name for it in edits} | flags - FLAGS
-    chosen = [it for it in edits if (not of_crates or it.crate.name in of_crates) and (not of_edits or it.name in of_edits)]
+    chosen = [it for it in edits if not of_crates or it.crate.name in of_crates]
+    chosen = [it for it in chosen if not of_edits or it.name in of_edits]
     tried = [it for it in chosen if "--look" not in flags and ("--gate" not in flags or it.is_in_gate)]
     if unknown or "--built" not in flags and not are_built(tried):
-        print(f"no crate, edit or flag: {unknown}" if unknown else "a library is not proved", "0 refused, 1 not", sep="\n")
+        print(f"no crate, edit or flag: {unknown}" if unknown else "a library is not proved")
+        print("0 refused, 1 not")
         return 1
     untried = [it for it in chosen if it not in tried]
     bad = [it for it in untried if it.why]

@@ -21,8 +21,7 @@ from common import TOP, library_of, program_of
 TOWER_RUN, PACED_LINES, HTTP = "tower_run_cli", "example_paced_lines", "example_http"
 OUT_OF_MEMORY, UNSTARTED = (1, b"", b"out of memory\n"), (3, b"", b"cannot start a thread\n")
 COUNTS = rb"(\d+) served, (\d+) busy, (\d+) broken"
-CROWD = re.compile(rb"\d+ requests: %b, 0 wrong\n5 requests: %b, 0 wrong\nat most ([0-5]) inside at once, 0 at the end\n"
-                   % (COUNTS, COUNTS))
+CROWD = rb"\d+ requests: %b, 0 wrong\n5 requests: %b, 0 wrong\nat most ([0-5]) inside at once, 0 at the end\n"
 
 
 class Runs:
@@ -127,7 +126,7 @@ def crowd(runs, *words, **fails):
     status, out, errors = runs.run([HTTP, "crowd", *words], **fails)
     if status == 1 and "FAIL_ALLOC" in fails and errors:
         return None
-    told = CROWD.fullmatch(out)
+    told = re.fullmatch(CROWD % (COUNTS, COUNTS), out)
     assert told and (status, errors) == (0, b""), (words, fails, status, out, errors)
     return tuple(map(int, told.groups()))
 

@@ -27,8 +27,9 @@ def main(crate, last="4"):
         def fails(test, number):
             """What a test says that doesn't pass where the allocation of that number is refused."""
             environment = {**os.environ, "LD_PRELOAD": library, "FAIL_ALLOC": str(number)}
-            how = {"stdin": subprocess.DEVNULL, "stdout": subprocess.PIPE, "stderr": subprocess.STDOUT, "errors": "replace"}
-            ran = subprocess.run([program, test], cwd=room, env=environment, timeout=60, check=False, **how)
+            how = {"cwd": room, "env": environment, "errors": "replace", "timeout": 60, "check": False}
+            streams = {"stdin": subprocess.DEVNULL, "stdout": subprocess.PIPE, "stderr": subprocess.STDOUT}
+            ran = subprocess.run([program, test], **how, **streams)
             return f"status {ran.returncode}: {ran.stdout}" if ran.returncode else ""
 
         number = quiet = 0
@@ -39,7 +40,8 @@ def main(crate, last="4"):
                     sys.exit(f"refused: {crate}, allocation {number}: {test} failed: {said}")
             quiet = 0 if any([fails(it, number) for it in ample]) else quiet + 1
     if not refused or quiet < int(last) or number == quiet:
-        sys.exit(f"refused: {crate}: {len(refused)} tests refused_.., {len(ample)} ample_.., none of which fails {quiet} of {number}")
+        tests = f"{len(refused)} tests refused_.., {len(ample)} ample_.."
+        sys.exit(f"refused: {crate}: {tests}, none of which fails {quiet} of {number}")
     print(f"refused: {crate}, allocations 1 to {number - quiet}: every refusal was told in {len(refused)} tests")
 
 

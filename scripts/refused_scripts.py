@@ -69,7 +69,8 @@ def is_over(base, came):
     dropped, parts = dropped - later, given - Counter(["latch"])
     without_latch = parts != given and (dropped == made + parts or not came[0].notes)
     *rest, last = (line.asked for line in came[1:])
-    return (dropped == made + given or without_latch) and last == "end" and all("the script is over" in it for it in rest)
+    is_dropped = dropped == made + given or without_latch
+    return is_dropped and last == "end" and all("the script is over" in it for it in rest)
 
 
 def ordered(before, lines):
@@ -91,8 +92,9 @@ def recounted(lines):
     last = []
     for line in lines:
         last = notes_of(line.notes) or last
-        counts = line.asked.startswith("count ") and str(sum(it.count(line.asked.removeprefix("count ")) for it in last))
-        yield line._replace(answer="right") if counts == line.answer else line
+        word, _, what = line.asked.partition(" ")
+        is_right = word == "count" and line.answer == str(sum(it.count(what) for it in last))
+        yield line._replace(answer="right") if is_right else line
 
 
 def alike(script, place):
@@ -141,7 +143,8 @@ def is_woken(base, came, place):
     """Whether a poll that was pending has woken its task, and all else is as with ample memory, as where a waker found
     no room. Who wasn't kept may not be woken later."""
     bare = lambda lines: [line._replace(notes=WOKEN.sub("", line.notes)) for line in lines]
-    more = [at for at, pair in enumerate(zip(base, came)) if [bool(WOKEN.search(it.notes)) for it in pair] == [False, True]]
+    woken = [[bool(WOKEN.search(it.notes)) for it in pair] for pair in zip(base, came)]
+    more = [at for at, pair in enumerate(woken) if pair == [False, True]]
     return more == [place] and bare(base) == bare(came)
 
 
@@ -166,13 +169,14 @@ def look_at(program, base, plays, where):
         what = "something that it made was never dropped" if is_left else "not as any machine says"
         lines = [f"    {it.asked:14} => {it.answer:12} | {it.notes}" for it in came]
         sys.exit("\n".join([f"refused_scripts: {where}, line {place + 1} of this script: {what}", *lines]))
-    return len(came) == len(one) and came[-1].asked == "end" and not any("the script is over" in it.asked for it in came)
+    is_over = any("the script is over" in it.asked for it in came)
+    return len(came) == len(one) and came[-1].asked == "end" and not is_over
 
 
 def ends_of(program, path, library, room):
     """What comes of a refusal of each allocation: its number, the status, the output and the errors."""
     environment = {**os.environ, "LD_PRELOAD": library, "FORK_ALLOC": room}
-    with open(f"{room}/all.out", "w", encoding="utf-8") as out, open(f"{room}/all.err", "w", encoding="utf-8") as errors:
+    with open(f"{room}/all.out", "wb") as out, open(f"{room}/all.err", "wb") as errors:
         words = [program, "--write", path]
         subprocess.run(words, env=environment, stdout=out, stderr=errors, timeout=600, check=True)
     for line in Path(f"{room}/statuses").read_text(encoding="utf-8").splitlines():
@@ -186,7 +190,8 @@ def ends_of(program, path, library, room):
 def refuse_each(program, file, library):
     """Plays the file once for each allocation: how many there were, and what came of each that a script met."""
     with tempfile.TemporaryDirectory() as room:
-        path = write(f"{room}/asked.script", [asked_of(it, "; quiet") for it in scripts_of(file.read_text(encoding="utf-8"))])
+        scripts = scripts_of(file.read_text(encoding="utf-8"))
+        path = write(f"{room}/asked.script", [asked_of(it, "; quiet") for it in scripts])
         ample = subprocess.run([program, "--write", path], capture_output=True, text=True, check=True).stdout
         tried, met = 0, []
         for number, status, out, errors in ends_of(program, path, library, room):

@@ -23,7 +23,8 @@ def per_round(rounds, words, pattern, **more):
 
     def of(count):
         environment = {**os.environ, **more}
-        ran = subprocess.run([*words, str(count)], env=environment, capture_output=True, text=True, check=True, timeout=1200)
+        how = {"capture_output": True, "text": True, "check": True, "timeout": 1200}
+        ran = subprocess.run([*words, str(count)], env=environment, **how)
         return int(re.search(pattern, ran.stderr)[1])
 
     return (of(2 * rounds) - of(rounds)) / rounds

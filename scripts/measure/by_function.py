@@ -37,8 +37,9 @@ def disassembly():
 def counts(name):
     """How often each instruction of the program was executed in all rounds, by its address."""
     with tempfile.NamedTemporaryFile("r") as out:
-        callgrind = ["valgrind", "--tool=callgrind", "--dump-instr=yes", "--dump-line=no", f"--callgrind-out-file={out.name}"]
-        subprocess.run([*callgrind, BENCH, name, str(ROUNDS)], capture_output=True, check=True)
+        callgrind = ["valgrind", "--tool=callgrind", "--dump-instr=yes", "--dump-line=no"]
+        words = [*callgrind, f"--callgrind-out-file={out.name}", BENCH, name, str(ROUNDS)]
+        subprocess.run(words, capture_output=True, check=True)
         lines = out.read().splitlines()
     objects, inside, at, is_call, found = {}, "", 0, False, collections.Counter()
     for line in lines:

@@ -32,7 +32,8 @@ def draw(lines):
     import matplotlib
 
     matplotlib.use("svg")
-    matplotlib.rcParams.update({"svg.fonttype": "none", "svg.hashsalt": "speed", "font.family": "sans-serif", "font.size": 9})
+    fonts = {"font.family": "sans-serif", "font.size": 9}
+    matplotlib.rcParams.update({"svg.fonttype": "none", "svg.hashsalt": "speed", **fonts})
     from matplotlib import pyplot
 
     bars = [(name, ours, int(rust)) for _, name, ours, rust in rows(lines) if rust]

@@ -48,7 +48,8 @@ def cost(program, kind, count):
 
 
 def main(folder, rust, *kinds):
-    files = {f"src/{it}.rt": read(f"scripts/measure/growth/{it}.txt") for it in ("main", "collected", "endpoints", "spawned")}
+    names = ("main", "collected", "endpoints", "spawned")
+    files = {f"src/{it}.rt": read(f"scripts/measure/growth/{it}.txt") for it in names}
     for name in ("crowds", "tasks"):
         files[f"src/{name}.rt"] = read(f"crates/tests_buffer/src/polls/{name}.rt").replace("crate::polls::", "crate::")
     files["proofs/endpoints/flights/Invariants.antt"] = read("scripts/measure/growth/invariants.txt")

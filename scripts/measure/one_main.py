@@ -26,7 +26,8 @@ def without_unused(text):
     while found != lines:
         lines, found = found, []
         body = [it for it in lines if not re.match("(use|mod) ", it)]
-        is_used = lambda name, but: any(re.search(rf"\b{WORD_OF.get(name, name)}\b", it) for it in body if it is not but)
+        word = lambda name: rf"\b{WORD_OF.get(name, name)}\b"
+        is_used = lambda name, but: any(re.search(word(name), it) for it in body if it is not but)
         for line in lines:
             if use := re.match(r"(use .*::)\{?([\w, ]+)\}?;", line):
                 names = [it for it in use[2].split(", ") if is_used(it, line)]

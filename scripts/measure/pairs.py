@@ -40,12 +40,14 @@ def fill(name, **words):
     for line in TEXTS[name].splitlines():
         filled = Template(line).safe_substitute(words)
         if filled.strip() or not line.strip():
-            lines += [" " * (len(line) - len(line.lstrip())) * bool(at) + it for at, it in enumerate(filled.split("\n"))]
+            indent = line[: len(line) - len(line.lstrip())]
+            lines.append(filled.replace("\n", f"\n{indent}"))
     return "\n".join(lines)
 
 
 def function(name, lines, takes="", types="", where=(), head="fn"):
-    return fill("function", head=f"{head} {name}", lines="\n".join(lines), takes=takes, types=types, where="\n".join(where)) + "\n"
+    texts = {"lines": "\n".join(lines), "where": "\n".join(where), "takes": takes, "types": types}
+    return fill("function", head=f"{head} {name}", **texts) + "\n"
 
 
 def pools_of(*names):
@@ -64,7 +66,8 @@ def around(name, inner):
 def over_any(outer):
     """Around any service lists are made by `one`, and endpoints are sealed, so that their type says that they are
     sound."""
-    made = re.sub(r"vec!\[in rt\.alloc\(\); (.*)\]\?", r"one(rt.alloc(), \1)?", around(outer, "inner") if outer else "inner")
+    made = around(outer, "inner") if outer else "inner"
+    made = re.sub(r"vec!\[in rt\.alloc\(\); (.*)\]\?", r"one(rt.alloc(), \1)?", made)
     return made.replace("Constant::new(inner", "Constant::new(Sealed::<_, u32>::new(inner)")
 
 
@@ -97,7 +100,8 @@ def hedge(name, last, has_tasks=False, is_same=False):
     """The functions through which a hedge goes. A check of all its types at once takes minutes, so each lets one more
     be a parameter; the last one has the lines `last`. With tasks they take a pool, too; the clone of an error may equal
     it."""
-    takes, types, passes, tasks = (", tasks: LocalPool<W>", ", W", ", tasks", "W: Future<Output = ()>,") if has_tasks else [""] * 4
+    own = (", tasks: LocalPool<W>", ", W", ", tasks", "W: Future<Output = ()>,")
+    takes, types, passes, tasks = own if has_tasks else [""] * 4
     made = [f"let hedge = {around('hedge', 'inner')};", f"{name}_whole(rt, hedge{passes})"]
     parts = []
     for step, lines, took, own, of in (
@@ -122,7 +126,7 @@ def written(outer, inner, form):
         lines = [f"{own}_made(rt, {around(inner, 'Server')}{', tasks' * has_tasks})"]
         more = [hedge(own, ["let mut tasks = tasks;"] * has_tasks + [call("hedge", ["tasks"] * has_tasks)], has_tasks)]
     elif form == "one":
-        made = around(inner, "Server").replace(f"{WARES[outer][2]}.", "inside.") if WARES[outer][2] else around(inner, "Server")
+        made = re.sub(rf"\b{WARES[outer][2] or 'no_pool'}\.", "inside.", around(inner, "Server"))
         pools = [it for it in ("inside", "spawned", "tasks") if f"{it}." in made + WARES[outer][0]]
         lines = [f"let inner = {made};", call(around(outer, "inner"), pools)]
     elif inner == "buffer":
@@ -142,7 +146,8 @@ def crate_of(pairs):
     needs."""
     texts = {it: written(*it) for it in pairs}
     text = "\n".join(dict.fromkeys(part for parts in texts.values() for part in parts))
-    used = text.replace(".block_on_call", " BlockOnExt").replace(".oneshot", " ServiceExt").replace("filter::", " filter ")
+    used = text.replace(".block_on_call", " BlockOnExt").replace(".oneshot", " ServiceExt")
+    used = used.replace("filter::", " filter ")
     uses = (HERE / "uses.txt").read_text(encoding="utf-8").splitlines()
     uses = "\n".join(it for it in uses if re.search(rf"\b{it.strip(' ;').rpartition('::')[2]}\b", used))
     ghost = "ghost use Rattle.std.specs.Prelude.{◌≡◌};\n\n" * ("≡" in text)
@@ -156,8 +161,8 @@ def check(folder, pairs):
     message."""
     files, names = crate_of(pairs)
     crate = listed(folder, CRATE, ": tower futures thiserror", files)
-    how = {"stdin": subprocess.DEVNULL, "stdout": subprocess.PIPE, "stderr": subprocess.STDOUT, "text": True, "errors": "replace"}
-    ran = subprocess.run(["bash", "-c", f"ulimit -t {SECONDS}; exec rt check"], cwd=crate, check=False, **how)
+    words = ["bash", "-c", f"ulimit -t {SECONDS}; exec rt check < /dev/null 2>&1"]
+    ran = subprocess.run(words, cwd=crate, stdout=subprocess.PIPE, errors="replace", check=False)
     Path(f"{folder}/{CRATE}.log").write_text(ran.stdout, encoding="utf-8")
     if not re.search(r"^logic=(not-)?proved", ran.stdout, re.M):
         # The check ended before any proof, with messages about lines.
@@ -166,7 +171,7 @@ def check(folder, pairs):
         for line, said in re.findall(r"^src/lib\.rt:(\d+):\d+: (error.*)", ran.stdout, re.M):
             at = next(it[1] for it in reversed(heads[: int(line)]) if it)
             found |= {pair: said for pair in pairs if at in names[pair] and pair not in found}
-        errors = re.findall(r"^.*error.*", ran.stdout, re.M) or [f"the check doesn't end in {SECONDS} processor seconds"]
+        errors = [*re.findall(r"^.*error.*", ran.stdout, re.M), f"the check doesn't end in {SECONDS} processor seconds"]
         return found if found or len(pairs) > 1 else {pairs[0]: errors[0]}
     told = dict(re.findall(rf"^\w+ {CRATE}::(\S+): (?:proved(?:, may wait)?$)?(.*)", ran.stdout, re.M))
     if any(said for it, said in told.items() if it.startswith("parts::")):
@@ -181,8 +186,9 @@ def table(state):
         cells = []
         for inner in WARES:
             done = state.get(f"{outer}_over_{inner}", {})
-            is_any = "hedge" in (outer, inner) or done.get("one")
-            cell = "-" if is_excluded(outer, inner) else "not run" if not done else "no" if all(done.values()) else "any" if is_any else "yes"
+            cell = "any" if "hedge" in (outer, inner) or done.get("one") else "yes"
+            cell = "no" if all(done.values()) else cell
+            cell = "-" if is_excluded(outer, inner) else cell if done else "not run"
             for said in filter(None, done.values()):
                 said = re.sub(r"no proof: (expected .*? in \S+; )?|src/lib\.rt:\d+:\d+: ", "", said)
                 said = re.sub(r"\b\w+_(over_\w+|around|beside|made|whole|parts)\b", "..", said)
@@ -201,7 +207,8 @@ def main(folder, *words):
     wanted = [it for it in pairs if any(word in "_over_".join(it) for word in words or [""])]
     for form in ("one", "more"):
         known = {it: state.get("_over_".join(it), {}) for it in wanted}
-        left = [(*it, form) for it in wanted if form not in known[it] and (form == "one" or known[it].get("one") and "hedge" not in it)]
+        left = [it for it in wanted if form == "one" or known[it].get("one") and "hedge" not in it]
+        left = [(*it, form) for it in left if form not in known[it]]
         batches = [left[at : at + BATCH] for at in range(0, len(left), BATCH)]
         while batches:
             batch = batches.pop(0)
@@ -209,7 +216,8 @@ def main(folder, *words):
             for (outer, inner, _), said in found.items():
                 state.setdefault(f"{outer}_over_{inner}", {})[form] = said
             kept.write_text(json.dumps(state, indent=1), encoding="utf-8")
-            print(f"{len(batch)} pairs from {'_over_'.join(batch[0][:2])} on: {list(found.values()).count('')} proved", flush=True)
+            proved = list(found.values()).count("")
+            print(f"{len(batch)} pairs from {'_over_'.join(batch[0][:2])} on: {proved} proved", flush=True)
             # What wasn't decided is checked without what was, or in halves.
             rest = [it for it in batch if it not in found]
             half = len(rest) if found else len(rest) // 2

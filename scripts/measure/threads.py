@@ -22,7 +22,8 @@ STORM = str(ROOT / "crates/tower_run_cli/out/tower_run_cli")
 
 def times(*words):
     """The milliseconds of each line that the program prints."""
-    return [(name, int(micros) / 1000) for name, micros in re.findall(r"^(.*): sum .*, (\d+) us$", output(*words), re.M)]
+    told = re.findall(r"^(.*): sum .*, (\d+) us$", output(*words), re.M)
+    return [(name, int(micros) / 1000) for name, micros in told]
 
 
 def storm(threads):
@@ -44,9 +45,10 @@ def main(rust, busy="0"):
         for threads in (1, 2, 4, 8):
             ours, theirs, words = defaultdict(list), defaultdict(list), (str(CALLS), str(threads))
             for _ in range(RUNS):
-                for runs, found in ((ours, times(OURS, *words) + storm(threads)), (theirs, times(rust, "threads", *words))):
-                    for name, milliseconds in found:
-                        runs[name].append(milliseconds)
+                for name, milliseconds in times(OURS, *words) + storm(threads):
+                    ours[name].append(milliseconds)
+                for name, milliseconds in times(rust, "threads", *words):
+                    theirs[name].append(milliseconds)
             for name, runs in ours.items():
                 ratio = statistics.median(runs) / statistics.median(theirs[name])
                 row(name, threads, shown(runs), shown(theirs[name]), f"{ratio:.1f}")

@@ -28,7 +28,7 @@ sed -i 's/FuturesOrdered::push_back(/FuturesOrdered::push(/' tower/src/util/call
 sed -i 's/pub const fn new() -> Self/pub fn new() -> Self/' tower/src/builder/mod.rs
 sed -i '/^#!\[warn(/,/^)\]/d' tower/src/lib.rs
 cp "$here/tower.toml" tower/Cargo.toml
-printf '[source.crates-io]\nreplace-with = "debian"\n[source.debian]\ndirectory = "debian/usr/share/cargo/registry"\n' >.cargo/config.toml
+cp "$here/registry.toml" .cargo/config.toml
 cp -r "$here/Cargo.toml" "$here/src" "$here/sync_wrapper" .
 # As the Rust columns of docs/SPEED.md were built.
 RUSTFLAGS="-C target-cpu=x86-64-v2" cargo build --release --offline
