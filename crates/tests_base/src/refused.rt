@@ -1,5 +1,5 @@
 //! Refused memory: a run by `drive`. Here and in the other crates of tests, `refused_..` pass whichever one allocation is refused, and
-//! `ample_..`, which make the same calls, if none is. `scripts/refused.sh` refuses one after another.
+//! `ample_..`, which make the same calls, if none is. `scripts/refused.py` refuses one after another.
 
 use futures::task::Solo;
 use std::alloc::{AllocError, AllocGlobal, Global};
