@@ -138,7 +138,7 @@ module _ (max held : ℕ) (old new : WaitQueue) where
       record { fits = omega (arith, f.fits, n.0); full = λ some. omega (arith, f.full (omega (arith, some, n.1)), n.0) }
 
   pub waits_on_fits : Fits max held old → (key : ℕ) → Follows old (λ p q. Looks p key IsWaiting q) new → Fits max held new
-  waits_on_fits f key follows = same_fits f (saw_ungranted old new key follows).1
+  waits_on_fits f key follows = same_fits f (saw_waiting old new key follows).1
 
   pub nobody_fits : Fits max held old → (key : ℕ) → Follows old (λ p q. Looks p key HasNobody q) new → Fits max held new
   nobody_fits f key follows = same_fits f (saw_nobody old new key follows)
