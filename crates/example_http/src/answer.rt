@@ -23,6 +23,15 @@ impl From<http::Error> for Failure {
     }
 }
 
+impl<E: StackError + Drop> From<load_shed::Error<E>> for Failure {
+    fn from(error: load_shed::Error<E>) -> Failure {
+        match error.refusal() {
+            Some(refusal) => Failure::Refused(refusal),
+            None => Failure::NoResponse,
+        }
+    }
+}
+
 /// Passes a response on. Turns `Overloaded` into a 503 and `Elapsed` into a 504. Any other error ends the
 /// connection.
 pub fn respond<E: StackError + Drop>(
@@ -36,8 +45,7 @@ pub fn respond<E: StackError + Drop>(
     match error.refusal() {
         Some(Refusal::Overloaded) => Ok(busy(alloc)?),
         Some(Refusal::Elapsed) => Ok(text(alloc, StatusCode::GATEWAY_TIMEOUT, "too slow")?),
-        Some(refusal) => Err(Failure::Refused(refusal)),
-        None => Err(Failure::NoResponse),
+        _ => Err(Failure::from(error)),
     }
 }
 
