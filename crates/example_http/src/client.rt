@@ -76,8 +76,33 @@ pub type Timely<I, C> = Timeout<Client<SendRequest<Empty<Bytes>, I>>, C>;
 /// The future of an answer.
 type Answered<I, C> = Page<Oneshot<Timely<I, C>, Request<Empty<Bytes>>>, I>;
 
-/// The future of a connection and an answer.
-pub type Asked<I, C> = Join<Connection<I, Empty<Bytes>>, Answered<I, C>, hyper::Result<()>, Answer>;
+// The future of a connection and an answer.
+type Both<I, C> = Join<Connection<I, Empty<Bytes>>, Answered<I, C>, hyper::Result<()>, Answer>;
+
+/// A connection, and the answer that comes over it. (A type of its own, since the check doesn't end at the
+/// whole type in a function that names it twice.)
+#[derive(Drop)]
+pub struct Conversation<I: AsyncRead + AsyncWrite, C: Clock> {
+    both: Both<I, C>,
+}
+
+impl<I: AsyncRead + AsyncWrite, C: Clock> Conversation<I, C> {
+    fn new(both: Both<I, C>) -> Conversation<I, C>
+        ensures { result.both ≡ both }
+    {
+        Conversation { both }
+    }
+}
+
+impl<I: AsyncRead + AsyncWrite, C: Clock> Future for Conversation<I, C> {
+    type Output = (hyper::Result<()>, Answer);
+
+    ghost can_poll = { λ talk. ⟦<Both<I, C> as Future>⟧.can_poll talk.both };
+
+    fn poll(&mut self, cx: &mut Context<'_>) -> Poll<(hyper::Result<()>, Answer)> {
+        self.both.poll(cx)
+    }
+}
 
 /// Asks for one page over each connection.
 #[derive(Drop)]
@@ -92,18 +117,22 @@ impl<C> Asker<C> {
 }
 
 impl<I: AsyncRead + AsyncWrite, C: Clock> Party<I> for Asker<C> {
-    type Talk = Asked<I, C>;
+    type Talk = Conversation<I, C>;
 
     ghost can_talk = { λ _. ⊤ };
 
-    fn talk<R: RandomSource + AllocGlobal>(&self, rt: &R, io: I) -> anyhow::Result<Asked<I, C>> {
+    fn talk<R: RandomSource + AllocGlobal>(
+        &self,
+        rt: &R,
+        io: I,
+    ) -> anyhow::Result<Conversation<I, C>> {
         let (sender, connection) = http1::handshake(rt.alloc(), RandomState::new(rt)?, io)?;
         let client = Timeout::new(Client::new(sender), LONGEST, self.clock.share());
         let request = Request::get(rt.alloc(), "/slow/50")
             .header(HOST, "h")
             .body(Empty::new())?;
         let page = Page::new(rt.alloc(), Oneshot::new(client, request));
-        Ok(join(connection, page))
+        Ok(Conversation::new(join(connection, page)))
     }
 }
 

@@ -1,7 +1,7 @@
 //! Connections in memory, which share one stack.
 ghost use Rattle.std.specs.Prelude.{◌≡◌, IfOk};
 
-use crate::client::{Answer, Asked, Asker};
+use crate::client::{Answer, Asker, Conversation};
 use crate::pipe::{Fault, Pipe};
 use futures::executor::TaskSet;
 use futures::future::{self, Future, Join, join};
@@ -161,6 +161,32 @@ where
 
 /// Serves a crowd, one of whose reads or writes may fail, and then one of five, which are all served if all
 /// permits are back.
+fn both_crowds<R, Q, T, V, H, K, A>(
+    rt: &R,
+    tasks: &mut ClockLoop<Q>,
+    host: &H,
+    client: &A,
+    connections: u64,
+    fault: u64,
+) -> anyhow::Result<()>
+where
+    R: Wait + RandomSource + AllocGlobal + Print,
+    Q: rt::Clock + Copy,
+    T: From<Pipe>,
+    V: Future<Output = hyper::Result<()>>,
+    H: Party<T, Talk = V>,
+    K: Future<Output = (hyper::Result<()>, Answer)>,
+    A: Party<Pipe, Talk = K>,
+    requires host { H.can_talk host.now }
+    requires client { A.can_talk client.now }
+{
+    let fault = Rc::new(rt.alloc(), Cell::new(fault))?;
+    crowd::<R, Q, T, V, H, K, A>(rt, tasks, host, client, connections, &fault)?;
+    fault.set(0);
+    crowd::<R, Q, T, V, H, K, A>(rt, tasks, host, client, 5, &fault)
+}
+
+/// Serves both crowds for clients of its own.
 pub fn crowds<R, Q, T, V, H>(
     rt: &R,
     tasks: &mut ClockLoop<Q>,
@@ -177,17 +203,12 @@ where
     requires { H.can_talk host.now }
 {
     let client = Asker::new(tasks.clock());
-    let fault = Rc::new(rt.alloc(), Cell::new(fault))?;
-    crowd::<R, Q, T, V, H, Asked<Pipe, LoopClock<Q>>, Asker<LoopClock<Q>>>(
+    both_crowds::<R, Q, T, V, H, Conversation<Pipe, LoopClock<Q>>, Asker<LoopClock<Q>>>(
         rt,
         tasks,
         host,
         &client,
         connections,
-        &fault,
-    )?;
-    fault.set(0);
-    crowd::<R, Q, T, V, H, Asked<Pipe, LoopClock<Q>>, Asker<LoopClock<Q>>>(
-        rt, tasks, host, &client, 5, &fault,
+        fault,
     )
 }
