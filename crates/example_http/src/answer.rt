@@ -38,14 +38,16 @@ pub fn respond<E: StackError + Drop>(
     alloc: Global,
     outcome: Result<Response<Page>, load_shed::Error<E>>,
 ) -> Result<Response<Page>, Failure> {
-    let error = match outcome {
+    let failure = match outcome {
         Ok(response) => return Ok(response),
-        Err(error) => error,
+        Err(error) => Failure::from(error),
     };
-    match error.refusal() {
-        Some(Refusal::Overloaded) => Ok(busy(alloc)?),
-        Some(Refusal::Elapsed) => Ok(text(alloc, StatusCode::GATEWAY_TIMEOUT, "too slow")?),
-        _ => Err(Failure::from(error)),
+    match failure {
+        Failure::Refused(Refusal::Overloaded) => Ok(busy(alloc)?),
+        Failure::Refused(Refusal::Elapsed) => {
+            Ok(text(alloc, StatusCode::GATEWAY_TIMEOUT, "too slow")?)
+        }
+        _ => Err(failure),
     }
 }
 

@@ -3,7 +3,6 @@ ghost use Rattle.std.specs.Prelude.{◌≡◌, IfOk};
 ghost use Rattle.hyper.specs.ServerDispatch.{IsNewFor};
 
 use crate::answer::Failure;
-use crate::crowd::Party;
 use crate::page::Page;
 use futures::future::Future;
 use hyper::body::Incoming;
@@ -66,6 +65,19 @@ where
     Ok(http.serve_connection(io, TowerToHyperService::new(stack)))
 }
 
+/// What serves connections.
+pub trait Serves<I> {
+    type Served: Future<Output = hyper::Result<()>>;
+
+    // Connections may be served.
+    ghost can_serve: { Self → Type 0 };
+
+    /// Returns a future that serves the connection until it is closed.
+    fn serves<R: RandomSource + AllocGlobal>(&self, rt: &R, io: I) -> io::Result<Self::Served>
+        requires { can_serve self.now }
+        ensures { IfOk result Self.Served.can_poll };
+}
+
 /// A stack whose clones answer the requests of all connections.
 #[derive(Drop)]
 pub struct OneStack<S> {
@@ -80,16 +92,16 @@ impl<S> OneStack<S> {
     }
 }
 
-impl<I, S> Party<I> for OneStack<S>
+impl<I, S> Serves<I> for OneStack<S>
 where
     I: AsyncRead + AsyncWrite,
     S: Service<Request<Incoming<I>>, Response = Response<Page>, Error = Failure> + Clone,
 {
-    type Talk = Served<I, S>;
+    type Served = Served<I, S>;
 
-    ghost can_talk = { λ one. S.sound one.stack × ((old new : S) → S.is_clone old new → S.sound old → S.sound new) };
+    ghost can_serve = { λ one. S.sound one.stack × ((old new : S) → S.is_clone old new → S.sound old → S.sound new) };
 
-    fn talk<R: RandomSource + AllocGlobal>(&self, rt: &R, io: I) -> anyhow::Result<Served<I, S>> {
-        Ok(served(rt, io, self.stack.clone()?)?)
+    fn serves<R: RandomSource + AllocGlobal>(&self, rt: &R, io: I) -> io::Result<Served<I, S>> {
+        served(rt, io, self.stack.clone()?)
     }
 }

@@ -1,7 +1,8 @@
 //! Connections in memory, which share one stack.
 ghost use Rattle.std.specs.Prelude.{◌≡◌, IfOk};
 
-use crate::client::{Answer, Asker, Conversation};
+use crate::client::{Answer, Client};
+use crate::connection::Serves;
 use crate::pipe::{Fault, Pipe};
 use futures::executor::TaskSet;
 use futures::future::{self, Future, Join, join};
@@ -14,20 +15,7 @@ use std::rc::Rc;
 use std::rt;
 use std::sync::Wait;
 use tokio::io::duplex;
-use tower_time::{ClockLoop, LoopClock};
-
-/// What stands at one end of each of many connections.
-pub trait Party<I> {
-    type Talk: Future;
-
-    // It may take an end of a connection.
-    ghost can_talk: { Self → Type 0 };
-
-    /// Returns a future that talks until the connection is closed.
-    fn talk<R: RandomSource + AllocGlobal>(&self, rt: &R, io: I) -> anyhow::Result<Self::Talk>
-        requires { can_talk self.now }
-        ensures { IfOk result Self.Talk.can_poll };
-}
+use tower_time::ClockLoop;
 
 // The bytes that a pipe holds in each direction. A response needs several writes.
 const PIPE: usize = 64;
@@ -73,66 +61,61 @@ impl Tally {
     }
 }
 
-// Both ends of a connection, and where the client's answer is noted.
+// A connection and its client, and where the client's answer is noted.
 #[derive(Drop)]
-struct Noted<F> {
+struct Talk<F> {
     both: F,
     tally: Rc<Tally>,
 }
 
-impl<F> Noted<F> {
-    fn new(both: F, tally: Rc<Tally>) -> Noted<F>
+impl<F> Talk<F> {
+    fn new(both: F, tally: Rc<Tally>) -> Talk<F>
         ensures { result.both ≡ both }
     {
-        Noted { both, tally }
+        Talk { both, tally }
     }
 }
 
-impl<F: Future<Output = (hyper::Result<()>, (hyper::Result<()>, Answer))>> Future for Noted<F> {
+impl<F: Future<Output = (hyper::Result<()>, Answer)>> Future for Talk<F> {
     type Output = ();
 
-    ghost can_poll = { λ noted. F.can_poll noted.both };
+    ghost can_poll = { λ talk. F.can_poll talk.both };
 
-    ghost needs = { λ noted. F.needs noted.both };
+    ghost needs = { λ talk. F.needs talk.both };
 
     fn poll(&mut self, cx: &mut Context<'_>) -> Poll<()> {
-        let (_served, (_ended, answer)) = ready!(self.both.poll(cx));
+        let (_ended, answer) = ready!(self.both.poll(cx));
         self.tally.note(answer);
         Poll::Ready(())
     }
 }
 
-// A connection in memory, and its two ends.
-fn connect<R, T, V, H, K, A>(
+// A connection in memory and its client. The client makes one request.
+fn connect<R, T, V, H>(
     rt: &R,
     host: &H,
-    client: &A,
     fault: &Fault,
     tally: &Rc<Tally>,
-) -> anyhow::Result<Noted<Join<V, K, hyper::Result<()>, (hyper::Result<()>, Answer)>>>
+) -> anyhow::Result<Talk<Join<V, Client<Pipe>, hyper::Result<()>, Answer>>>
 where
     R: RandomSource + AllocGlobal,
     T: From<Pipe>,
     V: Future<Output = hyper::Result<()>>,
-    H: Party<T, Talk = V>,
-    K: Future<Output = (hyper::Result<()>, Answer)>,
-    A: Party<Pipe, Talk = K>,
-    requires host { H.can_talk host.now }
-    requires client { A.can_talk client.now }
-    ensures { IfOk result ⟦<Noted<Join<V, K, hyper::Result<()>, (hyper::Result<()>, Answer)>> as Future>⟧.can_poll }
+    H: Serves<T, Served = V>,
+    requires { H.can_serve host.now }
+    ensures { IfOk result ⟦<Talk<Join<V, Client<Pipe>, hyper::Result<()>, Answer>> as Future>⟧.can_poll }
 {
     let (near, far) = duplex(rt.alloc(), PIPE)?;
-    let asked = client.talk(rt, Pipe::new(near, fault.clone()?))?;
-    let served = host.talk(rt, T::from(Pipe::new(far, fault.clone()?)))?;
-    Ok(Noted::new(join(served, asked), tally.clone()?))
+    let client = Client::new(rt.alloc(), Pipe::new(near, fault.clone()?));
+    let server = host.serves(rt, T::from(Pipe::new(far, fault.clone()?)))?;
+    Ok(Talk::new(join(server, client), tally.clone()?))
 }
 
 /// Serves so many connections at once, each of which makes one request, and prints how they were answered.
-fn crowd<R, Q, T, V, H, K, A>(
+pub fn crowd<R, Q, T, V, H>(
     rt: &R,
     tasks: &mut ClockLoop<Q>,
     host: &H,
-    client: &A,
     connections: u64,
     fault: &Fault,
 ) -> anyhow::Result<()>
@@ -141,16 +124,13 @@ where
     Q: rt::Clock + Copy,
     T: From<Pipe>,
     V: Future<Output = hyper::Result<()>>,
-    H: Party<T, Talk = V>,
-    K: Future<Output = (hyper::Result<()>, Answer)>,
-    A: Party<Pipe, Talk = K>,
-    requires host { H.can_talk host.now }
-    requires client { A.can_talk client.now }
+    H: Serves<T, Served = V>,
+    requires { H.can_serve host.now }
 {
     let tally = Rc::new(rt.alloc(), Tally::new())?;
     let talks = TaskSet::new(rt, Doorbell::parking(), 1)?;
     for _ in 0..connections {
-        let talk = connect::<R, T, V, H, K, A>(rt, host, client, fault, &tally)?;
+        let talk = connect::<R, T, V, H>(rt, host, fault, &tally)?;
         if talks.spawn(talk).is_err() {
             return Err(AllocError.into());
         }
@@ -161,32 +141,6 @@ where
 
 /// Serves a crowd, one of whose reads or writes may fail, and then one of five, which are all served if all
 /// permits are back.
-fn both_crowds<R, Q, T, V, H, K, A>(
-    rt: &R,
-    tasks: &mut ClockLoop<Q>,
-    host: &H,
-    client: &A,
-    connections: u64,
-    fault: u64,
-) -> anyhow::Result<()>
-where
-    R: Wait + RandomSource + AllocGlobal + Print,
-    Q: rt::Clock + Copy,
-    T: From<Pipe>,
-    V: Future<Output = hyper::Result<()>>,
-    H: Party<T, Talk = V>,
-    K: Future<Output = (hyper::Result<()>, Answer)>,
-    A: Party<Pipe, Talk = K>,
-    requires host { H.can_talk host.now }
-    requires client { A.can_talk client.now }
-{
-    let fault = Rc::new(rt.alloc(), Cell::new(fault))?;
-    crowd::<R, Q, T, V, H, K, A>(rt, tasks, host, client, connections, &fault)?;
-    fault.set(0);
-    crowd::<R, Q, T, V, H, K, A>(rt, tasks, host, client, 5, &fault)
-}
-
-/// Serves both crowds for clients of its own.
 pub fn crowds<R, Q, T, V, H>(
     rt: &R,
     tasks: &mut ClockLoop<Q>,
@@ -199,16 +153,11 @@ where
     Q: rt::Clock + Copy,
     T: From<Pipe>,
     V: Future<Output = hyper::Result<()>>,
-    H: Party<T, Talk = V>,
-    requires { H.can_talk host.now }
+    H: Serves<T, Served = V>,
+    requires { H.can_serve host.now }
 {
-    let client = Asker::new(tasks.clock());
-    both_crowds::<R, Q, T, V, H, Conversation<Pipe, LoopClock<Q>>, Asker<LoopClock<Q>>>(
-        rt,
-        tasks,
-        host,
-        &client,
-        connections,
-        fault,
-    )
+    let fault = Rc::new(rt.alloc(), Cell::new(fault))?;
+    crowd::<R, Q, T, V, H>(rt, tasks, host, connections, &fault)?;
+    fault.set(0);
+    crowd::<R, Q, T, V, H>(rt, tasks, host, 5, &fault)
 }

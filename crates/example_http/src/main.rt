@@ -1,16 +1,15 @@
 //! An HTTP/1.1 server over standard input and output, as inetd or a socket unit runs it: one process for
 //! each connection. The kit's `hyper` serves the connection, and a stack of `tower` answers the requests.
 //!
-//! The body of each request is read before its response, up to 1 MiB, so that the connection goes on. If it
-//! is longer, the connection ends with a 413, and a client that still sends may be reset before it has read
-//! that. So it may be if its request was refused (503) or too slow (504).
+//! A body that no handler reads is read all the same before its response, up to 1 MiB, so that the
+//! connection goes on. Past that the connection ends with the response, and a client that still sends may
+//! be reset before it has read it. So it may be if its request was refused (503) or too slow (504).
 //!
 //! `example_http crowd N` serves N connections in memory at once in place of that, which share one stack,
 //! and prints how they were answered. `example_http crowd N F` has the Fth of their reads and writes fail.
 #![tactic(auto)]
 
 mod answer;
-mod asked;
 mod client;
 mod connection;
 mod crowd;
@@ -20,6 +19,7 @@ mod pipe;
 mod reply;
 mod routes;
 mod stack;
+mod stdio;
 mod stream;
 mod visits;
 
@@ -27,6 +27,7 @@ use mode::Mode;
 use routes::Routes;
 use stack::answer_all;
 use std::rc::Rc;
+use stdio::Stdio;
 use stream::Stream;
 use tower_time::ClockLoop;
 use visits::Visits;
@@ -36,7 +37,7 @@ fn main(rt: HostRuntime) -> anyhow::Result<()> {
     let mut tasks = ClockLoop::new(rt, &rt)?;
     let visits = Rc::new(rt.alloc(), Visits::new())?;
     let routes = Routes::new(rt.alloc(), tasks.clock(), visits.clone()?);
-    let stream = Stream::Standard(rt.stdin(), rt.stdout());
+    let stream = Stream::Standard(Stdio::new(rt.stdin(), rt.stdout()));
     answer_all(&rt, &mut tasks, stream, routes, mode)?;
     match mode {
         Mode::Standard => Ok(()),

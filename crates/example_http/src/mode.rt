@@ -48,7 +48,7 @@ impl Mode {
 
 fn number(word: Option<String>) -> u64 {
     match word {
-        Some(word) => word.as_str().parse().ok().unwrap_or(0),
+        Some(word) => word.as_str().parse().unwrap_or(0),
         None => 0,
     }
 }
