@@ -74,9 +74,9 @@ def check(address):
     for text in UNFINISHED:
         with socket.create_connection(address, WAIT) as it:
             it.sendall(text)  # and hangs up
-    for path, status in (("/length", 413), ("/nowhere", 404)):
+    for path in ("/length", "/nowhere"):
         with contextlib.suppress(OSError):  # a body longer than what the program reads: its client may be reset
-            assert answer(HTTPConnection(*address, WAIT), path, b"x" * 1_100_000)[0] == status, path
+            assert answer(HTTPConnection(*address, WAIT), path, b"x" * 1_100_000)[0] == 413, path
     alone = lambda path: answer(HTTPConnection(*address, WAIT), path, connection="close")
     assert [alone(f"/square/{side}") for side in range(200)] == [(200, f"{side * side}\n") for side in range(200)]
     with ThreadPoolExecutor(20) as at_once:

@@ -38,16 +38,14 @@ pub fn respond<E: StackError + Drop>(
     alloc: Global,
     outcome: Result<Response<Page>, load_shed::Error<E>>,
 ) -> Result<Response<Page>, Failure> {
-    let failure = match outcome {
+    let error = match outcome {
         Ok(response) => return Ok(response),
-        Err(error) => Failure::from(error),
+        Err(error) => error,
     };
-    match failure {
-        Failure::Refused(Refusal::Overloaded) => Ok(busy(alloc)?),
-        Failure::Refused(Refusal::Elapsed) => {
-            Ok(text(alloc, StatusCode::GATEWAY_TIMEOUT, "too slow")?)
-        }
-        _ => Err(failure),
+    match error.refusal() {
+        Some(Refusal::Overloaded) => Ok(busy(alloc)?),
+        Some(Refusal::Elapsed) => Ok(text(alloc, StatusCode::GATEWAY_TIMEOUT, "too slow")?),
+        _ => Err(Failure::from(error)),
     }
 }
 

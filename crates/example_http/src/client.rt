@@ -1,99 +1,151 @@
-//! A client that makes one request, and takes note of what it is answered.
-ghost use Rattle.futures.specs.Poll.{OnPending};
-ghost use Rattle.futures.specs.Task.{IsArmed, Keeps};
+//! A client: a timeout stands in front of a connection of the kit's `hyper`. The other end of the connection
+//! is in the same thread, over a connection in memory.
 
-use futures::future::Future;
-use futures::ready;
-use futures::task::{Context, Poll};
-use std::alloc::Global;
-use tokio::io::{AsyncRead, AsyncWrite};
+mod requests;
+mod whole;
 
-const REQUEST: &[u8] = b"GET /slow/50 HTTP/1.1\r\nhost: h\r\nconnection: close\r\n\r\n";
+use crate::raw_peer::RawPeer;
+use bytes::Bytes;
+use futures::StreamExt;
+use futures::future::{Future, join};
+use http_body_util::{Collected, Empty};
+use hyper::body::Incoming;
+use hyper::client::conn::http1;
+use hyper::header::HOST;
+use hyper::{Request, Response, StatusCode};
+use requests::Requests;
+use std::alloc::{AllocGlobal, Global};
+use std::fmt::Display;
+use std::hash::RandomState;
+use std::random::RandomSource;
+use std::rt;
+use std::sync::Wait;
+use tokio::io::{AsyncRead, AsyncWrite, duplex};
+use tower::{Service, ServiceBuilder, ServiceExt};
+use tower_hyper::client::Client;
+use tower_time::ClockLoop;
+use whole::Whole;
 
-const SERVED: &[u8] =
-    b"HTTP/1.1 200 OK\r\ncontent-type: text/plain\r\ncontent-length: 8\r\nconnection: close\r\n\r\nat last\n";
+// The last page never comes. Its response is dropped then, and that ends the connection.
+const PATHS: [&str; 3] = ["/", "/long", "/late"];
 
-const BUSY: &[u8] =
-    b"HTTP/1.1 503 Service Unavailable\r\ncontent-type: text/plain\r\nretry-after: 1\r\ncontent-length: 5\r\nconnection: close\r\n\r\nbusy\n";
+const NOTHING: &[u8] = b"";
 
-/// What came before the end of the connection.
-#[derive(Clone, Copy, PartialEq, Eq)]
-pub enum Answer {
-    /// The whole page.
-    Served,
-    /// The whole 503.
-    Busy,
-    /// A first part of one of the two, or nothing.
-    Broken,
-    /// Anything else.
-    Wrong,
+const HERE: &[u8] = b"HTTP/1.1 200 OK\r\ncontent-length: 5\r\n\r\nhere\n";
+
+// It needs several writes of the connection in memory.
+const LONG: &[u8] =
+    b"HTTP/1.1 200 OK\r\ncontent-length: 108\r\n\r\nHere is a page of more than a hundred bytes, so that it comes in more than one piece, since a piece has 64.\n";
+
+/// Asks for three pages over a connection in memory, one after another, and prints the answers.
+pub fn run<R, Q>(rt: &R, tasks: &mut ClockLoop<Q>) -> anyhow::Result<()>
+where
+    R: Wait + RandomSource + AllocGlobal + Print,
+    Q: rt::Clock + Copy,
+{
+    let (near, far) = duplex(rt.alloc(), 64)?;
+    let answers = vec![in rt.alloc(); HERE, LONG]?;
+    let peer = RawPeer::new(rt.alloc(), far, NOTHING, answers);
+    connect(rt, tasks, near, peer)
 }
 
-/// The future of an answer.
-#[derive(Drop)]
-pub struct Client<I> {
-    stream: I,
-    // What is left of the request.
-    request: &'static [u8],
-    came: Vec<u8>,
+// Connects a client over the stream. The peer at the stream's other end is polled meanwhile.
+fn connect<R, Q, I, F>(rt: &R, tasks: &mut ClockLoop<Q>, stream: I, peer: F) -> anyhow::Result<()>
+where
+    R: Wait + RandomSource + AllocGlobal + Print,
+    Q: rt::Clock + Copy,
+    I: AsyncRead + AsyncWrite,
+    F: Future<Output: Drop>,
+    requires { F.can_poll peer }
+{
+    let (sender, connection) = http1::handshake(rt.alloc(), RandomState::new(rt)?, stream)?;
+    ask(rt, tasks, Client::new(sender), join(connection, peer))
 }
 
-impl<I> Client<I> {
-    pub fn new(alloc: Global, stream: I) -> Client<I> {
-        Client {
-            stream,
-            request: REQUEST,
-            came: Vec::new(alloc),
-        }
-    }
-
-    fn answer(&self) -> Answer {
-        let came = self.came.as_slice();
-        if came == SERVED {
-            Answer::Served
-        } else if came == BUSY {
-            Answer::Busy
-        } else if SERVED.starts_with(came) || BUSY.starts_with(came) {
-            Answer::Broken
-        } else {
-            Answer::Wrong
-        }
-    }
+// Asks for whole pages, while the connection and its peer are polled too.
+fn ask<R, Q, I, S, F>(
+    rt: &R,
+    tasks: &mut ClockLoop<Q>,
+    client: S,
+    connection: F,
+) -> anyhow::Result<()>
+where
+    R: Wait + RandomSource + AllocGlobal + Print,
+    Q: rt::Clock + Copy,
+    I: Drop,
+    S: Service<Request<Empty<Bytes>>, Response = Response<Incoming<I>>, Error = hyper::Error>,
+    F: Future<Output: Drop>,
+    requires sound { S.sound client }
+    requires polled { F.can_poll connection }
+{
+    let alloc = rt.alloc();
+    let pages = client.and_then(move |response: Response<Incoming<I>>| Whole::of(alloc, response));
+    ask_in_time(rt, tasks, pages, connection)
 }
 
-impl<I: AsyncRead + AsyncWrite> Client<I> {
-    // Writes once if something is left of the request, and else reads once. Returns whether the connection
-    // goes on.
-    fn talk(&mut self, cx: &mut Context<'_>) -> Poll<bool>
-        ensures armed { OnPending result (IsArmed cx.new) }
-        ensures kept { Keeps cx.old cx.new }
-    {
-        if !self.request.is_empty() {
-            return match ready!(self.stream.poll_write(cx, self.request)) {
-                Ok(0) | Err(_) => Poll::Ready(false),
-                Ok(count) => {
-                    self.request = &self.request[count..];
-                    Poll::Ready(true)
-                }
-            };
-        }
-        let mut room = [0u8; 512];
-        match ready!(self.stream.poll_read(cx, &mut room)) {
-            Ok(0) | Err(_) => Poll::Ready(false),
-            Ok(count) => Poll::Ready(self.came.extend_from_slice(&room[..count]).is_ok()),
-        }
-    }
+// Gives each page half a second.
+fn ask_in_time<R, Q, S, F>(
+    rt: &R,
+    tasks: &mut ClockLoop<Q>,
+    pages: S,
+    connection: F,
+) -> anyhow::Result<()>
+where
+    R: Wait + RandomSource + AllocGlobal + Print,
+    Q: rt::Clock + Copy,
+    S: Service<Request<Empty<Bytes>>, Response = (StatusCode, Collected), Error = hyper::Error>,
+    F: Future<Output: Drop>,
+    requires sound { S.sound pages }
+    requires polled { F.can_poll connection }
+{
+    let stack = ServiceBuilder::new()
+        .timeout(500_000_000, tasks.clock())
+        .service(pages)?;
+    ask_all(rt, tasks, stack, connection)
 }
 
-impl<I: AsyncRead + AsyncWrite> Future for Client<I> {
-    type Output = Answer;
+// Asks for one page after another, and prints the answers.
+fn ask_all<R, Q, S, E, F>(
+    rt: &R,
+    tasks: &mut ClockLoop<Q>,
+    stack: S,
+    connection: F,
+) -> anyhow::Result<()>
+where
+    R: Wait + RandomSource + AllocGlobal + Print,
+    Q: rt::Clock + Copy,
+    S: Service<Request<Empty<Bytes>>, Response = (StatusCode, Collected), Error = E>,
+    E: Display + Drop,
+    F: Future<Output: Drop>,
+    requires sound { S.sound stack }
+    requires polled { F.can_poll connection }
+{
+    let requests = Requests::new(gets(rt.alloc())?);
+    let answers = stack.call_all(rt.alloc(), requests).collect(rt.alloc());
+    let (answers, _ended) = tasks.block_on(rt, join(answers, connection))?;
+    print_all(rt, answers?)
+}
 
-    fn poll(&mut self, cx: &mut Context<'_>) -> Poll<Answer> {
-        for _ in 0..64 {
-            if !ready!(self.talk(cx)) {
-                return Poll::Ready(self.answer());
-            }
-        }
-        cx.yield_now()
+// The requests for the pages.
+fn gets(alloc: Global) -> anyhow::Result<Vec<Request<Empty<Bytes>>>> {
+    let mut requests = Vec::new(alloc);
+    for path in PATHS {
+        let request = Request::get(alloc, path).header(HOST, "localhost");
+        requests.push(request.body(Empty::new())?)?;
     }
+    Ok(requests)
+}
+
+fn print_all<R, E>(rt: &R, answers: Vec<Result<(StatusCode, Collected), E>>) -> anyhow::Result<()>
+where
+    R: Print,
+    E: Display + Drop,
+{
+    for answer in answers {
+        match answer {
+            Ok((status, body)) => println!(rt; "{status}: {} bytes", body.to_bytes()?.len())?,
+            Err(error) => println!(rt; "{error}")?,
+        }
+    }
+    Ok(())
 }

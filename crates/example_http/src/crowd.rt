@@ -1,9 +1,10 @@
 //! Connections in memory, which share one stack.
 ghost use Rattle.std.specs.Prelude.{◌≡◌, IfOk};
 
-use crate::client::{Answer, Client};
 use crate::connection::Serves;
 use crate::pipe::{Fault, Pipe};
+use crate::raw_peer::RawPeer;
+use crate::tally::Tally;
 use futures::executor::TaskSet;
 use futures::future::{self, Future, Join, join};
 use futures::ready;
@@ -20,46 +21,7 @@ use tower_time::ClockLoop;
 // The bytes that a pipe holds in each direction. A response needs several writes.
 const PIPE: usize = 64;
 
-/// How many connections were answered how.
-#[derive(Drop)]
-pub struct Tally {
-    served: Cell<u64>,
-    busy: Cell<u64>,
-    broken: Cell<u64>,
-    wrong: Cell<u64>,
-}
-
-impl Tally {
-    fn new() -> Tally {
-        Tally {
-            served: Cell::new(0),
-            busy: Cell::new(0),
-            broken: Cell::new(0),
-            wrong: Cell::new(0),
-        }
-    }
-
-    fn note(&self, answer: Answer) {
-        let counter = match answer {
-            Answer::Served => &self.served,
-            Answer::Busy => &self.busy,
-            Answer::Broken => &self.broken,
-            Answer::Wrong => &self.wrong,
-        };
-        counter.set(counter.get().saturating_add(1));
-    }
-
-    fn report<R: Print>(&self, rt: &R, connections: u64) -> anyhow::Result<()> {
-        println!(rt;
-            "{connections} requests: {} served, {} busy, {} broken, {} wrong",
-            self.served.get(),
-            self.busy.get(),
-            self.broken.get(),
-            self.wrong.get()
-        )?;
-        Ok(())
-    }
-}
+const REQUEST: &[u8] = b"GET /slow/50 HTTP/1.1\r\nhost: h\r\nconnection: close\r\n\r\n";
 
 // A connection and its client, and where the client's answer is noted.
 #[derive(Drop)]
@@ -76,7 +38,7 @@ impl<F> Talk<F> {
     }
 }
 
-impl<F: Future<Output = (hyper::Result<()>, Answer)>> Future for Talk<F> {
+impl<F: Future<Output = (hyper::Result<()>, Vec<u8>)>> Future for Talk<F> {
     type Output = ();
 
     ghost can_poll = { λ talk. F.can_poll talk.both };
@@ -84,8 +46,8 @@ impl<F: Future<Output = (hyper::Result<()>, Answer)>> Future for Talk<F> {
     ghost needs = { λ talk. F.needs talk.both };
 
     fn poll(&mut self, cx: &mut Context<'_>) -> Poll<()> {
-        let (_ended, answer) = ready!(self.both.poll(cx));
-        self.tally.note(answer);
+        let (_ended, came) = ready!(self.both.poll(cx));
+        self.tally.note(came.as_slice());
         Poll::Ready(())
     }
 }
@@ -96,17 +58,18 @@ fn connect<R, T, V, H>(
     host: &H,
     fault: &Fault,
     tally: &Rc<Tally>,
-) -> anyhow::Result<Talk<Join<V, Client<Pipe>, hyper::Result<()>, Answer>>>
+) -> anyhow::Result<Talk<Join<V, RawPeer<Pipe>, hyper::Result<()>, Vec<u8>>>>
 where
     R: RandomSource + AllocGlobal,
     T: From<Pipe>,
     V: Future<Output = hyper::Result<()>>,
     H: Serves<T, Served = V>,
     requires { H.can_serve host.now }
-    ensures { IfOk result ⟦<Talk<Join<V, Client<Pipe>, hyper::Result<()>, Answer>> as Future>⟧.can_poll }
+    ensures { IfOk result ⟦<Talk<Join<V, RawPeer<Pipe>, hyper::Result<()>, Vec<u8>>> as Future>⟧.can_poll }
 {
     let (near, far) = duplex(rt.alloc(), PIPE)?;
-    let client = Client::new(rt.alloc(), Pipe::new(near, fault.clone()?));
+    let near = Pipe::new(near, fault.clone()?);
+    let client = RawPeer::new(rt.alloc(), near, REQUEST, Vec::new(rt.alloc()));
     let server = host.serves(rt, T::from(Pipe::new(far, fault.clone()?)))?;
     Ok(Talk::new(join(server, client), tally.clone()?))
 }

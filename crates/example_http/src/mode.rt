@@ -19,9 +19,18 @@ use tower_time::ClockLoop;
 /// What the program is asked for by its arguments.
 #[derive(Clone, Copy)]
 pub enum Mode {
-    /// To serve one connection over standard input and output.
+    /// To ask for pages.
+    Client,
+    /// To answer requests.
+    Server(Connections),
+}
+
+/// The connections whose requests are answered.
+#[derive(Clone, Copy)]
+pub enum Connections {
+    /// One over standard input and output.
     Standard,
-    /// To serve so many connections in memory, of which one read or write may fail.
+    /// So many in memory, of which one read or write may fail.
     Crowd { connections: u64, fault: u64 },
 }
 
@@ -29,37 +38,40 @@ impl Mode {
     pub fn asked<R: Env + AllocGlobal>(rt: &R) -> io::Result<Mode> {
         let mut words = env::args(rt)?.skip(1);
         match words.next() {
-            Some(word) if word.as_str() == "crowd" => Ok(Mode::Crowd {
+            Some(word) if word.as_str() == "client" => Ok(Mode::Client),
+            Some(word) if word.as_str() == "crowd" => Ok(Mode::Server(Connections::Crowd {
                 connections: number(words.next()),
                 fault: number(words.next()),
-            }),
-            _ => Ok(Mode::Standard),
-        }
-    }
-
-    /// How many requests may be with the routes at once.
-    pub fn limit(self) -> usize {
-        match self {
-            Mode::Standard => 64,
-            Mode::Crowd { .. } => 5,
+            })),
+            _ => Ok(Mode::Server(Connections::Standard)),
         }
     }
 }
 
 fn number(word: Option<String>) -> u64 {
     match word {
-        Some(word) => word.as_str().parse().unwrap_or(0),
+        Some(word) => word.as_str().parse().ok().unwrap_or(0),
         None => 0,
     }
 }
 
-/// Does what was asked for.
+impl Connections {
+    /// How many requests may be with the routes at once.
+    pub fn limit(self) -> usize {
+        match self {
+            Connections::Standard => 64,
+            Connections::Crowd { .. } => 5,
+        }
+    }
+}
+
+/// Answers the requests of the connections by the stack.
 pub fn run<R, Q, T, S>(
     rt: &R,
     tasks: &mut ClockLoop<Q>,
     stream: T,
     stack: S,
-    mode: Mode,
+    connections: Connections,
 ) -> anyhow::Result<()>
 where
     R: Wait + RandomSource + AllocGlobal + Print,
@@ -69,12 +81,12 @@ where
     requires sound { S.sound stack }
     requires clones { (old new : S) → S.is_clone old new → S.sound old → S.sound new }
 {
-    match mode {
-        Mode::Standard => {
+    match connections {
+        Connections::Standard => {
             serve(rt, tasks, stream, stack)??;
             Ok(())
         }
-        Mode::Crowd { connections, fault } => {
+        Connections::Crowd { connections, fault } => {
             let host = OneStack::new(stack);
             crowds::<R, Q, T, Served<T, S>, OneStack<S>>(rt, tasks, &host, connections, fault)
         }

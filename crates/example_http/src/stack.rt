@@ -1,7 +1,7 @@
 //! The layers in front of the routes.
 
 use crate::answer::{Failure, respond};
-use crate::mode::{Mode, run};
+use crate::mode::{Connections, run};
 use crate::page::Page;
 use crate::pipe::Pipe;
 use hyper::body::Incoming;
@@ -18,13 +18,13 @@ use tower_time::ClockLoop;
 type Outcome<E> = Result<Response<Page>, load_shed::Error<E>>;
 
 /// Answers requests by the routes, for each of which half a second is left, and by no more at once than the
-/// mode allows.
+/// connections allow.
 pub fn answer_all<R, Q, T, S>(
     rt: &R,
     tasks: &mut ClockLoop<Q>,
     stream: T,
     routes: S,
-    mode: Mode,
+    connections: Connections,
 ) -> anyhow::Result<()>
 where
     R: Wait + RandomSource + AllocGlobal + Print + Copy,
@@ -35,10 +35,10 @@ where
     requires clones { (old new : S) → S.is_clone old new → S.sound old → S.sound new }
 {
     let limited = ServiceBuilder::new()
-        .concurrency_limit(*rt, rt.alloc(), mode.limit())
+        .concurrency_limit(*rt, rt.alloc(), connections.limit())
         .timeout(500_000_000, tasks.clock())
         .service(routes)?;
-    respond_all(rt, tasks, stream, limited, mode)
+    respond_all(rt, tasks, stream, limited, connections)
 }
 
 // Answers each request at once if the limit is reached, and tells the client of errors.
@@ -47,7 +47,7 @@ fn respond_all<R, Q, T, S, E>(
     tasks: &mut ClockLoop<Q>,
     stream: T,
     limited: S,
-    mode: Mode,
+    connections: Connections,
 ) -> anyhow::Result<()>
 where
     R: Wait + RandomSource + AllocGlobal + Print,
@@ -65,5 +65,5 @@ where
         })
         .load_shed()
         .service(limited)?;
-    run(rt, tasks, stream, stack, mode)
+    run(rt, tasks, stream, stack, connections)
 }

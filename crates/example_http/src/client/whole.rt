@@ -14,23 +14,23 @@ use tower::service::Steps;
 /// A future that reads the body of a response. Until the body was read or dropped, the connection takes no
 /// other request.
 #[derive(Drop)]
-pub struct Page<I> {
+pub struct Whole<I> {
     status: StatusCode,
     body: Collect<Incoming<I>>,
 }
 
-impl<I: Drop> Page<I> {
-    pub fn of(alloc: Global, response: Response<Incoming<I>>) -> Page<I>
+impl<I: Drop> Whole<I> {
+    pub fn of(alloc: Global, response: Response<Incoming<I>>) -> Whole<I>
         ensures { IsSome result.body.collected }
     {
-        Page {
+        Whole {
             status: response.status(),
             body: response.into_body().collect(alloc),
         }
     }
 }
 
-impl<I: Drop> Steps for Page<I> {
+impl<I: Drop> Steps for Whole<I> {
     type Output = hyper::Result<(StatusCode, Collected)>;
 
     ghost can_poll = { λ page. IsSome page.body.collected };
