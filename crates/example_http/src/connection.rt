@@ -3,8 +3,11 @@ ghost use Rattle.std.specs.Prelude.{◌≡◌, IfOk};
 ghost use Rattle.hyper.specs.ServerDispatch.{IsNewFor};
 
 use crate::answer::Failure;
+use crate::crowd::Serves;
 use crate::page::Page;
-use futures::future::Future;
+use crate::pipe::Pipe;
+use crate::raw_peer::RawPeer;
+use futures::future::{Future, Join, join};
 use hyper::body::Incoming;
 use hyper::server::conn::http1;
 use hyper::{Request, Response};
@@ -20,6 +23,9 @@ use tower_time::ClockLoop;
 
 /// The future that serves a connection.
 pub type Served<I, S> = http1::Connection<I, TowerToHyperService<S>, Page>;
+
+/// The future that serves a connection in memory, and of its client.
+pub type Talk<I, S> = Join<Served<I, S>, RawPeer<Pipe>, hyper::Result<()>, Vec<u8>>;
 
 /// Serves one connection until the client is done, and returns what `hyper` returns. The contract is `hyper`'s
 /// own (`Closes`) of a connection that was new over this IO and this stack: what was written are the responses
@@ -65,19 +71,6 @@ where
     Ok(http.serve_connection(io, TowerToHyperService::new(stack)))
 }
 
-/// What serves connections.
-pub trait Serves<I> {
-    type Served: Future<Output = hyper::Result<()>>;
-
-    // Connections may be served.
-    ghost can_serve: { Self → Type 0 };
-
-    /// Returns a future that serves the connection until it is closed.
-    fn serves<R: RandomSource + AllocGlobal>(&self, rt: &R, io: I) -> io::Result<Self::Served>
-        requires { can_serve self.now }
-        ensures { IfOk result Self.Served.can_poll };
-}
-
 /// A stack whose clones answer the requests of all connections.
 #[derive(Drop)]
 pub struct OneStack<S> {
@@ -97,11 +90,11 @@ where
     I: AsyncRead + AsyncWrite,
     S: Service<Request<Incoming<I>>, Response = Response<Page>, Error = Failure> + Clone,
 {
-    type Served = Served<I, S>;
+    type Talk = Talk<I, S>;
 
     ghost can_serve = { λ one. S.sound one.stack × ((old new : S) → S.is_clone old new → S.sound old → S.sound new) };
 
-    fn serves<R: RandomSource + AllocGlobal>(&self, rt: &R, io: I) -> io::Result<Served<I, S>> {
-        served(rt, io, self.stack.clone()?)
+    fn serve<R: RandomSource + AllocGlobal>(&self, rt: &R, io: I, client: RawPeer<Pipe>) -> io::Result<Talk<I, S>> {
+        Ok(join(served(rt, io, self.stack.clone()?)?, client))
     }
 }

@@ -1,20 +1,18 @@
 //! Connections in memory, which share one stack.
-ghost use Rattle.std.specs.Prelude.{◌≡◌, IfOk};
+ghost use Rattle.std.specs.Prelude.{IfOk};
 
-use crate::connection::Serves;
 use crate::pipe::{Fault, Pipe};
 use crate::raw_peer::RawPeer;
 use crate::tally::Tally;
-use futures::executor::TaskSet;
-use futures::future::{self, Future, Join, join};
-use futures::ready;
-use futures::task::{Context, Doorbell, Poll};
-use std::alloc::{AllocError, AllocGlobal};
+use futures::StreamExt;
+use futures::future::Future;
+use futures::stream::FuturesUnordered;
+use std::alloc::{AllocError, AllocGlobal, Global};
 use std::cell::Cell;
 use std::random::RandomSource;
 use std::rc::Rc;
-use std::rt;
 use std::sync::Wait;
+use std::{io, rt};
 use tokio::io::duplex;
 use tower_time::ClockLoop;
 
@@ -23,59 +21,30 @@ const PIPE: usize = 64;
 
 const REQUEST: &[u8] = b"GET /slow/50 HTTP/1.1\r\nhost: h\r\nconnection: close\r\n\r\n";
 
-// A connection and its client, and where the client's answer is noted.
-#[derive(Drop)]
-struct Talk<F> {
-    both: F,
-    tally: Rc<Tally>,
+/// What serves connections.
+pub trait Serves<I> {
+    /// A connection and its client, which makes one request: how the connection ended, and what the client read.
+    type Talk: Future<Output = (hyper::Result<()>, Vec<u8>)>;
+
+    // Connections may be served.
+    ghost can_serve: { Self → Type 0 };
+
+    /// Returns a future that serves the connection until both sides are done.
+    fn serve<R: RandomSource + AllocGlobal>(&self, rt: &R, io: I, client: RawPeer<Pipe>) -> io::Result<Self::Talk>
+        requires { can_serve self.now }
+        ensures { IfOk result Self.Talk.can_poll };
 }
 
-impl<F> Talk<F> {
-    fn new(both: F, tally: Rc<Tally>) -> Talk<F>
-        ensures { result.both ≡ both }
-    {
-        Talk { both, tally }
-    }
-}
-
-impl<F: Future<Output = (hyper::Result<()>, Vec<u8>)>> Future for Talk<F> {
-    type Output = ();
-
-    ghost can_poll = { λ talk. F.can_poll talk.both };
-
-    ghost needs = { λ talk. F.needs talk.both };
-
-    fn poll(&mut self, cx: &mut Context<'_>) -> Poll<()> {
-        let (_ended, came) = ready!(self.both.poll(cx));
-        self.tally.note(came.as_slice());
-        Poll::Ready(())
-    }
-}
-
-// A connection in memory and its client. The client makes one request.
-fn connect<R, T, V, H>(
-    rt: &R,
-    host: &H,
-    fault: &Fault,
-    tally: &Rc<Tally>,
-) -> anyhow::Result<Talk<Join<V, RawPeer<Pipe>, hyper::Result<()>, Vec<u8>>>>
-where
-    R: RandomSource + AllocGlobal,
-    T: From<Pipe>,
-    V: Future<Output = hyper::Result<()>>,
-    H: Serves<T, Served = V>,
-    requires { H.can_serve host.now }
-    ensures { IfOk result ⟦<Talk<Join<V, RawPeer<Pipe>, hyper::Result<()>, Vec<u8>>> as Future>⟧.can_poll }
-{
-    let (near, far) = duplex(rt.alloc(), PIPE)?;
+// The two ends of a connection in memory: a client's, which makes one request, and a server's.
+fn connect(alloc: Global, fault: &Fault) -> Result<(RawPeer<Pipe>, Pipe), AllocError> {
+    let (near, far) = duplex(alloc, PIPE)?;
     let near = Pipe::new(near, fault.clone()?);
-    let client = RawPeer::new(rt.alloc(), near, REQUEST, Vec::new(rt.alloc()));
-    let server = host.serves(rt, T::from(Pipe::new(far, fault.clone()?)))?;
-    Ok(Talk::new(join(server, client), tally.clone()?))
+    let client = RawPeer::new(alloc, near, REQUEST, Vec::new(alloc));
+    Ok((client, Pipe::new(far, fault.clone()?)))
 }
 
 /// Serves so many connections at once, each of which makes one request, and prints how they were answered.
-pub fn crowd<R, Q, T, V, H>(
+fn crowd<R, Q, T, F, H>(
     rt: &R,
     tasks: &mut ClockLoop<Q>,
     host: &H,
@@ -86,25 +55,27 @@ where
     R: Wait + RandomSource + AllocGlobal + Print,
     Q: rt::Clock + Copy,
     T: From<Pipe>,
-    V: Future<Output = hyper::Result<()>>,
-    H: Serves<T, Served = V>,
+    F: Future<Output = (hyper::Result<()>, Vec<u8>)>,
+    H: Serves<T, Talk = F>,
     requires { H.can_serve host.now }
 {
-    let tally = Rc::new(rt.alloc(), Tally::new())?;
-    let talks = TaskSet::new(rt, Doorbell::parking(), 1)?;
+    let mut talks = FuturesUnordered::new(rt.alloc())?;
     for _ in 0..connections {
-        let talk = connect::<R, T, V, H>(rt, host, fault, &tally)?;
-        if talks.spawn(talk).is_err() {
+        let (client, server) = connect(rt.alloc(), fault)?;
+        if talks.push(host.serve(rt, T::from(server), client)?).is_err() {
             return Err(AllocError.into());
         }
     }
-    tasks.block_on_with(rt, &talks, future::ready(()))?;
+    let mut tally = Tally::new();
+    for (_ended, read) in tasks.block_on(rt, talks.collect(rt.alloc()))?? {
+        tally.note(read.as_slice());
+    }
     tally.report(rt, connections)
 }
 
 /// Serves a crowd, one of whose reads or writes may fail, and then one of five, which are all served if all
 /// permits are back.
-pub fn crowds<R, Q, T, V, H>(
+pub fn crowds<R, Q, T, F, H>(
     rt: &R,
     tasks: &mut ClockLoop<Q>,
     host: &H,
@@ -115,12 +86,12 @@ where
     R: Wait + RandomSource + AllocGlobal + Print,
     Q: rt::Clock + Copy,
     T: From<Pipe>,
-    V: Future<Output = hyper::Result<()>>,
-    H: Serves<T, Served = V>,
+    F: Future<Output = (hyper::Result<()>, Vec<u8>)>,
+    H: Serves<T, Talk = F>,
     requires { H.can_serve host.now }
 {
     let fault = Rc::new(rt.alloc(), Cell::new(fault))?;
-    crowd::<R, Q, T, V, H>(rt, tasks, host, connections, &fault)?;
+    crowd::<R, Q, T, F, H>(rt, tasks, host, connections, &fault)?;
     fault.set(0);
-    crowd::<R, Q, T, V, H>(rt, tasks, host, 5, &fault)
+    crowd::<R, Q, T, F, H>(rt, tasks, host, 5, &fault)
 }

@@ -1,7 +1,7 @@
 //! What the program is asked for.
 
 use crate::answer::Failure;
-use crate::connection::{OneStack, Served, serve};
+use crate::connection::{OneStack, Talk, serve};
 use crate::crowd::crowds;
 use crate::page::Page;
 use crate::pipe::Pipe;
@@ -88,7 +88,7 @@ where
         }
         Connections::Crowd { connections, fault } => {
             let host = OneStack::new(stack);
-            crowds::<R, Q, T, Served<T, S>, OneStack<S>>(rt, tasks, &host, connections, fault)
+            crowds::<R, Q, T, Talk<T, S>, OneStack<S>>(rt, tasks, &host, connections, fault)
         }
     }
 }

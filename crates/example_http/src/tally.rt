@@ -1,7 +1,5 @@
 //! How the connections of a crowd were answered.
 
-use std::cell::Cell;
-
 const SERVED: &[u8] =
     b"HTTP/1.1 200 OK\r\ncontent-type: text/plain\r\ncontent-length: 8\r\nconnection: close\r\n\r\nat last\n";
 
@@ -36,43 +34,43 @@ impl Answer {
 }
 
 /// How many connections were answered how.
-#[derive(Drop)]
+#[derive(Clone, Copy)]
 pub struct Tally {
-    served: Cell<u64>,
-    busy: Cell<u64>,
-    broken: Cell<u64>,
-    wrong: Cell<u64>,
+    served: u64,
+    busy: u64,
+    broken: u64,
+    wrong: u64,
 }
 
 impl Tally {
     pub fn new() -> Tally {
         Tally {
-            served: Cell::new(0),
-            busy: Cell::new(0),
-            broken: Cell::new(0),
-            wrong: Cell::new(0),
+            served: 0,
+            busy: 0,
+            broken: 0,
+            wrong: 0,
         }
     }
 
     /// Counts a connection over which this came.
-    pub fn note(&self, came: &[u8]) {
+    pub fn note(&mut self, came: &[u8]) {
         let counter = match Answer::of(came) {
-            Answer::Served => &self.served,
-            Answer::Busy => &self.busy,
-            Answer::Broken => &self.broken,
-            Answer::Wrong => &self.wrong,
+            Answer::Served => &mut self.served,
+            Answer::Busy => &mut self.busy,
+            Answer::Broken => &mut self.broken,
+            Answer::Wrong => &mut self.wrong,
         };
-        counter.set(counter.get().saturating_add(1));
+        *counter = counter.saturating_add(1);
     }
 
     /// Prints how the connections were answered.
-    pub fn report<R: Print>(&self, rt: &R, connections: u64) -> anyhow::Result<()> {
+    pub fn report<R: Print>(self, rt: &R, connections: u64) -> anyhow::Result<()> {
         println!(rt;
             "{connections} requests: {} served, {} busy, {} broken, {} wrong",
-            self.served.get(),
-            self.busy.get(),
-            self.broken.get(),
-            self.wrong.get()
+            self.served,
+            self.busy,
+            self.broken,
+            self.wrong
         )?;
         Ok(())
     }
