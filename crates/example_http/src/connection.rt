@@ -94,7 +94,12 @@ where
 
     ghost can_serve = { λ one. S.sound one.stack × ((old new : S) → S.is_clone old new → S.sound old → S.sound new) };
 
-    fn serve<R: RandomSource + AllocGlobal>(&self, rt: &R, io: I, client: RawPeer<Pipe>) -> io::Result<Talk<I, S>> {
+    fn serve<R: RandomSource + AllocGlobal>(
+        &self,
+        rt: &R,
+        io: I,
+        client: RawPeer<Pipe>,
+    ) -> io::Result<Talk<I, S>> {
         Ok(join(served(rt, io, self.stack.clone()?)?, client))
     }
 }

@@ -30,7 +30,12 @@ pub trait Serves<I> {
     ghost can_serve: { Self → Type 0 };
 
     /// Returns a future that serves the connection until both sides are done.
-    fn serve<R: RandomSource + AllocGlobal>(&self, rt: &R, io: I, client: RawPeer<Pipe>) -> io::Result<Self::Talk>
+    fn serve<R: RandomSource + AllocGlobal>(
+        &self,
+        rt: &R,
+        io: I,
+        client: RawPeer<Pipe>,
+    ) -> io::Result<Self::Talk>
         requires { can_serve self.now }
         ensures { IfOk result Self.Talk.can_poll };
 }
@@ -62,7 +67,10 @@ where
     let mut talks = FuturesUnordered::new(rt.alloc())?;
     for _ in 0..connections {
         let (client, server) = connect(rt.alloc(), fault)?;
-        if talks.push(host.serve(rt, T::from(server), client)?).is_err() {
+        if talks
+            .push(host.serve(rt, T::from(server), client)?)
+            .is_err()
+        {
             return Err(AllocError.into());
         }
     }

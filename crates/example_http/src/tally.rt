@@ -67,10 +67,7 @@ impl Tally {
     pub fn report<R: Print>(self, rt: &R, connections: u64) -> anyhow::Result<()> {
         println!(rt;
             "{connections} requests: {} served, {} busy, {} broken, {} wrong",
-            self.served,
-            self.busy,
-            self.broken,
-            self.wrong
+            self.served, self.busy, self.broken, self.wrong
         )?;
         Ok(())
     }
