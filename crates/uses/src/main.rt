@@ -4,7 +4,6 @@
 
 mod attempt;
 mod balance;
-mod buffer;
 mod call_all;
 mod counted;
 mod filter;
@@ -59,7 +58,7 @@ fn main(rt: HostRuntime) -> io::Result<()> {
     load::of_pending_requests(rt)?;
     ready_cache::call_by_key(rt)?;
     balance::make_a_pool(rt)?;
-    buffer::call_beside_the_worker(rt)?;
+    queued::call_beside_the_worker(rt)?;
     spawn_ready::warm_up(rt)?;
     select::ask_a_backup(rt)?;
     hedge::ask_again(rt)?;

@@ -1,4 +1,4 @@
-//! Stacks behind a buffer: a server that sheds load, and, in `reconnect`, a connection that is made again.
+//! Stacks behind a buffer: a server, one that sheds load, and, in `reconnect`, a connection that is made again.
 //!
 //! The check covers a buffer in a function over any service, and refuses one in the function that makes
 //! the layers below it. So `queued` takes any service, and `two_at_once` any buffer.
@@ -63,6 +63,14 @@ where
         Ok((buffer, worker)) => two_at_once(rt, name, buffer, worker),
         Err(AllocError) => Err(AllocError.into()),
     }
+}
+
+/// Calls a server while the pool polls its buffer's worker. Clones of the buffer may call from elsewhere.
+pub fn call_beside_the_worker<R>(rt: R) -> io::Result<()>
+where
+    R: Wait + RandomSource + AllocGlobal + Print + Copy,
+{
+    queued(rt, "buffer", Server(1))
 }
 
 // Calls a server that takes one request at a time and refuses the others.
