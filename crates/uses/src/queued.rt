@@ -15,12 +15,10 @@ use std::fmt::Display;
 use std::io;
 use std::random::RandomSource;
 use std::sync::Wait;
-use std::thread::Threads;
 use tower::buffer::Buffer;
-use tower::service::{Clock, Polled};
+use tower::service::Polled;
 use tower::util::Sealed;
 use tower::{Service, ServiceBuilder, ServiceExt};
-use tower_time::Timers;
 
 // Makes a second call before the response of the first is polled. Prints the second answer, and then the
 // first. `Sealed` keeps the buffer sound from one call to the next.
@@ -73,26 +71,14 @@ where
     queued(rt, "buffer", Server(1))
 }
 
-// Calls a server that takes one request at a time and refuses the others.
-fn shed_by<R, C>(rt: R, clock: C) -> io::Result<()>
+/// Calls a server that takes one request at a time and sheds the others.
+pub fn shed_load<R>(rt: R) -> io::Result<()>
 where
     R: Wait + RandomSource + AllocGlobal + Print + Copy,
-    C: Clock,
 {
     let server = ServiceBuilder::new()
         .load_shed()
         .concurrency_limit(rt, rt.alloc(), 1)
-        .timeout(1_000_000_000, clock)
         .service(Server(1))?;
     queued(rt, "shedding server", server)
-}
-
-/// Calls a server that sheds load. The clock of its timeout is one of timers, so the pool sleeps while it
-/// waits.
-pub fn shed_load<R>(rt: R) -> io::Result<()>
-where
-    R: Threads + Wait + RandomSource + AllocGlobal + Print + std::time::Clock + Copy + Sync,
-{
-    let timers = Timers::new(rt, rt.alloc())?;
-    timers.beside(&rt, || shed_by(rt, timers.clock()))
 }
