@@ -21,7 +21,7 @@ PIPELINED = b"".join(GET % it for it in (
 BAD_HEADS = (b"GET / HTTP/1.1\r\n\r\n", b"garbage\r\n\r\n", b"GET /square/2 HTTP/1.1\r\nhost h\r\n\r\n",
              b"GET / HTTP/1.1\r\nhost: h\r\nhost: h\r\n\r\n")
 UNFINISHED = GET % (b"/slow/300", b""), b"GET /squ", b"POST /length HTTP/1.1\r\nhost: h\r\ncontent-length: 9\r\n\r\nabc"
-ONE_BY_ONE = (  # over one connection. A list is sent in chunks, and no handler reads a body at /square
+ONE_BY_ONE = (  # over one connection. A list is sent in chunks, and no page at /square needs a body
     ("/square/12", None, 200, "144"), ("/slow/20", None, 200, "at last"), ("/length", b"12345", 200, "5"),
     ("/length", b"x" * 300000, 200, "300000"), ("/length", [b"12", b"345"], 200, "5"),
     ("/nowhere", None, 404, "no such page"), ("/square/12", b"abc", 405, "not allowed"),
