@@ -2,7 +2,6 @@
 
 use futures::task::Context;
 use futures::test::MockTask;
-use std::fmt::Write;
 use std::test::Fail;
 use tests_support::checks::Checks;
 use tests_support::log::Log;
@@ -11,17 +10,13 @@ use tests_support::script::{Readiness, Reply, Script};
 use tests_support::service::Scripted;
 use tower_base::drive::{Event, drive};
 
-// The transcript over a service `a`. The closure adds up.
+// The transcript over a service `a`.
 fn run(rt: HostRuntime, script: &Script<'_>, events: Vec<Event<u8, u64>>) -> Result<String, Fail> {
     let alloc = rt.alloc();
     let service = Scripted::new(script, 'a');
     let task = MockTask::new(&rt)?;
-    let mut sum = 0u64;
     let transcript = task.enter(|cx: &mut Context<'_>| {
-        drive(alloc, cx, service, events, |t: u64| {
-            sum = sum.wrapping_add(t);
-            sum
-        })
+        drive(alloc, cx, service, events, |turned: u64| turned)
     })?;
     Ok(text_of(alloc, &transcript)?)
 }
@@ -61,19 +56,6 @@ fn call_without_a_ready_poll_is_skipped(rt: HostRuntime) -> Result<(), Fail> {
 }
 
 #[test]
-fn call_after_a_pending_poll_is_skipped(rt: HostRuntime) -> Result<(), Fail> {
-    let checks = Checks::new(rt.alloc());
-    let log = Log::new(rt.alloc())?;
-    let script = Script::new(&log);
-    script.readiness(&[Readiness::Ready, Readiness::Pending]);
-    let events = vec![in rt.alloc(); Event::Poll, Event::Poll, Event::Call(0)]?;
-    let text = run(rt, &script, events)?;
-    checks.same(&text.as_str(), &"ready;pending;skipped;");
-    checks.told(&log, "a ready;a pending;a dropped;");
-    checks.verdict()
-}
-
-#[test]
 fn finished_dropped_and_unknown_futures_are_skipped(rt: HostRuntime) -> Result<(), Fail> {
     let checks = Checks::new(rt.alloc());
     let log = Log::new(rt.alloc())?;
@@ -100,41 +82,5 @@ fn finished_dropped_and_unknown_futures_are_skipped(rt: HostRuntime) -> Result<(
         &log,
         "a ready;a called 1;a(1) pending;a(1) ready;a(1) dropped;a dropped;",
     );
-    checks.verdict()
-}
-
-#[test]
-fn closure_keeps_its_state(rt: HostRuntime) -> Result<(), Fail> {
-    let checks = Checks::new(rt.alloc());
-    let log = Log::new(rt.alloc())?;
-    let script = Script::new(&log);
-    let text = run(
-        rt,
-        &script,
-        vec![in rt.alloc(); Event::Turn(2), Event::Turn(3)]?,
-    )?;
-    checks.same(&text.as_str(), &"at 2;at 5;");
-    let text = run(rt, &script, Vec::new(rt.alloc()))?;
-    checks.same(&text.as_str(), &"");
-    checks.told(&log, "a dropped;a dropped;");
-    checks.verdict()
-}
-
-// 4,500 events: 1,500 polls, as many calls, whose futures are kept, and as many turns.
-#[test]
-fn many_events_have_an_entry_each(rt: HostRuntime) -> Result<(), Fail> {
-    let checks = Checks::new(rt.alloc());
-    let log = Log::new(rt.alloc())?;
-    let script = Script::new(&log);
-    let mut events = Vec::new(rt.alloc());
-    let mut wanted = String::new(rt.alloc());
-    for number in 0..1500u64 {
-        events.push(Event::Poll)?;
-        events.push(Event::Call(7u8))?;
-        events.push(Event::Turn(1u64))?;
-        let _ = write!(wanted, "ready;call {number};at {};", number.wrapping_add(1));
-    }
-    let text = run(rt, &script, events)?;
-    checks.same(&text.as_str(), &wanted.as_str());
     checks.verdict()
 }

@@ -1,32 +1,12 @@
-//! `tower::discover`: a list of services, and changes.
+//! `tower::discover`: what is dropped and cloned.
 
 use crate::parts::found;
-use futures::task::Poll;
 use std::test::Fail;
 use tests_support::checks::Checks;
 use tests_support::log::Log;
 use tests_support::plain::Plain;
 use tests_support::run::task;
 use tower_limit::discover::{Change, ServiceList};
-
-#[test]
-fn list_inserts_its_services_by_place_and_ends(rt: HostRuntime) -> Result<(), Fail> {
-    let checks = Checks::new(rt.alloc());
-    let mut list = ServiceList::new(vec![in rt.alloc(); 'a', 'b', 'c']?);
-    let solo = task(&rt)?;
-    for (place, name) in [(0, 'a'), (1, 'b'), (2, 'c')] {
-        match found(&solo, &mut list) {
-            Poll::Ready(Some(Ok(Change::Insert(key, service)))) => {
-                checks.same(&(key, service), &(place, name));
-            }
-            _ => return Err("a service".into()),
-        }
-    }
-    for _ in 0..2u8 {
-        checks.holds(matches!(found(&solo, &mut list), Poll::Ready(None)));
-    }
-    checks.verdict()
-}
 
 #[test]
 fn services_that_are_left_are_dropped_with_their_list(rt: HostRuntime) -> Result<(), Fail> {

@@ -6,13 +6,9 @@ mod concurrency;
 #[cfg(test)]
 mod constant;
 #[cfg(test)]
-mod count_core;
-#[cfg(test)]
 mod counting_latch;
 #[cfg(test)]
 mod discover;
-#[cfg(test)]
-mod driven;
 #[cfg(test)]
 mod full_count;
 #[cfg(test)]
@@ -21,8 +17,6 @@ mod line_core;
 mod parts;
 #[cfg(test)]
 mod pending_requests;
-#[cfg(test)]
-mod rate;
 #[cfg(test)]
 mod refused;
 #[cfg(test)]

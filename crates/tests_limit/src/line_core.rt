@@ -26,41 +26,6 @@ fn line_of_one_permit(rt: HostRuntime) -> Result<(), Fail> {
     Ok(())
 }
 
-#[test]
-fn who_waited_longest_is_granted(rt: HostRuntime) -> Result<(), Fail> {
-    let mut line = LineCore::new(rt.alloc(), 1);
-    for (step, reply) in [
-        (LineStep::Join, LineReply::Granted),
-        (LineStep::Join, LineReply::Waiting(0)),
-        (LineStep::Join, LineReply::Waiting(1)),
-        (LineStep::Release, LineReply::Left),
-        (LineStep::Look(0), LineReply::Granted),
-        (LineStep::Look(1), LineReply::Waiting(1)),
-    ] {
-        assert_eq!(rt; line.step(step).0, reply, "at {step:?}");
-    }
-    Ok(())
-}
-
-#[test]
-fn wait_that_is_cancelled_moves_the_last_up(rt: HostRuntime) -> Result<(), Fail> {
-    let mut line = LineCore::new(rt.alloc(), 2);
-    for (step, reply) in [
-        (LineStep::Join, LineReply::Granted),
-        (LineStep::Join, LineReply::Granted),
-        (LineStep::Join, LineReply::Waiting(0)),
-        (LineStep::Join, LineReply::Waiting(1)),
-        (LineStep::Cancel(0), LineReply::Left),
-        (LineStep::Release, LineReply::Left),
-        (LineStep::Free, LineReply::Count(0)),
-        (LineStep::Look(1), LineReply::Granted),
-        (LineStep::Free, LineReply::Count(0)),
-    ] {
-        assert_eq!(rt; line.step(step).0, reply, "at {step:?}");
-    }
-    Ok(())
-}
-
 // A line that answers `Memory` from some key on would be noticed here. Who waited longest leaves last.
 #[test]
 fn ten_thousand_wait_and_leave(rt: HostRuntime) -> Result<(), Fail> {
