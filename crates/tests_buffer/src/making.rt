@@ -1,5 +1,5 @@
 //! Constructors, layers and texts. Its own service has no lifetime: the kit's borrow checker covers no `Buffer` whose futures have one.
-ghost use Rattle.std.specs.Prelude.{◌≡◌, ◌<◌, IfOk, IfSome};
+ghost use Rattle.std.specs.Prelude.{◌≡◌, ◌<◌, IfOk};
 
 use futures::future::Ready;
 use futures::task::Poll;
@@ -16,7 +16,7 @@ use tests_support::task_slot::TaskSlot;
 use tower_base::layer::Layer;
 use tower_base::service::{Executor, Service, Steps};
 use tower_buffer::buffer::error::{Closed, ServiceError};
-use tower_buffer::buffer::{Buffer, BufferLayer, Error, MailCore, Worker};
+use tower_buffer::buffer::{Buffer, BufferLayer, Error, MailCore};
 use tower_latch::Guarded;
 use tower_latch::held::Pollable;
 
@@ -142,41 +142,51 @@ where
     Ok(CLONES)
 }
 
-// What two buffers came to that were made with one slot.
+// A buffer has so many places, and its worker answers.
+fn holds<R, B, W>(rt: R, buffer: B, worker: W, bound: usize) -> Result<(), Fail>
+where
+    R: Wait + Abort + RandomSource + AllocGlobal + Copy,
+    B: Service<u8, Response = u8, Error = Error<u8>> + Clone,
+    W: Steps<Output = ()>,
+    requires buffer { B.sound buffer }
+    requires clones { (x y : B) → B.is_clone x y → B.sound x → B.sound y }
+    requires worker { W.can_poll worker }
+{
+    let copy = buffer.clone()?;
+    assert_eq!(rt; places(rt, copy)?, bound.min(CLONES));
+    answers(rt, buffer, worker)
+}
+
+// What two buffers of so many places came to that were made with one slot.
 fn spawned<R, B, W>(
     rt: R,
     slot: TaskSlot<W>,
     first: Result<B, Error<u8>>,
     second: Result<B, Error<u8>>,
+    bound: usize,
 ) -> Result<(), Fail>
 where
     R: Wait + Abort + RandomSource + AllocGlobal + Copy,
-    B: Service<u8, Response = u8, Error = Error<u8>>,
+    B: Service<u8, Response = u8, Error = Error<u8>> + Clone,
     W: Steps<Output = ()>,
-    requires { IfOk first B.sound }
+    requires sound { IfOk first B.sound }
+    requires clones { (x y : B) → B.is_clone x y → B.sound x → B.sound y }
 {
     assert!(rt; matches!(second, Err(Error::NotSpawned)));
     let worker = slot.take().ok_or("a worker")?;
-    answers(rt, first.map_err(|_| "no buffer")?, worker.into_inner())
-}
-
-#[test]
-fn a_worker_is_spawned_or_given_back(rt: HostRuntime) -> Result<(), Fail> {
-    let slot = TaskSlot::new();
-    let first = Buffer::new(rt, rt.alloc(), Echo, 1, &slot);
-    // The slot is taken.
-    let second = Buffer::new(rt, rt.alloc(), Echo, 1, &slot);
-    spawned(rt, slot, first, second)
+    let buffer = first.map_err(|_| "no buffer")?;
+    holds(rt, buffer, worker.into_inner(), bound)
 }
 
 // What a layer with a slot makes.
-fn layered<R, B, Y>(rt: R, layer: Y) -> Result<(), Fail>
+fn layered<R, B, Y>(rt: R, layer: Y, bound: usize) -> Result<(), Fail>
 where
     R: Wait + Abort + RandomSource + AllocGlobal + Copy,
-    B: Service<u8, Response = u8, Error = Error<u8>>,
+    B: Service<u8, Response = u8, Error = Error<u8>> + Clone,
     Y: Layer<Echo, Service = B> + Clone,
     requires can_layer { (y : Y) (s : Echo) → Y.can_layer y s }
     requires sound { (y : Y) (s : Echo) (b : B) → Y.made y s b → B.sound b }
+    requires clones { (x y : B) → B.is_clone x y → B.sound x → B.sound y }
 {
     let first = layer.layer(Echo)?;
     // The slot is taken, but not the clone's.
@@ -184,13 +194,9 @@ where
     let copy = layer.clone()?;
     let third = copy.layer(Echo)?;
     is_closed(rt, second)?;
-    is_open(rt, first)?;
-    is_open(rt, third)
-}
-
-#[test]
-fn a_layer_spawns_each_worker(rt: HostRuntime) -> Result<(), Fail> {
-    layered(rt, BufferLayer::new(rt, rt.alloc(), 1, TaskSlot::new()))
+    assert_eq!(rt; places(rt, first)?, bound.min(CLONES));
+    assert_eq!(rt; places(rt, third)?, bound.min(CLONES));
+    Ok(())
 }
 
 // What a layer makes whose executor gives the first worker back: a layer that asked again would leave the second one closed.
@@ -213,28 +219,13 @@ fn a_layer_spawns_a_worker_once(rt: HostRuntime) -> Result<(), Fail> {
     reluctantly(rt, BufferLayer::new(rt, rt.alloc(), 1, Reluctant::new()))
 }
 
-// A buffer of so many places, with what it needs to live.
-fn holds<R, B, W>(rt: R, made: Option<B>, other: W, bound: usize) -> Result<(), Fail>
-where
-    R: Abort + RandomSource + AllocGlobal + Copy,
-    B: Service<u8, Response = u8, Error = Error<u8>> + Clone,
-    W: Drop,
-    requires sound { IfSome made B.sound }
-    requires clones { (x y : B) → B.is_clone x y → B.sound x → B.sound y }
-{
-    let buffer = made.ok_or("no buffer")?;
-    assert_eq!(rt; places(rt, buffer)?, bound.min(CLONES));
-    drop(other);
-    Ok(())
-}
-
 fn pair_holds<R>(rt: R, bound: usize) -> Result<(), Fail>
 where
     R: Wait + Abort + RandomSource + AllocGlobal + Copy,
     requires { 0 < bound }
 {
     match Buffer::pair(rt, rt.alloc(), Echo, bound) {
-        Ok((buffer, worker)) => holds(rt, Some(buffer), worker, bound),
+        Ok((buffer, worker)) => holds(rt, buffer, worker, bound),
         Err(AllocError) => Err("no pair".into()),
     }
 }
@@ -245,8 +236,10 @@ where
     requires { 0 < bound }
 {
     let slot = TaskSlot::new();
-    let spawned = Buffer::new(rt, rt.alloc(), Echo, bound, &slot);
-    holds(rt, spawned.ok(), slot, bound)
+    let first = Buffer::new(rt, rt.alloc(), Echo, bound, &slot);
+    // The slot is taken.
+    let second = Buffer::new(rt, rt.alloc(), Echo, bound, &slot);
+    spawned(rt, slot, first, second, bound)
 }
 
 fn layer_holds<R>(rt: R, bound: usize) -> Result<(), Fail>
@@ -254,13 +247,15 @@ where
     R: Wait + Abort + RandomSource + AllocGlobal + Copy,
     requires { 0 < bound }
 {
-    let layer = BufferLayer::new(rt, rt.alloc(), bound, TaskSlot::new());
-    let layered = layer.layer(Echo);
-    holds(rt, layered.ok(), layer, bound)
+    layered(
+        rt,
+        BufferLayer::new(rt, rt.alloc(), bound, TaskSlot::new()),
+        bound,
+    )
 }
 
 #[test]
-fn each_constructor_makes_so_many_places(rt: HostRuntime) -> Result<(), Fail> {
+fn each_constructor_makes_so_many_places_and_one_worker(rt: HostRuntime) -> Result<(), Fail> {
     for bound in [1usize, 2, 3, 1500, 4_294_967_296, usize::MAX] {
         pair_holds(rt, bound)?;
         new_holds(rt, bound)?;
@@ -275,57 +270,6 @@ fn a_bound_is_not_0(rt: HostRuntime) -> Result<(), Fail> {
         assert_eq!(rt; Told::fits(bound), fits);
     }
     Ok(())
-}
-
-// A request through two buffers, each with its worker.
-fn passes_through<R, B, V, W>(rt: R, mut buffer: B, mut outer: V, mut inner: W) -> Result<(), Fail>
-where
-    R: Abort + RandomSource + AllocGlobal + Copy,
-    B: Service<u8, Response = u8, Error = Error<Error<u8>>>,
-    V: Steps<Output = ()>,
-    W: Steps<Output = ()>,
-    requires buffer { B.sound buffer }
-    requires outer { V.can_poll outer }
-    requires inner { W.can_poll inner }
-{
-    let solo = task(&rt)?;
-    let mut response = called(&solo, &mut buffer, 7).ok_or("a place")?;
-    assert!(rt; stepped(&solo, &mut outer).is_pending());
-    assert!(rt; stepped(&solo, &mut inner).is_pending());
-    assert!(rt; matches!(stepped(&solo, &mut response), Poll::Ready(Ok(7))));
-    Ok(())
-}
-
-type Twice<F, R> = Guarded<MailCore<u8, Pollable<F>, Error<u8>>, R>;
-
-// A buffer round a service whose errors are a buffer's.
-fn round<R, S, W>(rt: R, service: S, inner: W) -> Result<(), Fail>
-where
-    R: Wait + Abort + RandomSource + AllocGlobal + Copy,
-    S: Service<u8, Response = u8, Error = Error<u8>>,
-    W: Steps<Output = ()>,
-    requires service { S.sound service }
-    requires inner { W.can_poll inner }
-{
-    let made: Result<
-        (
-            Buffer<u8, S::Future, Error<u8>, Twice<S::Future, R>>,
-            Worker<S, u8, S::Future, Error<u8>, Twice<S::Future, R>>,
-        ),
-        AllocError,
-    > = Buffer::pair(rt, rt.alloc(), service, 1);
-    match made {
-        Ok((buffer, worker)) => passes_through(rt, buffer, worker, inner),
-        Err(AllocError) => Err("no pair".into()),
-    }
-}
-
-#[test]
-fn a_buffer_round_a_buffer(rt: HostRuntime) -> Result<(), Fail> {
-    match Buffer::pair(rt, rt.alloc(), Echo, 1) {
-        Ok((buffer, worker)) => round(rt, buffer, worker),
-        Err(AllocError) => Err("no pair".into()),
-    }
 }
 
 #[test]
