@@ -1,6 +1,6 @@
 #!/usr/bin/env python3
-"""scripts/programs.py: runs `tower-run`, `example_paced_lines`, `example_timers` and `example_http`, as `rt ci` built
-them, with arguments, scripts and files of all kinds: the rows of programs.txt, and here what needs more than one run.
+"""scripts/programs.py: runs `tower-run`, `example_paced_lines` and `example_http`, as `rt ci` built them, with arguments,
+scripts and files of all kinds: the rows of programs.txt, and here what needs more than one run.
 
 Without it a program could take wrong arguments, or lose what it read or wrote where a call of the system fails: no
 contract speaks of those. Each run is compared whole: status, standard output, standard error. What is expected was
