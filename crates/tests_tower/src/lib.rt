@@ -8,6 +8,4 @@ mod builder;
 #[cfg(test)]
 mod clones;
 #[cfg(test)]
-mod outlasts;
-#[cfg(test)]
 mod waits;
