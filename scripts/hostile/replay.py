@@ -419,7 +419,6 @@ class OfCache(OfFleet):
 MACHINES = {
     "call_all": OfCalls,
     "call_all_unordered": OfCalls,
-    "ext_call_all": OfCalls,
     "hedge": OfHedge,
     "locked_hedge": OfHedge,
     "balance": OfBalance,

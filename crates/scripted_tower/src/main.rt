@@ -1,10 +1,8 @@
-//! Scripts of the stacks of `tower::ServiceBuilder` and of the methods of `tower::ServiceExt`, in data/.
+//! Scripts of the stacks of `tower::ServiceBuilder`, in data/.
 #![tactic(auto)]
 
 mod buffers;
-mod ext;
-mod limits;
-mod maps;
+mod layers;
 mod policies;
 
 use scripted::player::Services;
@@ -21,37 +19,20 @@ struct Stacks<R> {
     rt: R,
 }
 
-// What closures, predicates and a second future add.
-fn play_maps(script: &Script<'_>, report: &mut Report<'_>) -> Result<(), AllocError> {
-    match script.name() {
-        "no_layers" => maps::none(script, report),
-        "map_request_twice" => maps::requests(script, report),
-        "map_answers" => maps::answers(script, report),
-        "and_then" => maps::second_future(script, report),
-        "map_future" => maps::futures(script, report),
-        "filter" => maps::predicate(script, report),
-        "filter_async" => maps::async_predicate(script, report),
-        "option_layer_some" => maps::option(script, report),
-        "option_layer_none" => maps::no_option(script, report),
-        _ => ext::play(script, report),
-    }
-}
-
 impl<R: Wait + Copy> Services for Stacks<R> {
     fn play(&self, script: &Script<'_>, report: &mut Report<'_>) -> Result<(), AllocError> {
-        if !script.knows(&["closed"]) {
+        if !script.knows(&[]) {
             return script.unread(report);
         }
         match script.name() {
-            "timeout" => limits::time(script, report),
-            "concurrency_limit" => limits::one_at_a_time(self.rt, script, report),
-            "rate_limit" => limits::one_in_a_period(script, report),
-            "load_shed" => limits::shed(script, report),
-            "retry" => limits::again(script, report),
-            "timeout_load_shed_concurrency_limit" => limits::shed_in_time(self.rt, script, report),
+            "no_layers" => layers::none(script, report),
+            "map_request_twice" => layers::requests(script, report),
+            "option_layer_some" => layers::option(script, report),
+            "option_layer_none" => layers::no_option(script, report),
+            "timeout_load_shed_concurrency_limit" => layers::shed_in_time(self.rt, script, report),
             "buffer_whole_stack" => buffers::whole_stack(self.rt, script, report),
             "buffer_beside_a_stream" => buffers::beside_a_stream(self.rt, script, report),
-            _ => play_maps(script, report),
+            _ => script.unread(report),
         }
     }
 }
