@@ -2,6 +2,7 @@
 
 use futures::task::Context;
 use futures::test::MockTask;
+use std::fmt::Write;
 use std::test::Fail;
 use tests_support::checks::Checks;
 use tests_support::log::Log;
@@ -82,5 +83,24 @@ fn finished_dropped_and_unknown_futures_are_skipped(rt: HostRuntime) -> Result<(
         &log,
         "a ready;a called 1;a(1) pending;a(1) ready;a(1) dropped;a dropped;",
     );
+    checks.verdict()
+}
+
+// No clause says that so many events find room: 1,500 polls, as many calls, whose futures are kept, and as many turns.
+#[test]
+fn many_events_have_an_entry_each(rt: HostRuntime) -> Result<(), Fail> {
+    let checks = Checks::new(rt.alloc());
+    let log = Log::new(rt.alloc())?;
+    let script = Script::new(&log);
+    let mut events = Vec::new(rt.alloc());
+    let mut wanted = String::new(rt.alloc());
+    for number in 0..1500u64 {
+        events.push(Event::Poll)?;
+        events.push(Event::Call(7u8))?;
+        events.push(Event::Turn(number))?;
+        let _ = write!(wanted, "ready;call {number};at {number};");
+    }
+    let text = run(rt, &script, events)?;
+    checks.same(&text.as_str(), &wanted.as_str());
     checks.verdict()
 }

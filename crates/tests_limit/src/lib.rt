@@ -10,6 +10,8 @@ mod counting_latch;
 #[cfg(test)]
 mod discover;
 #[cfg(test)]
+mod driven;
+#[cfg(test)]
 mod full_count;
 #[cfg(test)]
 mod line_core;

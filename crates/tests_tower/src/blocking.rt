@@ -152,7 +152,7 @@ fn waker_of_another_thread_ends_the_wait(rt: HostRuntime) -> Result<(), Fail> {
     checks.verdict()
 }
 
-const MANY: u32 = 400;
+const MANY: u32 = 1500;
 
 // Readiness is pending for so many polls, and so is each response.
 #[derive(Drop)]
@@ -211,7 +211,7 @@ fn wait_outlasts_many_pending_polls(rt: HostRuntime) -> Result<(), Fail> {
     let start = Instant::now(&rt)?;
     let mut service = Slow { left: MANY };
     checks.same(&block_on_ready::<_, _, u8>(&mut service, &rt)?, &Ok(()));
-    checks.holds(start.elapsed(&rt)?.as_millis() >= 390);
+    checks.holds(start.elapsed(&rt)?.as_millis() >= 1_490);
     service.left = MANY;
     checks.same(&block_on_call(&mut service, &rt, 7)?, &Ok(7));
     let sum = Cell::new(0u8);
