@@ -3,12 +3,12 @@
 #![tactic(auto)]
 
 mod answers;
-mod awaited;
 mod beside;
 mod call_all;
 mod chains;
 mod concurrency_limit;
 mod filter;
+mod from_future;
 mod load;
 mod load_shed;
 mod maps;
@@ -103,7 +103,7 @@ fn play_util(script: &Script<'_>, report: &mut Report<'_>) -> Result<(), AllocEr
         "optional" if script.knows(&["none"]) => sides::play_optional(script, report),
         "oneshot" if script.knows(&[]) => oneshot::play(script, report),
         "ready_oneshot" if script.knows(&[]) => oneshot::play_ready(script, report),
-        "future_service" if script.knows(&["failing", "polled", "at_once"]) => awaited::play(
+        "future_service" if script.knows(&["failing", "polled", "at_once"]) => from_future::play(
             script, report,
         ),
         "service_fn" if script.knows(&[]) => oneshot::play_closure(script, report),

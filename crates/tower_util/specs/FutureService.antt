@@ -5,8 +5,8 @@ use Rattle.futures.specs.declared.task.Poll.TheVariants.{Ready, Pending}
 use Rattle.tower_base.specs.Answers.{answered}
 use Rattle.tower_util.specs.declared.util.error.future_service.Error.{Error}
 use Rattle.tower_util.specs.declared.util.error.future_service.Error.TheVariants.{Inner, Gone}
-use Rattle.tower_util.specs.declared.util.awaited.State.{State}
-use Rattle.tower_util.specs.declared.util.awaited.State.TheVariants.{Coming, There, Lost}
+use Rattle.tower_util.specs.declared.util.from_future.State.{State}
+use Rattle.tower_util.specs.declared.util.from_future.State.TheVariants.{Coming, There, Lost}
 
 -- The service is there, and P holds for it.
 abbrev pub IsThere : {F S : Type 0} → (S → Type 0) → State F S → Type 0

@@ -5,8 +5,8 @@ use Rattle.futures.specs.declared.task.Poll.TheVariants.{Ready, Pending}
 use Rattle.tower_base.specs.AnswersLemmas.{answered_ok}
 use Rattle.tower_util.specs.FutureService.{IsThere, ServicePolled, FutureStepped, Polled}
 use Rattle.tower_util.specs.declared.util.error.future_service.Error.TheVariants.{Inner}
-use Rattle.tower_util.specs.declared.util.awaited.State.{State}
-use Rattle.tower_util.specs.declared.util.awaited.State.TheVariants.{Coming, There, Lost}
+use Rattle.tower_util.specs.declared.util.from_future.State.{State}
+use Rattle.tower_util.specs.declared.util.from_future.State.TheVariants.{Coming, There, Lost}
 
 module _ {F S E : Type 0} (stepped : F → Poll (Result S E) → F → Type 0) (polled : S → Poll (Result (Unit {0}) E) → S → Type 0)
     (ready : S → Type 0) (readies : (old new : S) → polled old (Ready (Ok tt)) new → ready new) where

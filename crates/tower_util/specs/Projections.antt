@@ -14,14 +14,14 @@ use Rattle.tower_util.specs.Oneshot as On
 use Rattle.tower_util.specs.Optional as Op
 use Rattle.tower_util.specs.Shared as Sh
 use Rattle.tower_util.specs.declared.make.shared.Error.{Error as SharedError}
-use Rattle.tower_util.specs.declared.util.awaited.State.{State as AwaitedState}
-use Rattle.tower_util.specs.declared.util.awaited.State.TheVariants.{Coming, There, Lost}
+use Rattle.tower_util.specs.declared.util.from_future.State.{State as FutureServiceState}
+use Rattle.tower_util.specs.declared.util.from_future.State.TheVariants.{Coming, There, Lost}
 use Rattle.tower_util.specs.declared.util.chain.Chain.{Chain}
 use Rattle.tower_util.specs.declared.util.either.Either.{Either}
 use Rattle.tower_util.specs.declared.util.either.Either.TheVariants.{Left, Right}
 use Rattle.tower_util.specs.declared.util.either.EitherResponseFuture.{EitherResponseFuture}
 use Rattle.tower_util.specs.declared.util.either.EitherResponseFuture.TheVariants.{First, Second}
-use Rattle.tower_util.specs.declared.util.error.future_service.Error.{Error as AwaitedError}
+use Rattle.tower_util.specs.declared.util.error.future_service.Error.{Error as FutureServiceError}
 use Rattle.tower_util.specs.declared.util.oneshot.State.{State as OneshotState}
 use Rattle.tower_util.specs.declared.util.oneshot.State.TheVariants.{NotReady, InFlight, Done}
 use Rattle.tower_util.specs.declared.util.optional.error.Error.{Error as OptionalError}
@@ -107,11 +107,11 @@ module _ {S Q A E F : Type 0} (s : ServiceOf S Q A E F) where
 
   -- `FutureService`
   module _ {P : Type 0} (stepped : P → Poll (Result S E) → P → Type 0) where
-    abbrev awaited_of : Relations (AwaitedState P S) Q (AwaitedError E) F
-    awaited_of = record { ready = W.IsThere s.ready; polled = W.Polled stepped s.polled; called = W.Called s.ready s.called }
+    abbrev future_service_of : Relations (FutureServiceState P S) Q (FutureServiceError E) F
+    future_service_of = record { ready = W.IsThere s.ready; polled = W.Polled stepped s.polled; called = W.Called s.ready s.called }
 
     -- The service stays, and gets just this action. A service that the future returned in this action gets no call.
-    abbrev pub RunsOnceThere : AwaitedState P S → Action Q (AwaitedError E) F → AwaitedState P S → Type 0
+    abbrev pub RunsOnceThere : FutureServiceState P S → Action Q (FutureServiceError E) F → FutureServiceState P S → Type 0
     RunsOnceThere (There old) action (There new) = RunInside (relations s) (ByAction Once action) old new
     RunsOnceThere (Coming future) action (There new) =
         (given : S) × (left : P) × stepped future (Ready (Ok given)) left × RunInside (relations s) (λ x. x ≡ []) given new
@@ -123,22 +123,22 @@ module _ {S Q A E F : Type 0} (s : ServiceOf S Q A E F) where
     RunsOnceThere Lost action (Coming left) = ⊥
     RunsOnceThere Lost action Lost = Unit {0}
 
-    came : (future left : P) (inner : Poll (Result S E)) (answer : Poll (Result (Unit {0}) (AwaitedError E))) (new : AwaitedState P S) → stepped future inner left
+    came : (future left : P) (inner : Poll (Result S E)) (answer : Poll (Result (Unit {0}) (FutureServiceError E))) (new : FutureServiceState P S) → stepped future inner left
         → W.FutureStepped stepped s.polled left inner answer new → RunsOnceThere (Coming future) (Action.poll answer) new
     came future left Pending answer new step h = subst (λ v. RunsOnceThere (Coming future) (Action.poll answer) v) (sym h.1) tt
     came future left (Ready (Err e)) answer new step h = subst (λ v. RunsOnceThere (Coming future) (Action.poll answer) v) (sym h.1) tt
     came future left (Ready (Ok service)) answer new step h =
         subst (λ v. RunsOnceThere (Coming future) (Action.poll answer) v) (sym h.4) (service, left, step, one_poll (relations s) service h.1 h.0 h.2 refl)
 
-    pub awaited : (old : AwaitedState P S) (action : Action Q (AwaitedError E) F) (new : AwaitedState P S) → Takes awaited_of old action new → RunsOnceThere old action new
-    awaited (There old) (Action.poll answer) new takes =
+    pub future_service : (old : FutureServiceState P S) (action : Action Q (FutureServiceError E) F) (new : FutureServiceState P S) → Takes future_service_of old action new → RunsOnceThere old action new
+    future_service (There old) (Action.poll answer) new takes =
         subst (λ v. RunsOnceThere (There old) (Action.poll answer) v) (sym takes.4) (one_poll (relations s) old takes.1 takes.0 takes.2 refl)
-    awaited (There old) (Action.call request future) new takes =
+    future_service (There old) (Action.call request future) new takes =
         let c = takes.1 in subst (λ v. RunsOnceThere (There old) (Action.call request future) v) (sym c.3) (one_call (relations s) old c.0 request future c.1 c.2 refl)
-    awaited (Coming coming) (Action.poll answer) new takes = came coming takes.1 takes.0 answer new takes.2 takes.3
-    awaited (Coming coming) (Action.call request future) new takes = absurd takes.1
-    awaited Lost (Action.poll answer) new takes = subst (λ v. RunsOnceThere Lost (Action.poll answer) v) (sym takes.1) tt
-    awaited Lost (Action.call request future) new takes = absurd takes.1
+    future_service (Coming coming) (Action.poll answer) new takes = came coming takes.1 takes.0 answer new takes.2 takes.3
+    future_service (Coming coming) (Action.call request future) new takes = absurd takes.1
+    future_service Lost (Action.poll answer) new takes = subst (λ v. RunsOnceThere Lost (Action.poll answer) v) (sym takes.1) tt
+    future_service Lost (Action.call request future) new takes = absurd takes.1
 
   -- `Oneshot`: while it waits, and after an error of readiness, its service is only polled. A service that is ready is called once with the request.
   abbrev pub RunsInOneshot : OneshotState S Q F → OneshotState S Q F → Type 0

@@ -1,11 +1,11 @@
 //! Small services and combinators for services. The Rust's `tower::util`.
 
 mod and_then;
-mod awaited;
 mod chain;
 mod closure_service;
 mod either;
 pub mod error;
+mod from_future;
 mod fuse;
 pub mod future;
 mod map_err;
@@ -21,9 +21,9 @@ mod sealed;
 mod then;
 
 pub use and_then::{AndThen, AndThenLayer};
-pub use awaited::{FutureService, future_service};
 pub use closure_service::{ServiceFn, service_fn};
 pub use either::{Either, option_layer};
+pub use from_future::{FutureService, future_service};
 pub use fuse::Fuse;
 pub use map_err::{MapErr, MapErrLayer};
 pub use map_future::{MapFuture, MapFutureLayer};

@@ -8,8 +8,8 @@ ghost use Rattle.tower_base.specs.Answers.{answered};
 ghost use Rattle.tower_util.specs.FutureService.{Polled, Called, Stepped, IsThere};
 ghost use Rattle.tower_util.specs.FutureServiceReady.{polled_ready};
 ghost use Rattle.tower_util.specs.declared.util.error.future_service.Error.TheVariants.{Inner};
-ghost use Rattle.tower_util.specs.declared.util.awaited.State.{State as AwaitedState};
-ghost use Rattle.tower_util.specs.declared.util.awaited.State.TheVariants.{Coming, There, Lost};
+ghost use Rattle.tower_util.specs.declared.util.from_future.State.{State as FutureServiceState};
+ghost use Rattle.tower_util.specs.declared.util.from_future.State.TheVariants.{Coming, There, Lost};
 
 use crate::util::error::future_service::Error;
 use futures::future::Future;
@@ -39,7 +39,7 @@ pub enum State<F, S> {
 }
 
 impl<F, S> Model for FutureService<F, S> {
-    ghost Value = { AwaitedState F S };
+    ghost Value = { FutureServiceState F S };
 
     ghost view = { λ m. m.state };
 }

@@ -1,6 +1,6 @@
 use Rattle.futures.specs.declared.task.Poll.TheVariants.{Ready, Pending}
 use Rattle.tower_base.specs.GivesLemmas.{gives_value, gives_same}
-use Rattle.tower_util.proofs.util.awaited.FutureServiceService.poll_ready.Goals as goal
+use Rattle.tower_util.proofs.util.from_future.FutureServiceService.poll_ready.Goals as goal
 
 pub serve-answer-requires : goal.serve-answer-requires
 serve-answer-requires g c =
