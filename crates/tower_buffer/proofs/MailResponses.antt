@@ -146,8 +146,8 @@ module _ {Q F E : Type 0} where
           subst (λ (m : Mail Q F E). Awaits m.messages id) (sym t.6) (t.0, t.1, t.2, t.3, t.4)
       pick (inr w) = absurd (subst (λ (r : MailReply Q F E). MailSteps old (Outcome id) r new) w s)
 
-  awaited : (box : Mailbox Q F E) (mail : Mail Q F E) → StandsFor box mail → (id : ℕ) → Awaits mail.messages id → Stalls box (Waiter.response id)
-  awaited box mail s id w = (kept w.1, ap (get box.messages.links.entries) (sym w.3) ∙ s.0.stands w.0 w.1 w.2, w.4)
+  unanswered_stalls : (box : Mailbox Q F E) (mail : Mail Q F E) → StandsFor box mail → (id : ℕ) → Awaits mail.messages id → Stalls box (Waiter.response id)
+  unanswered_stalls box mail s id w = (kept w.1, ap (get box.messages.links.entries) (sym w.3) ∙ s.0.stands w.0 w.1 w.2, w.4)
 
   responses_named : (old new : Mailbox Q F E) (step : MailStep Q F E) (reply : MailReply Q F E) (wakes : Wakes) → StepsAs StandsFor MailSteps old step reply new
       → ((id : ℕ) → Decides step reply id → IsNamed wakes (response_key id))
@@ -157,7 +157,7 @@ module _ {Q F E : Type 0} where
       let next = s.1 stood.0 stood.1 in
       let at = stood.1.0.sent id stall.0 stall.1 in
       elim (responses stood.0 step reply next.0 next.1 id (at.0, known id stall.0, at.1, refl, stall.2)) [
-        | inl w ↦ inl (awaited new next.0 next.2 id w)
+        | inl w ↦ inl (unanswered_stalls new next.0 next.2 id w)
         | inr d ↦ inr (named id d)
       ]
 
@@ -182,7 +182,7 @@ module _ {Q F E : Type 0} where
       let new = box_with was now rest in
       let s = served was was new (Outcome id) (Outcome id) reply refl refl (passes_on was now (Outcome id) reply f rest) in
       let next = s.1 s.0.0 s.0.1 in
-      awaited new next.0 next.2 id (outcome_waits s.0.0 id reply next.0 next.1 waits)
+      unanswered_stalls new next.0 next.2 id (outcome_waits s.0.0 id reply next.0 next.1 waits)
 
   -- only a reply that the step was made decides
   is_done : (step : MailStep Q F E) (reply : MailReply Q F E) (id : ℕ) → Decides step reply id → reply ≡ Done

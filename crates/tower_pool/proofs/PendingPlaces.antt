@@ -77,11 +77,11 @@ module _ {K S : Type 0} where
       by (Some u) = refl
 
   module _ (eq : K → K → Bool) (place : Places K) (entry : ℕ → Option (K × S)) (k : K) where
-    awaited_here : (order : List ℕ) (i : ℕ) (u : K × S) → has order i ≡ true → entry i ≡ Some u → eq k u.0 ≡ true → names i (place u.0) ≡ true → is_pending eq k (items_of place entry order) ≡ true
-    awaited_here [] i u t e same n = absurd (true≢false (sym t))
-    awaited_here (j ∷ order) i u t e same n =
+    pending_here : (order : List ℕ) (i : ℕ) (u : K × S) → has order i ≡ true → entry i ≡ Some u → eq k u.0 ≡ true → names i (place u.0) ≡ true → is_pending eq k (items_of place entry order) ≡ true
+    pending_here [] i u t e same n = absurd (true≢false (sym t))
+    pending_here (j ∷ order) i u t e same n =
         ⊎_elim (λ l. here (ap entry (sym l.1) ∙ e) (ap (λ m. names m (place u.0)) (sym l.1) ∙ n))
-        (λ r. later (entry j) (awaited_here order i u (ap (λ b. b || has order i) (sym r.0) ∙ t) e same n)) (eqb_tells i j)
+        (λ r. later (entry j) (pending_here order i u (ap (λ b. b || has order i) (sym r.0) ∙ t) e same n)) (eqb_tells i j)
       where
         rest : List (PendingView K S)
         rest = items_of place entry order
@@ -93,9 +93,9 @@ module _ {K S : Type 0} where
         later None h = h
         later (Some v) h = or_right (is_entry_of eq k (seen place j v)) (is_pending eq k rest) h
 
-    awaited_none : (order : List ℕ) → ((i : ℕ) (u : K × S) → has order i ≡ true → entry i ≡ Some u → eq k u.0 ≡ true → names i (place u.0) ≡ false) → is_pending eq k (items_of place entry order) ≡ false
-    awaited_none [] h = refl
-    awaited_none (j ∷ order) h = by (entry j) refl (awaited_none order (λ i u t e. h i u (or_right (eqb i j) (has order i) t) e))
+    pending_none : (order : List ℕ) → ((i : ℕ) (u : K × S) → has order i ≡ true → entry i ≡ Some u → eq k u.0 ≡ true → names i (place u.0) ≡ false) → is_pending eq k (items_of place entry order) ≡ false
+    pending_none [] h = refl
+    pending_none (j ∷ order) h = by (entry j) refl (pending_none order (λ i u t e. h i u (or_right (eqb i j) (has order i) t) e))
       where
         by : (o : Option (K × S)) → entry j ≡ o → is_pending eq k (items_of place entry order) ≡ false → is_pending eq k (item_at place j o (items_of place entry order)) ≡ false
         by None e rest = rest
@@ -109,19 +109,19 @@ module _ {K S : Type 0} where
     abbrev here_of : Places K
     here_of k = lookup (eq k) es
 
-    -- a key is awaited where its place names an entry
-    pub awaited_items : (k : K) → is_pending eq k (items_of here_of (get links.entries) links.order) ≡ names_one (lookup (eq k) es)
-    awaited_items k = by (lookup (eq k) es) refl
+    -- a key is pending if its place names an entry
+    pub pending_items : (k : K) → is_pending eq k (items_of here_of (get links.entries) links.order) ≡ names_one (lookup (eq k) es)
+    pending_items k = by (lookup (eq k) es) refl
       where
         found : (i : ℕ) → lookup (eq k) es ≡ Some (Some i) → has links.order i ≡ true → (o : Option (K × S)) → get links.entries i ≡ o → IsSomeAnd o (λ u. eq k u.0 ≡ true)
             → is_pending eq k (items_of here_of (get links.entries) links.order) ≡ true
         found i e t None at h = absurd h
         found i e t (Some u) at same =
-            awaited_here eq here_of (get links.entries) k links.order i u t at same (ap (names i) (sym (like eq laws es k u.0 same) ∙ e) ∙ eq-eqb i i refl)
+            pending_here eq here_of (get links.entries) k links.order i u t at same (ap (names i) (sym (like eq laws es k u.0 same) ∙ e) ∙ eq-eqb i i refl)
 
         by : (o : Option (Option ℕ)) → lookup (eq k) es ≡ o → is_pending eq k (items_of here_of (get links.entries) links.order) ≡ names_one o
-        by None e = awaited_none eq here_of (get links.entries) k links.order (λ i u t at same. ap (names i) (sym (like eq laws es k u.0 same) ∙ e))
-        by (Some None) e = awaited_none eq here_of (get links.entries) k links.order (λ i u t at same. ap (names i) (sym (like eq laws es k u.0 same) ∙ e))
+        by None e = pending_none eq here_of (get links.entries) k links.order (λ i u t at same. ap (names i) (sym (like eq laws es k u.0 same) ∙ e))
+        by (Some None) e = pending_none eq here_of (get links.entries) k links.order (λ i u t at same. ap (names i) (sym (like eq laws es k u.0 same) ∙ e))
         by (Some (Some i)) e = let t = kept.told k i e in found i e t.0 (get links.entries i) refl t.1
 
     pub length-waiters : length (items_of here_of (get links.entries) links.order) ≡ length links.order
@@ -183,7 +183,7 @@ module _ {K S : Type 0} where
 
       -- one that named none before
       pub items_same : names_one (lookup (eq key) es) ≡ false → items_of (λ k. lookup (eq k) fs) (get links.entries) links.order ≡ items_of here_of (get links.entries) links.order
-      items_same h = items_marked links.order ∙ marks_none (items_of here_of (get links.entries) links.order) (awaited_items key ∙ h)
+      items_same h = items_marked links.order ∙ marks_none (items_of here_of (get links.entries) links.order) (pending_items key ∙ h)
 
     -- a place that may have been refused
     module _ {X E : Type 0} (key : K) (fs : List (K × Option ℕ)) (r : Result X E) (put : OnOk r ((q : K) → lookup (eq q) fs ≡ cond (eq key q) (Some None) (lookup (eq q) es))) (kept_as : OnErr r (fs ≡ es)) where
@@ -404,7 +404,7 @@ module _ {K S : Type 0} (eq : K → K → Bool) where
   pub stands_with : (laws : IsEquivalence eq) (es : List (K × Option ℕ)) (links : LinksView (K × S)) → Placed eq (λ k. lookup (eq k) es) links → length links.order + 1 < 18446744073709551616 → (last : Option (K × S × Bool)) (e : K × S × Bool) → last ≡ Some e
       → (e.2 ≡ false → is_some (lookup (eq e.0) es) ≡ true) → (e.2 ≡ false → is_pending eq e.0 (stored eq es links) ≡ false) → Stands eq es links last
   stands_with laws es links placed small last e is known alone =
-      subst (Stands eq es links) (sym is) (record { placed = placed; beside = λ alive. by (lookup (eq e.0) es) (known alive) (sym (awaited_items eq laws es links placed e.0) ∙ alone alive); small = small })
+      subst (Stands eq es links) (sym is) (record { placed = placed; beside = λ alive. by (lookup (eq e.0) es) (known alive) (sym (pending_items eq laws es links placed e.0) ∙ alone alive); small = small })
     where
       by : (o : Option (Option ℕ)) → is_some o ≡ true → names_one o ≡ false → o ≡ Some None
       by None t n = absurd (true≢false (sym t))
@@ -437,9 +437,9 @@ module _ {K S : Type 0} (eq : K → K → Bool) where
   beside_left es fs (Some e) k false released same h = λ alive. (λ j. lookup (eq e.0) (same refl j)) ∙ h alive
 
   module _ (laws : IsEquivalence eq) (es : List (K × Option ℕ)) (links : LinksView (K × S)) (last : Option (K × S × Bool)) (h : Stands eq es links last) where
-    -- a key is awaited where its place names an entry, or the one beside is the key's
-    pub awaited_all : (k : K) → is_pending eq k (stored eq es links ++ last_of last) ≡ (names_one (lookup (eq k) es) || is_pending eq k (last_of last))
-    awaited_all k = list_any-append (is_entry_of eq k) (stored eq es links) (last_of last) ∙ (λ j. awaited_items eq laws es links h.placed k j || is_pending eq k (last_of last))
+    -- a key is pending if its place names an entry, or the one beside is the key's
+    pub pending_all : (k : K) → is_pending eq k (stored eq es links ++ last_of last) ≡ (names_one (lookup (eq k) es) || is_pending eq k (last_of last))
+    pending_all k = list_any-append (is_entry_of eq k) (stored eq es links) (last_of last) ∙ (λ j. pending_items eq laws es links h.placed k j || is_pending eq k (last_of last))
 
     pub length_all : length (stored eq es links ++ last_of last) ≡ length links.order + length (last_of last)
     length_all = length-append (stored eq es links) (last_of last) ∙ ap (λ n. n + length (last_of last)) (length-waiters eq laws es links h.placed)
@@ -458,13 +458,13 @@ module _ {K S : Type 0} (eq : K → K → Bool) where
             one false e = refl
 
     pub cancel_all : (k : K) → cancel eq k (stored eq es links ++ last_of last) ≡ cancel eq k (stored eq es links) ++ last_of (marked eq k last)
-    cancel_all k = cancel_behind k (stored eq es links) (last_of last) (λ t. last_apart k (sym (awaited_items eq laws es links h.placed k) ∙ t)) ∙ (λ j. cancel eq k (stored eq es links) ++ cancel_last k last j)
+    cancel_all k = cancel_behind k (stored eq es links) (last_of last) (λ t. last_apart k (sym (pending_items eq laws es links h.placed k) ∙ t)) ∙ (λ j. cancel eq k (stored eq es links) ++ cancel_last k last j)
 
-    pub awaited_named : (k : K) (i : ℕ) → lookup (eq k) es ≡ Some (Some i) → true ≡ is_pending eq k (stored eq es links ++ last_of last)
-    awaited_named k i is = sym (awaited_all k ∙ ap (λ o. names_one o || is_pending eq k (last_of last)) is)
+    pub pending_named : (k : K) (i : ℕ) → lookup (eq k) es ≡ Some (Some i) → true ≡ is_pending eq k (stored eq es links ++ last_of last)
+    pending_named k i is = sym (pending_all k ∙ ap (λ o. names_one o || is_pending eq k (last_of last)) is)
 
-    pub not_awaited : (k : K) (o : Option (Option ℕ)) → lookup (eq k) es ≡ o → names_one o ≡ false → is_pending eq k (last_of last) ≡ false → false ≡ is_pending eq k (stored eq es links ++ last_of last)
-    not_awaited k o is none other = sym (awaited_all k ∙ (λ j. names_one (is j) || other j) ∙ or_false (names_one o) ∙ none)
+    pub not_pending : (k : K) (o : Option (Option ℕ)) → lookup (eq k) es ≡ o → names_one o ≡ false → is_pending eq k (last_of last) ≡ false → false ≡ is_pending eq k (stored eq es links ++ last_of last)
+    not_pending k o is none other = sym (pending_all k ∙ (λ j. names_one (is j) || other j) ∙ or_false (names_one o) ∙ none)
 
     -- one that isn't the key's stays
     pub unmarked : (k : K) → is_pending eq k (last_of last) ≡ false → last ≡ marked eq k last

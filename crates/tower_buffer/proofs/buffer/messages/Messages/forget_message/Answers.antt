@@ -55,8 +55,8 @@ invariant_of-self-in_default-fate g c =
     let t = fate_some (get old.links.entries c.args.id) c.in-Some.fate (sym c.in-Some.ensures.fate) in
     let m = t.0 in
     let unopened : m.fate ≢ Open = λ e. c.in_default-fate.not-Open (sym t.2 ∙ ap bare e) in
-    let awaited : m.fate ≢ Cancelled = λ e. c.in_default-fate.not-Cancelled (sym t.2 ∙ ap bare e) in
-    let out = (old.sent c.args.id m t.1).1 (settled m.fate unopened awaited) in
+    let uncancelled : m.fate ≢ Cancelled = λ e. c.in_default-fate.not-Cancelled (sym t.2 ∙ ap bare e) in
+    let out = (old.sent c.args.id m t.1).1 (settled m.fate unopened uncancelled) in
     let d = removed old.stored old.links c.fate_of.new.links c.remove.new.self c.args.id m was t.1 c.fate_of.ensures.order c.fate_of.ensures.entries c.remove.ensures.capacity
     out c.remove.ensures.entries c.remove.ensures.order c.remove.result c.remove.ensures.value c.remove.ensures.len in
     record {
@@ -88,13 +88,13 @@ returns-in_default-fate-clause-follows g c = λ mail same_error h.
     let t = fate_some (get old.links.entries c.args.id) c.in-Some.fate (sym c.in-Some.ensures.fate) in
     let m = t.0 in
     let unopened : m.fate ≢ Open = λ e. c.in_default-fate.not-Open (sym t.2 ∙ ap bare e) in
-    let awaited : m.fate ≢ Cancelled = λ e. c.in_default-fate.not-Cancelled (sym t.2 ∙ ap bare e) in
-    let out = (old.sent c.args.id m t.1).1 (settled m.fate unopened awaited) in
+    let uncancelled : m.fate ≢ Cancelled = λ e. c.in_default-fate.not-Cancelled (sym t.2 ∙ ap bare e) in
+    let out = (old.sent c.args.id m t.1).1 (settled m.fate unopened uncancelled) in
     let d = removed old.stored old.links c.fate_of.new.links c.remove.new.self c.args.id m was t.1 c.fate_of.ensures.order c.fate_of.ensures.entries c.remove.ensures.capacity
     out c.remove.ensures.entries c.remove.ensures.order c.remove.result c.remove.ensures.value c.remove.ensures.len in
     let r = gone mail.messages old.links c.remove.new.self c.args.id m t.1 h (old.linked c.args.id) out d.updates d.ordered in (
       slice_set mail.messages r.place (Entry.gone m.fate),
-      (r.place, known c.args.id m, r.at, refl, inr (unopened, awaited, refl)),
+      (r.place, known c.args.id m, r.at, refl, inr (unopened, uncancelled, refl)),
       r.holds m.fate,
     )
 
@@ -117,8 +117,8 @@ returns-in_default-fate-clause-rest g c =
     let t = fate_some (get old.links.entries c.args.id) c.in-Some.fate (sym c.in-Some.ensures.fate) in
     let m = t.0 in
     let unopened : m.fate ≢ Open = λ e. c.in_default-fate.not-Open (sym t.2 ∙ ap bare e) in
-    let awaited : m.fate ≢ Cancelled = λ e. c.in_default-fate.not-Cancelled (sym t.2 ∙ ap bare e) in
-    let out = (old.sent c.args.id m t.1).1 (settled m.fate unopened awaited) in
+    let uncancelled : m.fate ≢ Cancelled = λ e. c.in_default-fate.not-Cancelled (sym t.2 ∙ ap bare e) in
+    let out = (old.sent c.args.id m t.1).1 (settled m.fate unopened uncancelled) in
     let d = removed old.stored old.links c.fate_of.new.links c.remove.new.self c.args.id m was t.1 c.fate_of.ensures.order c.fate_of.ensures.entries c.remove.ensures.capacity
     out c.remove.ensures.entries c.remove.ensures.order c.remove.result c.remove.ensures.value c.remove.ensures.len in
     (d.size, d.len, d.capacity, refl)

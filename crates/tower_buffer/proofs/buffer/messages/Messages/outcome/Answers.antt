@@ -32,9 +32,9 @@ hand_out-requires g c =
     let t = fate_some (get old.links.entries c.args.id) c.in-Some.fate (sym c.in-Some.ensures.fate) in
     let m = t.0 in
     let unopened : m.fate ≢ Open = λ e. c.in_default-fate.not-Open (sym t.2 ∙ ap bare e) in
-    let awaited : m.fate ≢ Cancelled = λ e. c.in_default-fate.not-Cancelled (sym t.2 ∙ ap bare e) in
+    let uncancelled : m.fate ≢ Cancelled = λ e. c.in_default-fate.not-Cancelled (sym t.2 ∙ ap bare e) in
     let served : m.fate ≢ Failed = λ e. c.in_default-fate.not-Failed (sym t.2 ∙ ap bare e) in
-    record { ended = (m, ap (λ e. get e c.args.id) c.fate_of.ensures.entries ∙ t.1, ended m.fate unopened awaited served) }
+    record { ended = (m, ap (λ e. get e c.args.id) c.fate_of.ensures.entries ∙ t.1, ended m.fate unopened uncancelled served) }
 
 pub returns-in-Failed-clause-follows : goal.returns-in-Failed-clause-follows
 returns-in-Failed-clause-follows g c = λ mail same_error h.

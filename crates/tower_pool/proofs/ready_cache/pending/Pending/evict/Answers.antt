@@ -1,7 +1,7 @@
 use Rattle.std.proofs.Common.{rules, ◌≡◌, ◌∙◌, ◌||◌, sym, ap, refl, subst, Some, None}
 use Rattle.tower_pool.specs.ReadyCache.{Apart, is_pending, cancel}
 use Rattle.tower_pool.specs.Pending.{names_one}
-use Rattle.tower_pool.proofs.PendingPlaces.{awaited_all, items_all, stands_marked}
+use Rattle.tower_pool.proofs.PendingPlaces.{pending_all, items_all, stands_marked}
 use Rattle.tower_pool.proofs.ready_cache.pending.Pending.evict.Goals as goal
 use Rattle.tower_pool.proofs.ready_cache.pending.Pending.evict.Goals.{in-Some-Some, in_default, in_default-2}
 
@@ -14,7 +14,7 @@ pub returns-clause-found : goal.returns-clause-found
 returns-clause-found g c =
     let eq = g.K.PartialEq.eq in
     (λ j. (told ∙ ap names_one c.swap_remove.ensures.value) j || c.cancel.ensures.found j)
-    ∙ sym (awaited_all eq g.met.K.Eq.laws c.self.inside.places.entries c.self.inside.entries c.self.inside.last c.self.invariant c.args.key.now) ∙ ap (λ v. is_pending eq c.args.key.now v.items) c.self.view_is
+    ∙ sym (pending_all eq g.met.K.Eq.laws c.self.inside.places.entries c.self.inside.entries c.self.inside.last c.self.invariant c.args.key.now) ∙ ap (λ v. is_pending eq c.args.key.now v.items) c.self.view_is
   where
     told : c.match-matches.matches ≡ names_one c.swap_remove.result
     told =
