@@ -73,26 +73,26 @@ module _ (k per from : ℕ) where
     period : plain.per ≡ per
     spaced : Spaced k per plain.moments
     recent : NoLater now plain.moments
-    pass : plain.passed ≡ true → Apart k per now plain.moments
+    admission : plain.admitted ≡ true → Apart k per now plain.moments
 
-  -- a poll that passes finds the last calls apart
-  passed-apart : (limited : Bool) (plain : Calls) (m : ℕ) → plain.num ≡ k + 1 → plain.per ≡ per → is_limited plain ≡ limited
+  -- a poll that admits a call finds the last calls apart
+  admitted-apart : (limited : Bool) (plain : Calls) (m : ℕ) → plain.num ≡ k + 1 → plain.per ≡ per → is_limited plain ≡ limited
       → (if limited then nat_le (oldest plain + plain.per) m else true) ≡ true → Apart k per m plain.moments
-  passed-apart true plain m number period is passed = λ c e.
+  admitted-apart true plain m number period is admitted = λ c e.
       let at : plain.num - 1 ≡ k = omega (arith, number) in
       let value : slice_index plain.moments k ≡ c = get_or_from_slice_get plain.moments k c 0 e in
       let same : oldest plain ≡ c = ap (λ (i : ℕ). slice_index plain.moments i) at ∙ value in
-      let past = leb-true (oldest plain + plain.per) m passed in omega (arith, period, same)
-  passed-apart false plain m number period is passed = λ c e.
+      let past = leb-true (oldest plain + plain.per) m admitted in omega (arith, period, same)
+  admitted-apart false plain m number period is admitted = λ c e.
       let within = slice_get_within plain.moments k c e in
       let few = leb-false plain.num (length plain.moments) is in absurd (omega (arith, number))
 
   -- a call finds them apart
-  may-apart : (limited passed : Bool) (plain : Calls) (m : ℕ) → plain.num ≡ k + 1 → is_limited plain ≡ limited → plain.passed ≡ passed
-      → (plain.passed ≡ true → Apart k per m plain.moments) → not limited || passed ≡ true → Apart k per m plain.moments
-  may-apart true true plain m number is pass apart may = apart pass
-  may-apart true false plain m number is pass apart may = absurd (cc may)
-  may-apart false passed plain m number is pass apart may = λ c e.
+  may-apart : (limited admitted : Bool) (plain : Calls) (m : ℕ) → plain.num ≡ k + 1 → is_limited plain ≡ limited → plain.admitted ≡ admitted
+      → (plain.admitted ≡ true → Apart k per m plain.moments) → not limited || admitted ≡ true → Apart k per m plain.moments
+  may-apart true true plain m number is admission apart may = apart admission
+  may-apart true false plain m number is admission apart may = absurd (cc may)
+  may-apart false admitted plain m number is admission apart may = λ c e.
       let within = slice_get_within plain.moments k c e in
       let few = leb-false plain.num (length plain.moments) is in absurd (omega (arith, number))
 
@@ -105,18 +105,18 @@ module _ (k per from : ℕ) where
     period = good.period;
     spaced = good.spaced;
     recent = no-later now m plain.moments le good.recent;
-    pass = λ passed. passed-apart (is_limited plain) plain m good.number good.period refl passed;
+    admission = λ admitted. admitted-apart (is_limited plain) plain m good.number good.period refl admitted;
   }
 
   call-good : (plain : Calls) (now m : ℕ) → Good plain now → now ≤ m → may_call plain ≡ true → Good (after_call plain m) m
   call-good plain now m good le may =
-      let apart = may-apart (is_limited plain) plain.passed plain m good.number refl refl (λ p. later now m plain.moments le (good.pass p)) may in
+      let apart = may-apart (is_limited plain) plain.admitted plain m good.number refl refl (λ p. later now m plain.moments le (good.admission p)) may in
       record {
         number = good.number;
         period = good.period;
         spaced = (no-later now m plain.moments le good.recent, apart, good.spaced);
         recent = omega arith;
-        pass = λ shut. absurd (cc shut);
+        admission = λ shut. absurd (cc shut);
       }
 
   runs : (plain : Calls) (now : ℕ) (steps : List Step) → Good plain now → Fair plain now steps
@@ -130,5 +130,5 @@ pub bounded : Bounded
 bounded zero per steps some fair from = absurd (omega arith)
 bounded (suc k) per steps some fair from =
     let good : Good k per from (initial (suc k) per) 0 =
-    record { number = omega arith; period = refl; spaced = tt; recent = tt; pass = λ shut. absurd (cc shut) } in
+    record { number = omega arith; period = refl; spaced = tt; recent = tt; admission = λ shut. absurd (cc shut) } in
     let all = runs k per from (initial (suc k) per) 0 steps good fair in omega arith

@@ -7,7 +7,7 @@ use Rattle.tower_base.specs.ProjectionLemmas.{no_action, one_poll, one_call, pro
 use Rattle.tower_base.specs.ServiceRun.{relations, Action, Transition, Takes, ServiceRun, requests}
 use Rattle.tower_base.specs.declared.service.Service.{Ghosts as ServiceOf}
 use Rattle.tower_base.specs.declared.service.Clock.{Ghosts as ClockOf}
-use Rattle.tower_limit.specs.Rate.{Calls, RateLimitView, RateCoreView, StandsFor, PollsAt, Asks, initial, is_limited, passes, may_call, after_poll, after_call}
+use Rattle.tower_limit.specs.Rate.{Calls, RateLimitView, RateCoreView, StandsFor, PollsAt, Asks, initial, is_limited, admits, may_call, after_poll, after_call}
 use Rattle.tower_limit.specs.RateLaws.{Step, Fair, one_within, calls_within}
 use Rattle.tower_limit.specs.RateRun.{rate_of, within, call_moments, Forward, RunsBounded, RunsForward, KeepsRate}
 use Rattle.tower_limit.proofs.RateBound.{bounded}
@@ -17,8 +17,8 @@ use Rattle.tower_limit.proofs.RateStands.{full}
 same_may : (core : RateCoreView) (a b : Calls) → StandsFor core a → StandsFor core b → may_call a ≡ may_call b
 same_may core a b first second =
     let limited : is_limited a ≡ is_limited b = sym (full core a first) ∙ full core b second in
-    let pass : a.passed ≡ b.passed = first.pass ∙ sym second.pass in
-    ap (λ (l : Bool). not l || a.passed) limited ∙ ap (λ (p : Bool). not (is_limited b) || p) pass
+    let admission : a.admitted ≡ b.admitted = first.admission ∙ sym second.admission in
+    ap (λ (l : Bool). not l || a.admitted) limited ∙ ap (λ (p : Bool). not (is_limited b) || p) admission
 
 earlier : (plain : Calls) (now later : ℕ) (steps : List Step) → now ≤ later → Fair plain later steps → Fair plain now steps
 earlier plain now later [] le fair = tt
@@ -106,7 +106,7 @@ module _ {S C Q A E F : Type 0} (s : ServiceOf S Q A E F) (c : ClockOf C) where
 
   polled_inside : {Has : List Q → Type 0} (limited : Bool) (plain : Calls) (old : View) (answer : Poll (Result (Unit {0}) E)) (new : View)
       → PollsAt s c limited plain old answer new → Has [] → RunInside (relations s) Has old.inner new.inner
-  polled_inside true plain old answer new polls has = asked_inside (passes plain (c.reading new.clock)) old answer new polls.2 has
+  polled_inside true plain old answer new polls has = asked_inside (admits plain (c.reading new.clock)) old answer new polls.2 has
   polled_inside false plain old answer new polls has = one_poll (relations s) old.inner new.inner answer polls.1 has
 
   pub rate_limit : Projects (rate_of s c) (relations s) (λ l. l.inner) Once

@@ -4,7 +4,7 @@ use Rattle.std.proofs.lemmas.List.{length-take}
 use Rattle.std.proofs.lemmas.Option.{get_or_from_slice_get, slice_get_within}
 use Rattle.std.proofs.lemmas.Bool.{le-leb, lt-leb}
 use Rattle.std.proofs.lemmas.Bool.Decides.{nat_tests}
-use Rattle.tower_limit.specs.Rate.{Calls, RateCoreView, StandsFor, Stands, is_limited, oldest, passes, may_call}
+use Rattle.tower_limit.specs.Rate.{Calls, RateCoreView, StandsFor, Stands, is_limited, oldest, admits, may_call}
 use Rattle.tower_limit.specs.RateReady.{open-allows, free-allows}
 
 positive : (n : ℕ) → n ≢ 0 → 0 < n
@@ -45,8 +45,8 @@ full-of n len kept h = grind (arith, nat_tests)
 -- the core stands for the calls that it keeps
 pub stands : (core : RateCoreView) → core.num ≢ 0 → length core.kept ≤ core.num → Stands core (λ plain. Unit {0})
 stands core counts fits = (
-  record { num = core.num; per = core.per; moments = core.kept; passed = core.passed },
-  record { takes = positive core.num counts; number = refl; period = refl; last = sym (take-all core.num core.kept fits); pass = refl },
+  record { num = core.num; per = core.per; moments = core.kept; admitted = core.admitted },
+  record { takes = positive core.num counts; number = refl; period = refl; last = sym (take-all core.num core.kept fits); admission = refl },
   tt,
 )
 
@@ -64,8 +64,8 @@ module _ (core : RateCoreView) (plain : Calls) (s : StandsFor core plain) where
       ∙ ap (λ (n : ℕ). slice_get (take plain.num plain.moments) (n - 1)) (sym s.number)
       ∙ slice_get-take plain.num plain.moments (plain.num - 1) (omega (arith, s.takes))
 
-  pub passes-some : (x moment : ℕ) → slice_get core.kept (core.num - 1) ≡ Some x → nat_le (x + core.per) moment ≡ passes plain moment
-  passes-some x moment h =
+  pub admits-some : (x moment : ℕ) → slice_get core.kept (core.num - 1) ≡ Some x → nat_le (x + core.per) moment ≡ admits plain moment
+  admits-some x moment h =
       let got : slice_get plain.moments (plain.num - 1) ≡ Some x = sym last-of ∙ h in
       let within : plain.num - 1 < length plain.moments = slice_get_within plain.moments (plain.num - 1) x got in
       let limited : is_limited plain ≡ true = le-leb plain.num (length plain.moments) (omega (arith, s.takes)) in
@@ -74,8 +74,8 @@ module _ (core : RateCoreView) (plain : Calls) (s : StandsFor core plain) where
       ∙ ap (λ (v : ℕ). nat_le (v + plain.per) moment) value
       ∙ ap (λ (p : ℕ). nat_le (x + p) moment) s.period)
 
-  pub passes-none : (moment : ℕ) → slice_get core.kept (core.num - 1) ≡ None → true ≡ passes plain moment
-  passes-none moment h =
+  pub admits-none : (moment : ℕ) → slice_get core.kept (core.num - 1) ≡ None → true ≡ admits plain moment
+  admits-none moment h =
       let short : length plain.moments ≤ plain.num - 1 = none-past plain.moments (plain.num - 1) (sym last-of ∙ h) in
       let free : is_limited plain ≡ false = lt-leb plain.num (length plain.moments) (omega (arith, s.takes)) in
       sym (ap (λ (b : Bool). if b then nat_le (oldest plain + plain.per) moment else true) free)
@@ -86,14 +86,14 @@ module _ (core : RateCoreView) (plain : Calls) (s : StandsFor core plain) where
       ∙ ap (λ (xs : List ℕ). take plain.num (m ∷ xs)) s.last
       ∙ take-pushed plain.num m plain.moments
 
--- A call may be made of a core that doesn't keep as many as its number, and of one with an open pass.
+-- A call may be made of a core that doesn't keep as many as its number, and of one that admits it.
 pub free_may : (core : RateCoreView) → core.num ≢ 0 → length core.kept ≤ core.num → nat_eq (length core.kept) core.num ≡ false
     → Stands core (λ plain. may_call plain ≡ true)
 free_may core counts fits free =
     let s = stands core counts fits in
-    (s.0, s.1, free-allows (is_limited s.0) s.0.passed (sym (full core s.0 s.1) ∙ free))
+    (s.0, s.1, free-allows (is_limited s.0) s.0.admitted (sym (full core s.0 s.1) ∙ free))
 
-pub open_may : (core : RateCoreView) → core.num ≢ 0 → length core.kept ≤ core.num → core.passed ≡ true → Stands core (λ plain. may_call plain ≡ true)
-open_may core counts fits passed =
+pub open_may : (core : RateCoreView) → core.num ≢ 0 → length core.kept ≤ core.num → core.admitted ≡ true → Stands core (λ plain. may_call plain ≡ true)
+open_may core counts fits admitted =
     let s = stands core counts fits in
-    (s.0, s.1, ap (λ (pass : Bool). not (is_limited s.0) || pass) (s.1.pass ∙ passed) ∙ open-allows (is_limited s.0))
+    (s.0, s.1, ap (λ (admission : Bool). not (is_limited s.0) || admission) (s.1.admission ∙ admitted) ∙ open-allows (is_limited s.0))

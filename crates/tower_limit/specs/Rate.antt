@@ -6,20 +6,20 @@ use Rattle.futures.specs.declared.task.Poll.TheVariants.{Pending}
 use Rattle.tower_base.specs.declared.service.Service.{Ghosts as ServiceOf}
 use Rattle.tower_base.specs.declared.service.Clock.{Ghosts as ClockOf}
 
--- `num` calls fit into an interval of length `per`. The moments of all calls are listed, the newest first. A pass is open from a poll that passes
--- until the next poll or call.
+-- `num` calls fit into an interval of length `per`. The moments of all calls are listed, the newest first. `admitted` says
+-- whether the last poll admits a call and no call came since.
 pub record Calls : Type 0 where
   pub num : ℕ
   pub per : ℕ
   pub moments : List ℕ
-  pub passed : Bool
+  pub admitted : Bool
 
--- a `RateCore`: the rate, the moments that it keeps, and whether a pass is open
+-- a `RateCore`: the rate, the moments that it keeps, and whether a call is admitted
 pub record RateCoreView : Type 0 where
   pub num : ℕ
   pub per : ℕ
   pub kept : List ℕ
-  pub passed : Bool
+  pub admitted : Bool
 
 -- a `RateLimit`
 pub record RateLimitView (S C : Type 0) : Type 0 where
@@ -35,7 +35,7 @@ pub record RateLimitLayerView (C : Type 0) : Type 0 where
 
 -- the list before any call
 abbrev pub initial : ℕ → ℕ → Calls
-initial num per = record { num = num; per = per; moments = []; passed = false }
+initial num per = record { num = num; per = per; moments = []; admitted = false }
 
 -- whether `num` or more calls were made
 abbrev pub is_limited : Calls → Bool
@@ -45,25 +45,25 @@ is_limited plain = nat_le plain.num (length plain.moments)
 abbrev pub oldest : Calls → ℕ
 oldest plain = slice_index plain.moments (plain.num - 1)
 
--- whether a poll passes at this moment: it does unless the `num`-th last call plus the period is later
-abbrev pub passes : Calls → ℕ → Bool
-passes plain moment = if is_limited plain then nat_le (oldest plain + plain.per) moment else true
+-- whether a poll at this moment admits a call: it does unless the `num`-th last call plus the period is later
+abbrev pub admits : Calls → ℕ → Bool
+admits plain moment = if is_limited plain then nat_le (oldest plain + plain.per) moment else true
 
--- A poll passes from this moment on, and not before.
-abbrev pub PassesFrom : Calls → ℕ → Type 0
-PassesFrom plain opens = (moment : ℕ) → passes plain moment ≡ nat_le opens moment
+-- A poll admits a call from this moment on, and not before.
+abbrev pub AdmitsFrom : Calls → ℕ → Type 0
+AdmitsFrom plain opens = (moment : ℕ) → admits plain moment ≡ nat_le opens moment
 
 -- whether a call may be made
 abbrev pub may_call : Calls → Bool
-may_call plain = not (is_limited plain) || plain.passed
+may_call plain = not (is_limited plain) || plain.admitted
 
--- A poll opens a pass, or closes it.
+-- A poll admits a call, or doesn't.
 abbrev pub after_poll : Calls → ℕ → Calls
-after_poll plain moment = record plain { passed = passes plain moment }
+after_poll plain moment = record plain { admitted = admits plain moment }
 
--- A call joins the list and closes the pass.
+-- A call joins the list, and the next one isn't admitted.
 abbrev pub after_call : Calls → ℕ → Calls
-after_call plain moment = record plain { moments = moment ∷ plain.moments; passed = false }
+after_call plain moment = record plain { moments = moment ∷ plain.moments; admitted = false }
 
 -- A core stands for a list of calls of which it keeps the last `num`.
 pub record StandsFor (core : RateCoreView) (plain : Calls) : Type 0 where
@@ -71,7 +71,7 @@ pub record StandsFor (core : RateCoreView) (plain : Calls) : Type 0 where
   pub number : plain.num ≡ core.num
   pub period : plain.per ≡ core.per
   pub last : core.kept ≡ take plain.num plain.moments
-  pub pass : plain.passed ≡ core.passed
+  pub admission : plain.admitted ≡ core.admitted
 
 -- The core stands for calls of which P holds.
 abbrev pub Stands : RateCoreView → (Calls → Type 0) → Type 0
@@ -79,7 +79,7 @@ Stands core P = (plain : Calls) × StandsFor core plain × P plain
 
 -- whether the limit, and not the inner service, is what a pending poll waits for
 abbrev pub is_shut : RateCoreView → Bool
-is_shut core = nat_eq (length core.kept) core.num && not core.passed
+is_shut core = nat_eq (length core.kept) core.num && not core.admitted
 
 -- What a pending poll of readiness waits for: the limit, at the sources of the clock, or the inner service.
 abbrev pub NeedsAt : Bool → Type 0 → Type 0 → Type 0
@@ -99,7 +99,7 @@ module _ {S C Q A E F : Type 0} (s : ServiceOf S Q A E F) (c : ClockOf C) where
   abbrev pub PollsAt : Bool → Calls → RateLimitView S C → Poll (Result (Unit {0}) E) → RateLimitView S C → Type 0
   PollsAt true plain old answer new = c.read old.clock new.clock
       × StandsFor new.core (after_poll plain (c.reading new.clock))
-      × Asks (passes plain (c.reading new.clock)) old.inner answer new.inner
+      × Asks (admits plain (c.reading new.clock)) old.inner answer new.inner
   PollsAt false plain old answer new = (new ≡ record old { inner = new.inner }) × s.polled old.inner answer new.inner
 
   -- a poll of readiness, over all calls that the core stands for
@@ -115,11 +115,11 @@ module _ {S C Q A E F : Type 0} (s : ServiceOf S Q A E F) (c : ClockOf C) where
     pub joins : (plain : Calls) → StandsFor old.core plain → StandsFor new.core (after_call plain (c.reading new.clock))
     pub called : s.called old.inner request future new.inner
 
--- If the calls so far let no poll pass at the moment of this one, its task asked to be polled again, or is polled again by the moment from
--- which on a poll passes.
+-- If the calls so far admit none at the moment of this poll, its task asked to be polled again, or is polled again by the moment from
+-- which on a poll admits one.
 abbrev pub WokenInTime : {S C : Type 0} → ClockOf C → RateLimitView S C → RateLimitView S C → Context → Type 0
-WokenInTime c old new cx = (plain : Calls) → StandsFor old.core plain → passes plain (c.reading new.clock) ≡ false
-    → (opens : ℕ) × PassesFrom plain opens × ((cx.is_woken ≡ true) ⊎ c.wakes_by new.clock opens cx)
+WokenInTime c old new cx = (plain : Calls) → StandsFor old.core plain → admits plain (c.reading new.clock) ≡ false
+    → (opens : ℕ) × AdmitsFrom plain opens × ((cx.is_woken ≡ true) ⊎ c.wakes_by new.clock opens cx)
 
 -- a new rate limit of a service with this clock, which isn't read
 pub record New {S C : Type 0} (num per : ℕ) (service : S) (clock : C) (made : RateLimitView S C) : Type 0 where

@@ -1,6 +1,6 @@
 //! The call moments of a rate limit.
 ghost use Rattle.std.specs.Prelude.{◌≡◌, ◌≢◌, ◌≤◌, ◌<◌, ℕ, true, false, length, nat_eq, nat_le, IfOk, IsErr};
-ghost use Rattle.tower_limit.specs.Rate.{RateCoreView, Calls, StandsFor, Stands, initial, is_limited, passes, may_call, after_poll, after_call};
+ghost use Rattle.tower_limit.specs.Rate.{RateCoreView, Calls, StandsFor, Stands, initial, is_limited, admits, may_call, after_poll, after_call};
 
 use crate::limit::rate::Rate;
 use circular_buffer::HeapCircularBuffer;
@@ -10,14 +10,14 @@ use std::marker::Model;
 /// The greatest number of moments that may be allocated: 8 bytes each, and `2^63 - 1` bytes in all.
 const MOST_KEPT: u64 = 1_152_921_504_606_846_975;
 
-/// The moments of the last `num` calls, in nanoseconds, and whether a pass is open. It allocates when it
-/// is created, and never later.
+/// The moments of the last `num` calls, in nanoseconds, and whether the last poll
+/// admits a call. It allocates when it is created, and never later.
 #[derive(Drop)]
 pub struct RateCore {
     rate: Rate,
     // The newest is in front.
     moments: HeapCircularBuffer<u64>,
-    passed: bool,
+    admitted: bool,
 }
 
 impl Model for RateCore {
@@ -27,7 +27,7 @@ impl Model for RateCore {
       num = c.rate.num;
       per = c.rate.per;
       kept = c.moments.items;
-      passed = c.passed;
+      admitted = c.admitted;
     } };
 
     // There is room for the last `num` moments, and no more of them are kept.
@@ -49,7 +49,7 @@ impl RateCore {
         Ok(RateCore {
             rate,
             moments,
-            passed: false,
+            admitted: false,
         })
     }
 
@@ -64,10 +64,10 @@ impl RateCore {
         self.moments.len() as u64 == self.rate.num
     }
 
-    /// Returns the moment from which a poll passes. It is 0 if fewer than `num` calls were made.
+    /// Returns the moment from which on a poll admits a call. It is 0 if fewer than `num` calls were made.
     pub fn opens(&self) -> u128
         ensures { (plain : Calls) → StandsFor self.now plain
-            → (moment : ℕ) → passes plain moment ≡ nat_le result moment }
+            → (moment : ℕ) → admits plain moment ≡ nat_le result moment }
     {
         match self.moments.get((self.rate.num - 1) as usize) {
             Some(call) => *call as u128 + self.rate.per as u128,
@@ -77,7 +77,7 @@ impl RateCore {
 
     // Returns whether the `num`-th last call, if there is one, was at least a period before this moment.
     fn is_free_at(&self, moment: u64) -> bool
-        ensures { (plain : Calls) → StandsFor self.now plain → result ≡ passes plain moment }
+        ensures { (plain : Calls) → StandsFor self.now plain → result ≡ admits plain moment }
     {
         self.opens() <= moment as u128
     }
@@ -86,23 +86,23 @@ impl RateCore {
     /// made, or if the `num`-th last one was at least a period ago.
     #[tactic(auto, using(crate::proofs::RateStands::open_may))]
     pub fn poll(&mut self, moment: u64) -> bool
-        ensures passes { (plain : Calls) → StandsFor self.old plain → result ≡ passes plain moment }
-        ensures pass { (plain : Calls) → StandsFor self.old plain
+        ensures admits { (plain : Calls) → StandsFor self.old plain → result ≡ admits plain moment }
+        ensures admission { (plain : Calls) → StandsFor self.old plain
             → StandsFor self.new (after_poll plain moment) }
         ensures may { result ≡ true → Stands self.new (λ plain. may_call plain ≡ true) }
-        ensures noted { self.new ≡ record self.old { passed = result } }
+        ensures noted { self.new ≡ record self.old { admitted = result } }
     {
-        self.passed = self.is_free_at(moment);
-        self.passed
+        self.admitted = self.is_free_at(moment);
+        self.admitted
     }
 
-    /// Counts a call and closes the pass.
+    /// Counts a call. The next one isn't admitted.
     pub fn call(&mut self, moment: u64)
         requires { Stands self.old (λ plain. may_call plain ≡ true) }
         ensures { (plain : Calls) → StandsFor self.old plain
             → StandsFor self.new (after_call plain moment) }
     {
         let _oldest = self.moments.push_front(moment);
-        self.passed = false;
+        self.admitted = false;
     }
 }

@@ -6,7 +6,7 @@ use Rattle.tower_limit.proofs.limit.rate.rate_core.RateCore.limited.Goals as goa
 pub returns : goal.returns
 returns c =
     let i = c.self.inside in
-    let core : RateCoreView = record { num = i.rate.num; per = i.rate.per; kept = i.moments.items; passed = i.passed } in
+    let core : RateCoreView = record { num = i.rate.num; per = i.rate.per; kept = i.moments.items; admitted = i.admitted } in
     let at : core ≡ c.args.self.now = c.self.view_is in
     let counts : core.num ≢ 0 = i.rate.counts in
     let fits : length core.kept ≤ core.num = c.self.invariant.1 in
