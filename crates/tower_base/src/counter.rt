@@ -24,6 +24,7 @@ unsafe impl Sync for GhostCounter {}
 const _: () = prove!(size_of::<GhostCounter>() == 0);
 
 impl GhostCounter {
+    /// Creates a counter at 0.
     pub fn new() -> GhostCounter
         ensures { result.count ≡ 0 }
     {

@@ -72,6 +72,7 @@ impl<F, C, H> Model for TrackCompletionFuture<F, C, H> {
 }
 
 impl<F, C, H> TrackCompletionFuture<F, C, H> {
+    /// Creates the future of a request that has this handle.
     pub fn new(completion: C, handle: H, future: F) -> TrackCompletionFuture<F, C, H>
         ensures { result
             ≡ record { future = future; completion = completion; handle = Some handle } }

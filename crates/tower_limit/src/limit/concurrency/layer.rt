@@ -79,6 +79,7 @@ impl<R: Wait + Copy> GlobalConcurrencyLimitLayer<Guarded<LineCore, R>> {
 }
 
 impl<L: Latch<LineCore>> GlobalConcurrencyLimitLayer<L> {
+    /// Creates a layer whose services all take their permits from this semaphore.
     pub fn with_semaphore(semaphore: Semaphore<L>) -> GlobalConcurrencyLimitLayer<L>
         ensures { result ≡ semaphore }
     {

@@ -10,8 +10,8 @@ use std::marker::Model;
 /// The greatest number of moments that may be allocated: 8 bytes each, and `2^63 - 1` bytes in all.
 const MOST_KEPT: u64 = 1_152_921_504_606_846_975;
 
-/// The moments of the last `num` calls, in nanoseconds, and whether the last poll
-/// admits a call. It allocates when it is created, and never later.
+/// The moments of the last `num` calls, in nanoseconds, and whether the last poll admits a call. It
+/// allocates when it is created, and never later.
 #[derive(Drop)]
 pub struct RateCore {
     rate: Rate,
