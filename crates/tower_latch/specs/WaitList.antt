@@ -34,7 +34,7 @@ Looks old key Granted new = (place : ℕ) × At old place key × (place < old.gr
 Looks old key Waiting new = (place : ℕ) × At old place key × (old.granted ≤ place) × (new ≡ old)
 Looks old key Unknown new = (has old.keys key ≡ false) × (new ≡ old)
 
--- A key leaves, granted or not. If it had a grant, that goes to the next key.
+-- A key leaves, granted or not. If it had a grant, the grant goes to the next key without one.
 abbrev pub Leaves : WaitList → ℕ → Bool → WaitList → Type 0
 Leaves old key true new = (place : ℕ) × At old place key
     × (((old.granted ≤ place) × (new ≡ record old { keys = remove old.keys place }))

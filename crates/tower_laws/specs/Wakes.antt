@@ -26,7 +26,7 @@ TicketsAreNamed = (old new : LineCore) (step : LineStep) (reply : LineReply) (wa
     → NamesAll Waits old new wakes → (key : ℕ) → Waits old key → ¬ (Waits new key) → IsWoken Waits new wakes key
 
 module _ (S E : Type 0) where
-  -- It holds of each step of a slot that names whoever stalls no more.
+  -- P holds for each step of a slot that names all who no longer stall.
   abbrev pub OfEach : (Slot S E → SlotStep S E → Slot S E → Wakes → Type 0) → Type 0
   OfEach P = (old new : Slot S E) (step : SlotStep S E) (reply : SlotReply S E) (wakes : Wakes) → SlotSteps old step reply new → NamesAll Stalls old new wakes → P old step new wakes
 

@@ -50,7 +50,8 @@ step_of (Some key) = Look key
 abbrev pub initial : {S L : Type 0} → S → SemaphoreView L → ConcurrencyLimitView S L
 initial inner semaphore = record { inner = inner; asking = record { semaphore = semaphore; key = None }; permit = None }
 
--- an initial `ConcurrencyLimit` around the service, over a semaphore of its own with `max` permits
+-- An initial `ConcurrencyLimit` around the service, over a semaphore of its own with `max` permits. (`places` gives a latch's terms: the number of its
+-- permits.)
 pub record New {S L : Type 0} (places : L → ℕ) (service : S) (max : ℕ) (made : ConcurrencyLimitView S L) : Type 0 where
   pub number : made.asking.semaphore.max ≡ max
   pub terms : places made.asking.semaphore.latch ≡ max

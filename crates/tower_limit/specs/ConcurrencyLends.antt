@@ -9,6 +9,6 @@ use Rattle.tower_limit.specs.declared.limit.concurrency.line_core.LineStep.{Line
 use Rattle.tower_limit.specs.declared.limit.concurrency.line_core.LineReply.{LineReply}
 use Rattle.tower_limit.specs.contracts.limit.concurrency.service.ConcurrencyLimit.{the_row}
 
--- t ends with the last value behind r as its inner service.
+-- When the loan `r` ends, its last value is the inner service of `t`, a `ConcurrencyLimit`.
 abbrev pub LendsInner : (S L : RattleType) → LatchOf L.Denot LineCore LineStep LineReply ℕ → MutBor (ConcurrencyLimitView S.Denot L.Denot) → MutBor S.Denot → Fml
 LendsInner S L latch t r = Lends (the_row S L latch) S t r (λ w. record t.now { inner = w })

@@ -19,7 +19,7 @@ inserted key service = Ready (Some (Ok (Insert key service)))
 abbrev pub MayInsert : {D K S E : Type 0} → (D → Found K S E → D → Type 0) → D → K → S → Type 0
 MayInsert discovered d key service = MayAnswer discovered d (inserted key service)
 
--- the result after each inserted service is changed in this way, and each error in that way
+-- the same result, with an inserted service changed by `service` and an error by `error`
 abbrev pub changed : {K S T E U : Type 0} → (S → T) → (E → U) → Found K S E → Found K T U
 changed service error (Ready (Some (Ok (Insert key s)))) = Ready (Some (Ok (Insert key (service s))))
 changed service error (Ready (Some (Ok (Remove key)))) = Ready (Some (Ok (Remove key)))

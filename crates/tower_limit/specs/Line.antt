@@ -40,7 +40,7 @@ abbrev pub Steps : ℕ → List Ticket → LineStep → LineReply → List Ticke
 Steps max old Join Granted new = (length old < max) × (new ≡ old ++ Ticket.held ∷ [])
 Steps max old Join (Waiting key) new = (max ≤ length old) × Lacks old (Ticket.waits key) × (new ≡ old ++ Ticket.waits key ∷ [])
 Steps max old Join Memory new = (max ≤ length old) × (new ≡ old)
--- A key ends when its permit is seen.
+-- A waiter that looks and has a permit becomes a holder, and its key ends.
 Steps max old (Look key) Granted new = (place : ℕ) × At old place (Ticket.waits key) × (place < max) × (new ≡ slice_set old place Ticket.held)
 Steps max old (Look key) (Waiting again) new = (place : ℕ) × At old place (Ticket.waits key) × (max ≤ place) × (again ≡ key) × (new ≡ old)
 Steps max old (Look key) Unknown new = Lacks old (Ticket.waits key) × (new ≡ old)
@@ -50,6 +50,7 @@ Steps max old (Cancel key) Unknown new = Lacks old (Ticket.waits key) × (new �
 -- A holder leaves.
 Steps max old Release Left new = (place : ℕ) × At old place Ticket.held × (new ≡ remove old place)
 Steps max old Release Unknown new = Lacks old Ticket.held × (new ≡ old)
+-- The permits that nobody has are counted.
 Steps max old Free (Count free) new = (free ≡ max - length old) × (new ≡ old)
 -- No other reply is given.
 Steps max old _ _ new = ⊥

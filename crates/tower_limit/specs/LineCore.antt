@@ -40,7 +40,8 @@ Opens core = (max : ℕ) × StandsFor core (initial max)
 abbrev pub touches : LineCore → ℕ
 touches core = queue_touches core.queue
 
--- From each list that the old core stands for, the machine's step leads to one that the new core stands for. It reaches at most six entries.
+-- From each list that the old core stands for, the machine's step leads to one that the new core stands for. The step reaches at most six entries
+-- of the wait queue.
 pub record Follows (old : LineCore) (step : LineStep) (reply : LineReply) (new : LineCore) : Type 0 where
   pub same : new.max ≡ old.max
   pub goes : (line : List Ticket) → StandsAt old.max old.held old.queue line

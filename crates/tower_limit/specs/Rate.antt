@@ -14,7 +14,7 @@ pub record Calls : Type 0 where
   pub moments : List ℕ
   pub admitted : Bool
 
--- a `RateCore`: the rate, the moments that it keeps, and whether a call is admitted
+-- a `RateCore`: the rate, the moments that it keeps, and whether a call is admitted. Only its `RateLimit` has it: no latch shares it.
 pub record RateCoreView : Type 0 where
   pub num : ℕ
   pub per : ℕ
@@ -57,15 +57,15 @@ AdmitsFrom plain opens = (moment : ℕ) → admits plain moment ≡ nat_le opens
 abbrev pub may_call : Calls → Bool
 may_call plain = not (is_limited plain) || plain.admitted
 
--- A poll admits a call, or doesn't.
+-- the calls after a poll at this moment, which admits a call or doesn't
 abbrev pub after_poll : Calls → ℕ → Calls
 after_poll plain moment = record plain { admitted = admits plain moment }
 
--- A call joins the list, and the next one isn't admitted.
+-- The calls after a call at this moment: it joins the list, and no poll has admitted the next one.
 abbrev pub after_call : Calls → ℕ → Calls
 after_call plain moment = record plain { moments = moment ∷ plain.moments; admitted = false }
 
--- A core stands for a list of calls of which it keeps the last `num`.
+-- A core stands for a list of calls of which it keeps the last `num`. (`takes`: the rate allows at least one call.)
 pub record StandsFor (core : RateCoreView) (plain : Calls) : Type 0 where
   pub takes : 0 < plain.num
   pub number : plain.num ≡ core.num
@@ -86,6 +86,7 @@ abbrev pub NeedsAt : Bool → Type 0 → Type 0 → Type 0
 NeedsAt true inner clock = clock
 NeedsAt false inner clock = inner
 
+-- A pending poll of `l` waits for the source `s`.
 abbrev pub Needs : {S C : Type 0} → (S → ℕ → Type 0) → (C → ℕ → Type 0) → RateLimitView S C → ℕ → Type 0
 Needs needs hears l s = NeedsAt (is_shut l.core) (needs l.inner s) (hears l.clock s)
 

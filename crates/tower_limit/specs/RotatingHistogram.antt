@@ -26,7 +26,7 @@ module _ {L C : Type 0} (gave : L → HistoStep → HistoReply → Type 0) (c : 
     pub gave_reply : gave old.latch (Record (c.reading new.clock) (millis_of latency)) reply
     pub same : new.latch ≡ old.latch
 
-  -- a latency in milliseconds is seeded, in the same way
+  -- a latency in milliseconds is seeded, in the same way: it is read in the present period, and one that is recorded in the next period
   pub record Seeded (old : RotatingHistogramView L C) (millis : ℕ) (new : RotatingHistogramView L C) : Type 0 where
     pub read : c.read old.clock new.clock
     pub reply : HistoReply
@@ -38,13 +38,13 @@ module _ {L C : Type 0} (gave : L → HistoStep → HistoReply → Type 0) (c : 
   SeededAll old [] new = new ≡ old
   SeededAll old (millis ∷ rest) new = (mid : RotatingHistogramView L C) × Seeded old millis mid × SeededAll mid rest new
 
-  -- how many points are read: the clock is read once, and the reply to one step is returned
+  -- the number of latencies that are read in the present period: the clock is read once, and the reply to one step is returned
   pub record Counted (old : RotatingHistogramView L C) (answer : ℕ) (new : RotatingHistogramView L C) : Type 0 where
     pub read : c.read old.clock new.clock
     pub gave_count : gave old.latch (Points (c.reading new.clock)) (Count answer)
     pub same : new.latch ≡ old.latch
 
-  -- a quantile in milliseconds, in the same way
+  -- their quantile in milliseconds, in the same way
   pub record Ranked (old : RotatingHistogramView L C) (part : Fraction) (answer : ℕ) (new : RotatingHistogramView L C) : Type 0 where
     pub read : c.read old.clock new.clock
     pub gave_millis : gave old.latch (Quantile (c.reading new.clock) part) (Millis answer)
