@@ -26,14 +26,14 @@ module _ {S P L C Q A E F : Type 0} (s : ServiceOf S Q A E F) (stepped : F → P
   CopiesNone old new request = p.cloned old.policy.policy request None ⊎ ((copy : Q) × p.cloned old.policy.policy request (Some copy)
       × (points : ℕ) × Counted gave c old.policy.histogram points new.policy.histogram × (points < old.policy.min_data_points))
 
-  -- The service is ready. It isn't called if a clone before its call was refused, which is `Memory`, or if the policy doesn't allow the copy: then nothing
-  -- comes, ever. Otherwise it is called with the copy in that same poll, once.
+  -- The service is ready. It isn't called if a clone before its call was refused, which is `Memory`, or if the policy doesn't allow the copy: then no
+  -- output ever comes. Otherwise it is called with the copy in that same poll, once.
   abbrev pub CallIfAllowed : P → S → Q → ℕ → Option (Result A (Error E)) → Type 0
   CallIfAllowed policy service copy polls output = AtOnce (Err Memory) polls output
       ⊎ ((p.allowed policy copy false × (output ≡ None))
       ⊎ (p.allowed policy copy true × (answer : Option (Result A E)) × Call s stepped service copy polls answer × (output ≡ wrapped Inner answer)))
 
-  -- Once the delay is over, from a reading at the call on, and a clone of the service is ready, it is called, with the leave of a clone of the policy.
+  -- Once the delay is over, from a reading at the call on, and a clone of the service is ready, it is called, if a clone of the policy allows it.
   abbrev pub CallAfter : HedgeView S P L C → ℕ → Q → ℕ → Option (Result A (Error E)) → Type 0
   CallAfter old delay copy polls output = (share clock : C) × c.shared old.b.clock share × c.read share clock
       × (policy : P) × policy_clone old.b.service.predicate policy × (service : S) × service_clone old.b.service.inner.service service
@@ -46,8 +46,8 @@ module _ {S P L C Q A E F : Type 0} (s : ServiceOf S Q A E F) (stepped : F → P
       ⊎ ((copy : Q) × Copies old new request copy × (delay : ℕ) × DelayComputed gave c old.b.policy copy delay new.b.policy
       × (AtOnce (Err Memory) polls output ⊎ CallAfter old delay copy polls output))
 
-  -- The first side makes one call. Its answer is returned, and the second side had none before. Or the second side's is, and the first has none in
-  -- that poll either.
+  -- The first side makes one call. Either its answer is returned, and the second side had none before. Or the second side's answer is returned, and the
+  -- first has none in that poll either.
   abbrev pub HedgesOnce : {H : Type 0} → (HedgeView S P L C → Q → H → HedgeView S P L C → Type 0) → (H → Poll (Result A (Error E)) → H → Type 0) → Type 0
   HedgesOnce {H} called outside = (old new : HedgeView S P L C) (request : Q) (future : H) (polls : ℕ) (output : Result A (Error E))
       → called old request future new → Comes outside polls future (Some output)

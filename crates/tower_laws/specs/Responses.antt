@@ -15,7 +15,7 @@ module _ {F X : Type 0} (stepped : F → Poll X → F → Type 0) where
   EndsAfter zero first output last = stepped first (Ready output) last
   EndsAfter (suc polls) first output last = (next : F) × stepped first Pending next × EndsAfter polls next output last
 
-  -- The given number of polls are pending. If there is an output, the next one returns it. (Without one it is that of a response that is pending still.)
+  -- The given number of polls are pending. If there is an output, the next one returns it. (Without one the response is still pending.)
   abbrev pub Comes : ℕ → F → Option X → Type 0
   Comes zero first (Some output) = (last : F) × stepped first (Ready output) last
   Comes zero first None = Unit {0}

@@ -12,7 +12,7 @@ use Rattle.tower_retry.specs.declared.retry.error.Error.{Error}
 use Rattle.tower_retry.specs.declared.retry.error.Error.TheVariants.{Inner, Memory}
 use Rattle.tower_retry.specs.declared.retry.policy.Policy.{Ghosts as PolicyOf}
 
--- how many of the decisions are to retry
+-- 1 if the decision is to retry, or else 0; and how many of the decisions are to retry
 abbrev pub is_retry : {W : Type 0} → Decision W → ℕ
 is_retry NotKept = 0
 is_retry NoRetry = 0
@@ -33,14 +33,14 @@ requested_again (first ∷ rest) = requested rest
 
 module _ {P S Q A E F W : Type 0} (s : ServiceOf S Q A E F) (stepped : F → Poll (Result A E) → F → Type 0)
     (p : PolicyOf P Q A E W) (waited : W → Poll (Unit {0}) → W → Type 0) where
-  -- There is one attempt more than decisions to retry. Or as many, and the answer is an error of readiness after the last wait.
+  -- There is one attempt more than decisions to retry. Or there are as many, and the answer is an error of readiness after the last wait.
   abbrev pub OneMore : List (Attempt Q A E W) → Result A (Error E) → Type 0
   OneMore attempts output = (length attempts ≡ retries attempts + 1) ⊎ ((length attempts ≡ retries attempts)
       × ((error : E) × (old new : S) × s.polled old (Ready (Err error)) new × (output ≡ Err (Inner error))))
 
   module _ (policy_clone : CloneOf P) (service_clone : CloneOf S) where
-    -- The answer is that of a list of attempts. The call makes the first, and a run of the clone that the future has makes just the others. Without one, a
-    -- clone of the policy or of the service was refused, and the answer is `Memory`.
+    -- The answer is that of a list of attempts. The call makes the first, and a run of the future's clone of the service makes just the others. A future
+    -- without parts (`None`) answers `Memory`, since a clone of the policy or of the service was refused.
     abbrev pub CallsPerAttempt : RetryView P S → Q → ResponseFutureView P S Q F W → Result A (Error E) → Type 0
     CallsPerAttempt left request (Some first) output = (attempts : List (Attempt Q A E W)) × Attempted s stepped p waited attempts request first output × OneMore attempts output
         × service_clone.is_clone left.service first.service × ((last : S) × Makes (relations s) first.service (requested_again attempts) last)

@@ -18,7 +18,7 @@ pub record Ledger : Type 0 where
   pub generation : ℕ
   pub amounts : List Amount
 
--- What a constructor accepts, as upstream does: `ttl` is 1 to 60 seconds; `min_per_sec`, the retries that the reserve covers for each second of
+-- What a constructor accepts, as the Rust's budget does: `ttl` is 1 to 60 seconds; `min_per_sec`, the retries that the reserve covers for each second of
 -- `ttl`, is below 2147483647, the largest `i32`; and `fraction`, the number of retries that a success pays for, is at most 1000.
 pub record Fits (ttl min_per_sec : ℕ) (fraction : Fraction) : Type 0 where
   pub long : 1000000000 ≤ ttl

@@ -33,7 +33,8 @@ abbrev pub earned : ℕ → ℕ → ℕ → List (BudgetStep × BudgetReply) →
 earned deposit back now [] = 0
 earned deposit back now (entry ∷ rest) = (if nat_lt now (moment_of entry.0 + back) then gain deposit entry.0 else 0) + earned deposit back now rest
 
--- It and the retries of the ten windows before it cost at most the reserve and what the successes of the last eleven windows brought.
+-- A retry that is allowed at this moment and those of the ten windows before it cost at most the reserve and what the successes of the last eleven
+-- windows brought.
 abbrev pub IsCovered : Terms → ℕ → List (BudgetStep × BudgetReply) → Type 0
 IsCovered terms moment served = terms.withdrawal + spent terms.withdrawal (10 * terms.window) moment served ≤ terms.reserve + earned terms.deposit (11 * terms.window) moment served
 
@@ -55,7 +56,7 @@ BoundedAtLatch =
     → ∥ ((made : ℕ) × (served : List (BudgetStep × BudgetReply)) × (past : Ledger) × Serves Steps (initial terms made) served past
     × (NeverBack made served moment → AreFew terms served → IsCovered terms moment served)) ∥₁
 
--- And of each retry in the history of a budget that ran under a log, with the entries before it.
+-- So it is, too, of each retry in the history of a budget that ran under a log, with the entries before it.
 abbrev pub BoundedInHistory : Type 0
 BoundedInHistory =
     (terms : Terms) (made : ℕ) (budget : BudgetCore) (opening : Option BudgetCore) (history : List (BudgetStep × BudgetReply)) → 0 < terms.window

@@ -30,7 +30,7 @@ Changes change old new = (ledger : Ledger) → StandsFor old ledger → StandsFo
 abbrev pub writes : BudgetCore → ℕ
 writes core = core.slots.writes.count
 
--- the saturating sum of the reserve, the slots and the present amount
+-- the sum of the reserve, the slots and the present amount, which saturates at 128 bits (`w128`)
 abbrev pub kept_balance : BudgetCore → ℤ
 kept_balance core = saturate_signed w128 (kept_sum (pos core.terms.reserve) core.slots.index core.slots.amounts.items 10 +ℤ core.present)
 

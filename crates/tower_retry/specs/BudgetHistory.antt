@@ -11,8 +11,8 @@ use Rattle.tower_retry.specs.declared.retry.budget.steps.BudgetReply.{BudgetRepl
 use Rattle.tower_retry.specs.declared.retry.budget.steps.BudgetReply.TheVariants.{Allowed}
 use Rattle.tower_retry.specs.declared.retry.budget.steps.Terms.{Terms}
 
--- If the log opened with a new budget, the entries before each withdrawal lead to some ledger, and the withdrawal is made exactly if the balance
--- there, which is the reserve and the sum of the amounts that count, reaches its amount. (If that sum is exact.)
+-- If the log opened with a new budget, the entries before each withdrawal lead to some ledger. If sums are exact there, the withdrawal is allowed exactly
+-- if the balance there, which is the reserve and the sum of the amounts that count, reaches its amount.
 abbrev pub AnsweredBySums : Type 0
 AnsweredBySums =
     (terms : Terms) (made : ℕ) (budget : BudgetCore) (opening : Option BudgetCore) (history : List (BudgetStep × BudgetReply))

@@ -48,7 +48,7 @@ module _ {S C Q A E F : Type 0} (s : ServiceOf S Q A E F) (f : F → Poll (Resul
     pub answers : answer ≡ answered Inner inner
     pub after : new ≡ InFlight left
 
-  -- The call begins.
+  -- The delay is over, and the call begins: a `Oneshot` of the clone and the request is polled once.
   abbrev pub Begun : State (SleepView C) S Q (Oneshot S Q A E F) → Poll (Result A (Error E)) → State (SleepView C) S Q (Oneshot S Q A E F) → Type 0
   Begun (Delaying sleep service request) answer new = InFlightStepped (NotReady service request) answer new
   Begun old answer new = ⊥

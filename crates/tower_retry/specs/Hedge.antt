@@ -22,7 +22,7 @@ use Rattle.tower_retry.specs.declared.hedge.select.error.Error.TheVariants.{Firs
 use Rattle.tower_ware.specs.declared.filter.error.Error.{Error as FilterError}
 use Rattle.tower_ware.specs.declared.filter.error.Error.TheVariants.{Inner as Filtered, Rejected, Memory as NoFiltered}
 
--- A `Hedge`: a `Select` of a recorded service and of a delayed, filtered and recorded one.
+-- A service whose latencies a histogram records. A `Hedge` is a `Select` of such a service and of another, which is filtered and delayed besides.
 abbrev pub RecordedView : Type 0 → Type 0 → Type 0 → Type 0
 RecordedView S L C = LatencyView (RotatingHistogramView L C) S C
 
@@ -51,12 +51,14 @@ pub record Stepped {A E F : Type 0} (f : StepsOf F (Result A (SelectError E (Del
   pub stepped : f.stepped old inner new
   pub answers : answer ≡ answered flat inner
 
--- A check: the policy decides whether the request may be made again. If so, it passes; otherwise it waits.
+-- The state in which a check of a request begins, by what the policy decides. A request that may be made again passes. For any other the check is
+-- never ready.
 abbrev pub ChecksTo : {Q N : Type 0} → Q → Bool → CheckState Q N → Type 0
 ChecksTo request allowed (Passed kept) = (allowed ≡ true) × (kept ≡ request)
 ChecksTo request allowed (Waiting never) = allowed ≡ false
 ChecksTo request allowed Given = ⊥
 
+-- a check, as the filter of the second side makes it: the policy is asked once
 pub record Checked {P Q N : Type 0} (p : PolicyOf P Q) (old : P) (request : Q) (future : CheckState Q N) (new : P) : Type 0 where
   pub allowed : Bool
   pub decided : p.allowed old request allowed

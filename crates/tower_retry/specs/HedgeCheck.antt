@@ -12,10 +12,12 @@ CheckStepped (Passed request) answer new = (answer ≡ Ready (Ok request)) × (n
 CheckStepped (Waiting never) answer (Waiting left) = answer ≡ Pending
 CheckStepped old answer new = ⊥
 
+-- A check may be polled until it has returned the request.
 abbrev pub CanPoll : {Q N : Type 0} → CheckState Q N → Type 0
 CanPoll Given = ⊥
 CanPoll old = ⊤
 
+-- what a check waits for: a future that is never ready, if the request may not be made again
 abbrev pub Needs : {Q N : Type 0} → (N → ℕ → Type 0) → CheckState Q N → ℕ → Type 0
 Needs needs (Waiting never) = needs never
 Needs needs old = λ source. ⊥

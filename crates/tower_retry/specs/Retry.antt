@@ -36,7 +36,8 @@ module _ {P S Q A E F W : Type 0} (p : PolicyOf P Q A E W) where
   AfterDecision old outcome None answer new = (answer ≡ Some (answered Inner (Ready outcome))) × (new ≡ old)
   AfterDecision old outcome (Some wait) answer new = (answer ≡ None) × (new ≡ record old { state = Waiting wait })
 
-  -- What follows a result. If no request was kept, it is the answer. Otherwise the policy is called, which may change both.
+  -- What follows a result. If no request was kept, the result is the answer. Otherwise the policy is called, which may change the request and the
+  -- result.
   abbrev pub AfterResult : Option Q → Attempts P S Q F W → Result A E → Option (Poll (Result A (Error E))) → Attempts P S Q F W → Type 0
   AfterResult None old result answer new = (answer ≡ Some (answered Inner (Ready result))) × (new ≡ old)
   AfterResult (Some request) old result answer new = (decision : Option W) × (policy : P) × (changed : Q) × (outcome : Result A E)

@@ -59,7 +59,8 @@ module _ {P S Q A E F W : Type 0} (s : ServiceOf S Q A E F) (stepped : F → Pol
   Retries NoRetry old result request new = ⊥
   Retries NotKept old result request new = ⊥
 
-  -- The last attempt. Its result, as the policy left it, is the answer; or an error of readiness after a wait is, for which the policy isn't called.
+  -- The last attempt. The answer is its result, as the policy left it, or an error of readiness after a wait. The policy isn't called for such an
+  -- error.
   abbrev pub Ends : Decision W → Attempts P S Q F W → Result A E → Result A (Error E) → Type 0
   Ends NotKept old result output = (old.request ≡ None) × (Ready output ≡ answered Inner (Ready result))
   Ends NoRetry old result output = (kept : Q) × (policy : P) × (changed : Q) × (outcome : Result A E) × (old.request ≡ Some kept)

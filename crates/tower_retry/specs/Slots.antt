@@ -40,7 +40,7 @@ Shifted generations present index slots new_index new_slots =
     (generation : ℕ) (amounts : List Amount) → Keeps generation 0 amounts present → Slotted generation amounts index slots
     → Slotted (generation + generations) amounts new_index new_slots
 
--- the saturating sum of `sum` and of the slots of the last generations, the newest first, up to `back` generations before
+-- the sum of `sum` and of the slots of the last generations, the newest first, up to `back` generations before; it saturates at 128 bits (`w128`)
 unfoldable pub kept_sum : ℤ → ℕ → List ℤ → ℕ → ℤ
 kept_sum sum index slots zero = sum
 kept_sum sum index slots (suc back) = saturate_signed w128 (kept_sum sum index slots back +ℤ slot index slots (suc back))
