@@ -22,6 +22,7 @@ pub data Entry (Q F : Type 0) : Type 0 where
   gone : Fate F → Entry Q F
 
 -- The line is that of permits. Its tickets are the waiters, and the holders of the places, which are the reserved places and the queued messages.
+-- `reserved` counts the reserved places, `stored` is the first error of the service, and `buffers` counts the `Buffer`s.
 pub record Mail (Q F E : Type 0) : Type 0 where
   pub bound : ℕ
   pub messages : List (Entry Q F)
@@ -138,7 +139,7 @@ module _ {Q F E : Type 0} where
   MailSteps old Reserve Memory new = ((old.is_closed ≡ false) ⊎ ((old.is_closed ≡ true) × Tells old.stored Memory)) × (new ≡ old)
   MailSteps old Reserve (Failed e) new = (old.is_closed ≡ true) × Tells old.stored (Failed e) × (new ≡ old)
   MailSteps old Reserve Closed new = (old.is_closed ≡ true) × Tells old.stored Closed × (new ≡ old)
-  -- A key ends when its place is seen. In closed mail no key waits.
+  -- A waiter that looks and has a place reserves it, and its key ends. In closed mail no key waits.
   MailSteps old (Look key) Place new = (old.is_closed ≡ false) × Steps old.bound old.line (SeePlace key) Granted new.line
       × (new ≡ record old { line = new.line; reserved = old.reserved + 1 })
   MailSteps old (Look key) (Waiting again) new = (old.is_closed ≡ false) × Steps old.bound old.line (SeePlace key) (Waits again) new.line × (new ≡ old)
@@ -146,13 +147,14 @@ module _ {Q F E : Type 0} where
   MailSteps old (Look key) Memory new = (old.is_closed ≡ true) × Tells old.stored Memory × (new ≡ old)
   MailSteps old (Look key) (Failed e) new = (old.is_closed ≡ true) × Tells old.stored (Failed e) × (new ≡ old)
   MailSteps old (Look key) Closed new = (old.is_closed ≡ true) × Tells old.stored Closed × (new ≡ old)
+  -- A waiter leaves the line, with or without a place. A reserved place is given back.
   MailSteps old (Cancel key) Done new = ((old.is_closed ≡ true) × (new ≡ old))
       ⊎ ((old.is_closed ≡ false) × Steps old.bound old.line (LeaveLine key) Left new.line × (new ≡ record old { line = new.line }))
   MailSteps old (Cancel key) Unknown new = (old.is_closed ≡ false) × Steps old.bound old.line (LeaveLine key) NoTicket new.line × (new ≡ old)
   MailSteps old Unreserve Done new = (0 < old.reserved) × Steps old.bound old.line Release Left new.line
       × (new ≡ record old { line = new.line; reserved = old.reserved - 1 })
   MailSteps old Unreserve Unknown new = (old.reserved ≡ 0) × (new ≡ old)
-  -- The reserved place becomes the message's. If the worker is gone, the place is used up, unless allocation fails.
+  -- The reserved place becomes the message's. If the worker is gone, the place is given back, unless a clone of the stored error is refused.
   MailSteps old (Send request) (Sent id) new = (0 < old.reserved) × (old.has_worker ≡ true) × NoneWith (λ item. Unit {0}) old.messages id
       × (new ≡ record old { reserved = old.reserved - 1; messages = old.messages ++ Entry.here (record { id = id; request = Some request; fate = Open }) ∷ [] })
   MailSteps old (Send request) (Failed e) new = (0 < old.reserved) × (old.has_worker ≡ false) × Tells old.stored (Failed e)
@@ -182,7 +184,7 @@ module _ {Q F E : Type 0} where
   MailSteps old (Fail id e) Unknown new = NoneWith IsTaken old.messages id × (new ≡ old)
   MailSteps old (FailStored id) Done new = (is_some old.stored ≡ true) × Settles HasFailed old.messages id new.messages × (new ≡ record old { messages = new.messages })
   MailSteps old (FailStored id) Unknown new = ((old.stored ≡ None) ⊎ NoneWith IsTaken old.messages id) × (new ≡ old)
-  -- An outcome is returned, and the message is gone.
+  -- An outcome is returned, and the message is gone. If a clone of the stored error is refused (`Memory`), the message stays.
   MailSteps old (Outcome id) (Waiting again) new = (place : ℕ) × (item : SentMessage Q F) × At old.messages place item × (item.id ≡ id) × (item.fate ≡ Open)
       × (again ≡ id) × (new ≡ old)
   MailSteps old (Outcome id) (Future future) new = (place : ℕ) × (item : SentMessage Q F) × At old.messages place item × (item.id ≡ id) × (item.fate ≡ Answered future)

@@ -13,7 +13,7 @@ use Rattle.tower_buffer.specs.declared.buffer.mail.MailReply.TheVariants.{Sent}
 use Rattle.tower_buffer.specs.declared.buffer.mailbox.Mailbox.{Mailbox}
 
 module _ (Q F E : Type 0) where
-  -- It holds of each step that mail makes and that names whoever stalls no more.
+  -- P holds for each step of mail that names all who no longer stall.
   abbrev pub OfEach : (Mailbox Q F E → MailStep Q F E → MailReply Q F E → Mailbox Q F E → Wakes → Type 0) → Type 0
   OfEach P = (old new : Mailbox Q F E) (step : MailStep Q F E) (reply : MailReply Q F E) (wakes : Wakes) → StepsAs StandsFor MailSteps old step reply new
       → NamesAll stalls old new wakes → P old step reply new wakes

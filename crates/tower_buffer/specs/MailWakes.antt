@@ -66,7 +66,7 @@ module _ {Q F E : Type 0} where
   abbrev pub NamesPlaces : Mailbox Q F E → Mailbox Q F E → Wakes → Type 0
   NamesPlaces old new wakes = NamesWorker old new wakes × NamesTickets old new wakes
 
--- If one is named, it is a ticket that has its key alone, and waits no more.
+-- If `One` key is named, it is that of a ticket, which has the key alone and no longer waits.
 abbrev pub TicketGoesOn : WaitQueue → Wakes → Type 0
 TicketGoesOn queue wakes = (key : ℕ) → wakes ≡ One key → (at : ℕ) × (ticket_key at ≢ 2 ^ 64 - 1) × (ticket_key at ≡ key) × ¬ (queue_stalls queue at)
 

@@ -26,7 +26,7 @@ pub record PairedOver {L S Q : Type 0} (shares : L → Result L AllocError → T
   pub first : buffer.latch ≡ latch
   pub pair : Paired shares service buffer worker
 
--- The executor takes the task, and the other value is returned. Or it gives the task back.
+-- The executor takes the task, and the other value is returned. Or the executor gives the task back, and the error is `NotSpawned`.
 abbrev pub HandsOver : {X T B E : Type 0} → (X → T → Result (Unit {0}) T → Type 0) → X → T → B → Result B (Error E) → Type 0
 HandsOver spawned executor task other (Ok kept) = (kept ≡ other) × spawned executor task (Ok tt)
 HandsOver {T = T} spawned executor task other (Err NotSpawned) = (back : T) × spawned executor task (Err back)

@@ -69,7 +69,8 @@ module _ {Q F : Type 0} where
   abbrev pub Fits : {E : Type 0} → Option E → Message Q F → Type 0
   Fits stored message = (is_failed message.fate ≡ true → is_some stored ≡ true) × (is_unsettled message.fate ≡ false → message.request ≡ None)
 
-  -- A taken message without an outcome has failed now, and one that nobody waits for is gone.
+  -- A taken message without an outcome has failed now, and one that nobody waits for is gone. (`Updates old new id value`: the new slab has this value
+  -- under the id, or none, and is otherwise as before.)
   pub record FailsTaken (old : LinksView (Message Q F)) (id : ℕ) (new : LinksView (Message Q F)) : Type 0 where
     pub message : Message Q F
     pub was : get old.entries id ≡ Some message

@@ -22,7 +22,7 @@ abbrev pub without : {Q : Type 0} → ℕ → List (ℕ × Q) → List (ℕ × Q
 without id [] = []
 without id (message ∷ rest) = if nat_eq id message.0 then without id rest else message ∷ without id rest
 
--- what was given, after a failure: nothing still, if nobody waits
+-- what was given to a message, after a failure of the service: still nothing if nobody waits for it (`None`)
 abbrev pub failed : {F : Type 0} → Option (Fate F) → Option (Fate F)
 failed None = None
 failed (Some fate) = Some HasFailed
@@ -112,6 +112,7 @@ module _ {Q F E : Type 0} where
       → opening ≡ Some box → IsLegal Opens (StepsAs StandsFor MailSteps) opening history → (place : ℕ) (step : MailStep Q F E) (reply : MailReply Q F E)
       → slice_get history place ≡ Some (step, reply) → P (take place history) step reply
 
+  -- P holds in each run and in each history.
   abbrev pub HoldOfMail : (List (MailStep Q F E × MailReply Q F E) → MailStep Q F E → MailReply Q F E → Type 0) → Type 0
   HoldOfMail P = InEachRun P × InEachHistory P
 

@@ -45,7 +45,8 @@ pub enum MailReply<Request, F, E> {
     /// There is no place or outcome yet. The caller waits under this key, or for the outcome of this
     /// message.
     Waiting(u64),
-    /// There is no room, or no further `Buffer` can be counted. The mail is unchanged.
+    /// There is no room, a clone of the stored error is refused, or no further `Buffer` can be counted.
+    /// The mail is unchanged.
     Memory,
     /// The service failed, with this error.
     Failed(E),

@@ -292,7 +292,7 @@ impl<Request: Drop, F, E: Clone> Mailbox<Request, F, E> {
         (MailReply::Sent(id), Wakes::One(WORKER))
     }
 
-    // Refuses the request, since the worker is gone. The place is used up, unless the reply is `Memory`.
+    // Refuses the request, since the worker is gone. The place is given back, unless the reply is `Memory`.
     fn refuse(&mut self, request: Request) -> (MailReply<Request, F, E>, Wakes)
         requires same { (x y : E) → E.is_clone x y → y ≡ x }
         requires reserved { 0 < self.old.reserved }
