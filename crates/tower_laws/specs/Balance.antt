@@ -44,8 +44,8 @@ module _ {K S : Type 0} (eq : K → K → Bool) where
     pub stays : All (λ (change : Change K S). removes key change ≡ false) after
     pub leads : RunInside (relations s) (λ requests. Unit {0}) first service
 
--- The index is that of the only one of these ready endpoints. Or two of them were drawn, which left the generator so, and it is the first's if its load is
--- at most the second's, and else the second's.
+-- The index is that of the only one of these ready endpoints. Or two of them were drawn, which left the generator `rng`. Then the index is the first's
+-- if its load is at most the second's, and otherwise the second's.
 abbrev pub IsChosen : {R K S M : Type 0} → (S → M → Type 0) → (M → M → Option Ordering) → (R → ℕ → R → Type 0) → List (K × S) → R → ℕ → Type 0
 IsChosen {R} {K} {S} {M} loaded cmp drew ready rng index = ((length ready ≡ 1) × (index ≡ 0))
     ⊎ ((first second : ℕ) × (before : R) × Drawn drew before (length ready) (first ∷ second ∷ []) rng
@@ -61,19 +61,19 @@ Reaches {K = K} {S = S} {G = G} s polled request future = (index : ℕ) × (poll
 
 module _ {D R K S Q A E G X M B : Type 0} (balance : Relations B Q (Error E X) (Option G)) (view : B → BalanceView D R K S) (eq : K → K → Bool) (s : ServiceOf S Q A E G)
     (loaded : S → M → Type 0) (cmp : M → M → Option Ordering) (drew : R → ℕ → R → Type 0) (discovered : D → Found K S X → D → Type 0) where
-  -- So does each call after a poll that returned `Ok`.
+  -- Each call after a poll that returned `Ok` reaches that endpoint.
   abbrev pub CallsReachKept : Type 0
   CallsReachKept = (old mid new : B) (request : Q) (future : Option G) → balance.polled old (Ready (Ok tt)) mid → balance.called mid request future new
       → Reaches s (view mid) request future
 
-  -- The index that a poll keeps was kept before it, or it was chosen in it, so, from the endpoints that are ready still, by the balancer's generator. (Since
-  -- then that one was polled once more.)
+  -- The index that a poll keeps was kept before it. Or the poll chose it from the endpoints that are still ready, by the balancer's generator. (After the
+  -- choice that endpoint was polled once more.)
   abbrev pub KeepsChosen : Type 0
   KeepsChosen = (old new : B) (answer : Poll (Result (Unit {0}) (Error E X))) (index : ℕ) → balance.polled old answer new → (view new).kept ≡ Some index
       → ((view old).kept ≡ Some index)
       ⊎ ((ready : List (K × S)) × (left : S) × ((view new).services.ready ≡ set_value_at ready index left) × IsChosen loaded cmp drew ready (view new).rng index)
 
-  -- So came each endpoint, ready, or pending and not cancelled, by the changes that were read since the balancer was made.
+  -- Each endpoint that is ready, or pending and not cancelled, came by the changes that were read since the balancer was made.
   abbrev pub EndpointsCame : Type 0
   EndpointsCame = (discover : D) (rng : R) (made last : B) (run : List (Transition B Q (Error E X) (Option G))) → view made ≡ initial discover rng → ServiceRun balance made run last
       → (found : List (Found K S X)) × Finds discovered discover found (view last).discover

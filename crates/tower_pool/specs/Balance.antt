@@ -1,4 +1,5 @@
--- The machine of `balance::p2c`: a discovery, a ready cache of what it inserted, and the index of the endpoint that is to be called next.
+-- The machine of `balance::p2c`: a discovery (an `impl Discover`), a ready cache of the endpoints that it inserted, and the index of the endpoint that
+-- is to be called next.
 use Rattle.std.specs.Prelude.{ℕ, zero, suc, ◌+◌, ◌≡◌, ◌≤◌, Bool, true, false, List, [], ◌∷◌, ◌++◌, Option, Some, None, IfSome, Result, Ok, Err, ◌⊎◌, length, slice_get, if◌then◌else◌}
 use Rattle.std.specs.List.Sorted.{IsPermutation}
 use Rattle.std.specs.Option.{MatchOption, option_map_or}
@@ -130,8 +131,8 @@ module _ {K S M : Type 0} (loaded : S → M → Type 0) (cmp : M → M → Optio
   IsLighter ready i j lighter = (x : M) × (y : M) × At ready i (λ e. loaded e.1 x) × At ready j (λ e. loaded e.1 y) × (lighter ≡ partial_le cmp x y)
 
 module _ {R K S M : Type 0} (loaded : S → M → Type 0) (cmp : M → M → Option Ordering) (drew : R → ℕ → R → Type 0) where
-  -- If no endpoint is ready, none is picked, and if one is, that one. Of more, two are drawn and report their loads: the first is picked exactly if
-  -- its load is at most the second's.
+  -- If no endpoint is ready, none is picked. If just one is ready, it is picked. Of more, two are drawn and report their loads: the first is picked if
+  -- its load is at most the second's, and otherwise the second.
   abbrev pub PickedOf : List (K × S) → List (K × S) → R → Option ℕ → R → Type 0
   PickedOf [] ready old index new = (index ≡ None) × (new ≡ old)
   PickedOf (e ∷ []) ready old index new = (index ≡ Some 0) × (new ≡ old)

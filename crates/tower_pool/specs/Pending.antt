@@ -21,8 +21,8 @@ pub record PendingListView (K S : Type 0) : Type 0 where
 abbrev pub knows : {K S : Type 0} → (K → K → Bool) → PendingListView K S → K → Bool
 knows eq v k = is_some (lookup (eq k) v.places)
 
--- Room for an endpoint of this key, and so for `more` endpoints, may have been refused: a clone of the key may fail; or the key has no place, and no
--- further key fits; or no further endpoint fits beside as many.
+-- Room for `more` endpoints, one of this key included, may have been refused: a clone of the key may fail; or the key has no place, and no further
+-- key fits; or at most `more` further endpoints fit.
 abbrev pub MayRefuse : {K S : Type 0} → CloneOf K → (K → K → Bool) → PendingListView K S → K → ℕ → Type 0
 MayRefuse clones eq old key more = (¬ (clones.is_infallible key)) ⊎ ((old.spare ≡ 0) × (knows eq old key ≡ false)) ⊎ (old.room ≤ length old.items + more)
 
@@ -34,7 +34,7 @@ entry_of e = record { key = e.0; service = e.1; cancelled = e.2 }
 abbrev pub cache_of : {K S : Type 0} → List (K × S) → PendingListView K S → ReadyCacheView K S
 cache_of ready v = record { ready = ready; pending = v.items }
 
--- The invariant of a cache holds for them.
+-- The invariant of a cache holds for these ready endpoints and these pending ones.
 abbrev pub Holds : {K S : Type 0} → (K → K → Bool) → (K → K → Type 0) → List (K × S) → PendingListView K S → Type 0
 Holds eq is_clone ready v = CacheInvariant eq is_clone ready v.items (knows eq v) v.room
 

@@ -23,7 +23,7 @@ pub record ReadyCacheView (K S : Type 0) : Type 0 where
   pub ready : List (K × S)
   pub pending : List (PendingView K S)
 
--- For how many endpoints that are ready or pending there is room, for how many more keys, and for how many more ready endpoints.
+-- How much room there is: for `endpoints` endpoints, ready or pending; for `keys` more keys; and for `ready` more ready endpoints.
 pub record Room : Type 0 where
   pub endpoints : ℕ
   pub keys : ℕ
@@ -97,7 +97,7 @@ abbrev pub PendingNeeds : {K S : Type 0} → (S → ℕ → Type 0) → List (Pe
 PendingNeeds needs [] source = ⊥
 PendingNeeds needs (p ∷ ps) source = needs p.service source ⊎ PendingNeeds needs ps source
 
--- The poll's task is heard at each source that a pending endpoint waits for, without the first endpoints of this number.
+-- The poll's task is registered at each source that a pending endpoint waits for. The first `n` endpoints don't count.
 abbrev pub HeardFrom : {K S : Type 0} → (S → ℕ → Type 0) → Context → ℕ → List (PendingView K S) → Type 0
 HeardFrom needs cx n ps = (source : ℕ) → PendingNeeds needs (drop n ps) source → Hears cx source
 

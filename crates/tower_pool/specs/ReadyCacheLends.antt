@@ -12,7 +12,7 @@ use Rattle.tower_pool.specs.contracts.ready_cache.cache.ReadyCache.{the_row}
 abbrev pub with_ready_at : {K S : Type 0} → CountedView K S → Option ℕ → S → CountedView K S
 with_ready_at c i w = record c { lists = record c.lists { ready = option_map_or (λ i. set_value_at c.lists.ready i w) i c.lists.ready } }
 
--- c ends with the last value behind r as the ready service at the index. At `None` it is unchanged. `key` and `clone` are what the key's `Hash`, with
--- its `Eq`, and its `Clone` say.
+-- When the loan `r` ends, its last value is the ready service of `c` at the index. If nothing was lent (`None`), `c` is unchanged. `key` and `clone`
+-- are what the key's `Hash`, with its `Eq`, and its `Clone` say.
 abbrev pub LendsReady : (K S Q : RattleType) → HashMembers K.Denot → CloneOf K.Denot → MutBor (CountedView K.Denot S.Denot) → Option ℕ → Option (MutBor S.Denot) → Fml
 LendsReady K S Q key clone c i r = LendsIf (the_row K S Q (record { eq = key.eq }) (record { hash_input = key.hash_input }) clone) S c r (with_ready_at c.now i) c.now

@@ -27,7 +27,7 @@ slot_step old Abort = (Done, Aborted)
 slot_step old TaskGone = (Done, old)
 slot_step old step = (Unknown, old)
 
--- The caller has to wait: the service isn't there yet, or the task is still waited for.
+-- The caller has to wait: the owner, since the service isn't there yet, or the task, since there is no abort yet.
 abbrev pub is_waiting : {S E : Type 0} → SlotReply S E → Bool
 is_waiting Waiting = true
 is_waiting (Truth false) = true
@@ -37,7 +37,7 @@ is_waiting _ = false
 abbrev pub SlotSteps : {S E : Type 0} → Slot S E → SlotStep S E → SlotReply S E → Slot S E → Type 0
 SlotSteps old step reply new = (reply, new) ≡ slot_step old step
 
--- the key at which the caller waits: the owner for the service at 0, and the task to be told at 1 that nobody waits for it
+-- the key at which the caller waits: the owner waits at 0 for the service, and the task at 1 for an abort
 abbrev pub key_of : {S E : Type 0} → SlotReply S E → ℕ
 key_of (Truth false) = 1
 key_of _ = 0

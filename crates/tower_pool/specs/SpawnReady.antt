@@ -70,7 +70,7 @@ module _ {S E L : Type 0} (l : LatchOf L (Slot S E) (SlotStep S E) (SlotReply S 
   abbrev pub StepMade : L → SlotStep S E → Type 0
   StepMade latch step = (reply : SlotReply S E) × l.gave latch step reply
 
-  -- A check for an abort found none, as the latch's `gave` says: in some run of a slot.
+  -- A check for an abort (the step `Aborted`) found none, as the latch's `gave` says: in some run of a slot.
   abbrev pub IsWaitedFor : L → Type 0
   IsWaitedFor latch = (reply : SlotReply S E) × l.gave latch Aborted reply × (tells reply ≡ false)
 
@@ -88,7 +88,7 @@ module _ {S E L : Type 0} (l : LatchOf L (Slot S E) (SlotStep S E) (SlotReply S 
     Drives false old answer new = (readiness : Poll (Result (Unit {0}) E)) × (left : S) × s.polled old.service readiness left
         × AfterReadiness old left readiness answer new
 
-    -- A poll of a task first checks once for an abort.
+    -- A poll of a task first checks once for an abort, by the step `Aborted`.
     abbrev pub TaskStepped : Option (Held S L) → Poll (Unit {0}) → Option (Held S L) → Type 0
     TaskStepped (Some held) answer new = (reply : SlotReply S E) × l.gave held.latch Aborted reply × Drives (tells reply) held answer new
     TaskStepped None answer new = ⊥
@@ -107,6 +107,7 @@ module _ {S Q A E F L X : Type 0} (s : ServiceOf S Q A E F) (l : LatchOf L (Slot
   AfterReply old (Failed e) answer new = (answer ≡ Some (Ready (Err (Inner e)))) × (new ≡ old)
   AfterReply old _ answer new = (answer ≡ Some (Ready (Err Gone))) × (new ≡ old)
 
+  -- The service is requested from the slot once.
   abbrev pub Looks : SpawnReadyView S X L → Answer → SpawnReadyView S X L → Type 0
   Looks old answer new = (reply : SlotReply S E) × l.gave old.latch Look reply × AfterReply old reply answer new
 
@@ -123,7 +124,7 @@ module _ {S Q A E F L X : Type 0} (s : ServiceOf S Q A E F) (l : LatchOf L (Slot
   AfterSpawn old service (Ok u) answer new = (answer ≡ None) × (new ≡ record old { service = None })
   AfterSpawn old service (Err task) answer new = (answer ≡ Some (Ready (Err NotSpawned))) × (new ≡ record old { service = Some service })
 
-  -- The share can't be allocated, and the service is kept.
+  -- The latch refuses the share for a task, and the service is kept.
   pub record Refused (old : SpawnReadyView S X L) (service : S) (answer : Answer) (new : SpawnReadyView S X L) : Type 0 where
     pub error : AllocError
     pub shared : l.shares old.latch (Err error)
@@ -148,6 +149,7 @@ module _ {S Q A E F L X : Type 0} (s : ServiceOf S Q A E F) (l : LatchOf L (Slot
     pub starts : Starts (record old { service = None }) running
     pub hands : HandsTo running share service answer new
 
+  -- The service, which is pending, is handed to a new task, unless the task's share is refused.
   abbrev pub HandsOver : SpawnReadyView S X L → S → Answer → SpawnReadyView S X L → Type 0
   HandsOver old service answer new = Refused old service answer new ⊎ Spawns old service answer new
 
@@ -157,7 +159,7 @@ module _ {S Q A E F L X : Type 0} (s : ServiceOf S Q A E F) (l : LatchOf L (Slot
   AfterPoll old left (Ready (Ok u)) answer new = (answer ≡ Some (Ready (Ok tt))) × (new ≡ record old { service = Some left })
   AfterPoll old left (Ready (Err e)) answer new = (answer ≡ Some (Ready (Err (Inner e)))) × (new ≡ record old { service = Some left })
 
-  -- One iteration polls the service if it is here, and looks for it if not.
+  -- One iteration polls the service if it is here, and otherwise requests it from the slot.
   abbrev pub IterationAt : Option S → SpawnReadyView S X L → Answer → SpawnReadyView S X L → Type 0
   IterationAt (Some service) old answer new = (readiness : Poll (Result (Unit {0}) E)) × (left : S) × s.polled service readiness left
       × AfterPoll old left readiness answer new
@@ -171,7 +173,7 @@ module _ {S Q A E F L X : Type 0} (s : ServiceOf S Q A E F) (l : LatchOf L (Slot
   Ends (Some readiness) old answer new = IfSome old.service (λ left. AfterPoll old left readiness answer new)
   Ends None old answer new = Looks old answer new
 
-  -- a poll of readiness: iterations until one has an answer, or as many as a poll makes at most
+  -- a poll of readiness: iterations until one has an answer, or 64 without one, and then it is pending
   pub record Polled (old : SpawnReadyView S X L) (answer : Poll (Result (Unit {0}) (Error E))) (new : SpawnReadyView S X L) : Type 0 where
     pub iterations : Iterations Iteration Pending old answer new
 
