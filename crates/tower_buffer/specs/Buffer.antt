@@ -29,6 +29,8 @@ step_of _ = Reserve
 abbrev pub failed : {E : Type 0} → E → Error E
 failed e = HasFailed (record { error = e })
 
+-- `gave latch step reply` says that mail with the latch's bound had this reply to this step in some run, and `shares latch result` that the latch's
+-- `share` may return this result.
 module _ {L Q F E : Type 0} (gave : L → MailStep Q F E → MailReply Q F E → Type 0) (shares : L → Result L AllocError → Type 0) where
   -- what a poll of readiness returns after the reply, and the reservation that it leaves
   abbrev pub Replies : Reservation → MailReply Q F E → Poll (Result (Unit {0}) (Error E)) → Reservation → Type 0

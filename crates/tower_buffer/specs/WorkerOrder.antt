@@ -1,4 +1,4 @@
--- The order of a worker's steps at its mail, over all its polls: it settles each message before it takes the next one.
+-- The order of a worker's steps at its mail, over all its polls: it settles each message before it takes the next one. (`gave`: as in Worker.antt.)
 use Rattle.std.specs.Prelude.{◌≡◌, ◌⊎◌, ℕ, zero, suc, Bool, true, false, Option, None, Some}
 use Rattle.futures.specs.declared.task.Poll.{Poll}
 use Rattle.futures.specs.declared.task.Poll.TheVariants.{Pending}

@@ -1,4 +1,4 @@
--- What a `Balance` keeps to, over its runs.
+-- What a `Balance` keeps to, over its runs. (`loaded`, `cmp`, `drew`, `discovered`: as in Balance.antt of `tower_pool`.)
 use Rattle.std.specs.Prelude.{All, ◌≡◌, ◌⊎◌, ℕ, Bool, true, false, if◌then◌else◌, List, [], ◌∷◌, ◌++◌, length, slice_get, Option, Some, Result, Ok}
 use Rattle.std.specs.Ordering.{partial_le}
 use Rattle.std.specs.declared.cmp.Ordering.{Ordering}

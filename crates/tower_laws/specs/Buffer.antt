@@ -116,7 +116,7 @@ module _ {Q F E : Type 0} where
   abbrev pub HoldOfMail : (List (MailStep Q F E × MailReply Q F E) → MailStep Q F E → MailReply Q F E → Type 0) → Type 0
   HoldOfMail P = InEachRun P × InEachHistory P
 
--- Some steps in a worker's order lead from one worker to the other, at one latch.
+-- Some steps in a worker's order lead from one worker to the other, at one latch. (`gave`: as in Worker.antt.)
 abbrev pub InOrder : {L S Q E F : Type 0} → (L → MailStep Q F E → MailReply Q F E → Type 0) → WorkerView L S Q → WorkerView L S Q → Type 0
 InOrder gave old new = (new.latch ≡ old.latch) × ((n : ℕ) × WorkerSteps gave old.latch n (book_of old) (book_of new))
 

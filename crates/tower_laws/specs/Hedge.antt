@@ -1,4 +1,4 @@
--- What a `Hedge` keeps to, over one response.
+-- What a `Hedge` keeps to, over one response. (`gave`: as in RotatingHistogram.antt.)
 use Rattle.std.specs.Prelude.{◌≡◌, ◌⊎◌, ◌<◌, ◌≤◌, ℕ, suc, ◌+◌, true, false, Option, Some, None, Result, Err}
 use Rattle.futures.specs.declared.task.Poll.{Poll}
 use Rattle.tower_base.specs.declared.service.Clock.{Ghosts as ClockOf}

@@ -52,7 +52,7 @@ module _ {L : Type 0} (l : LatchOf L LineCore LineStep LineReply ℕ) where
   abbrev pub AllHold : {F G : Type 0} → (F → Option (ResponseFutureView G L)) → SemaphoreView L → List (Slot F) → Type 0
   AllHold inside semaphore slots = All (λ slot. HoldsInside semaphore (response_in inside slot)) slots
 
-  -- This holds after each run of a service that contains a limit over the semaphore.
+  -- This holds after each run of a service that contains a limit over the semaphore. (`turned` is the relation of the closure of `drive`.)
   abbrev pub RunsHold : {S Q A E F G T U O : Type 0} → ServiceOf S Q A E F → (F → Poll (Result A E) → F → Type 0) → (O → T → U → O → Type 0)
       → (SemaphoreView L → S → Type 0) → (F → Option (ResponseFutureView G L)) → Type 0
   RunsHold {S} {Q} {A} {E} {F} {G} {T} {U} {O} s stepped turned over inside = (semaphore : SemaphoreView L) (service : S) (outside : O) (events : List (Event Q T))

@@ -14,7 +14,7 @@ pub record Calls : Type 0 where
   pub moments : List ℕ
   pub admitted : Bool
 
--- a `RateCore`: the rate, the moments that it keeps, and whether a call is admitted. Only its `RateLimit` has it: no latch shares it.
+-- a `RateCore`: the rate, the moments that it keeps, and whether a call is admitted. It is owned, not shared behind a latch.
 pub record RateCoreView : Type 0 where
   pub num : ℕ
   pub per : ℕ

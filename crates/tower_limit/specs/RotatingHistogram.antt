@@ -1,4 +1,5 @@
--- What a `RotatingHistogram` does at its latch.
+-- What a `RotatingHistogram` does at its latch. `gave latch step reply` says that a histogram with the latch's period had this reply to this step in
+-- some run, and `may_share latch result` that the latch's `share` may return this result.
 use Rattle.std.specs.Prelude.{◌≡◌, ℕ, List, [], ◌∷◌, Result, Ok}
 use Rattle.std.specs.Int.{div_ceil}
 use Rattle.std.specs.declared.alloc.AllocError.{AllocError}

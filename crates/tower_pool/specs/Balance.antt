@@ -48,6 +48,7 @@ abbrev pub count_of : {D R K S : Type 0} → BalanceView D R K S → ℕ
 count_of v = length v.services.ready + length v.services.pending
 
 -- A `Balance` is sound, as the constructors ensure, if the discovery, each endpoint and whatever the discovery may insert are sound.
+-- (`discovered old found new`: a poll of the discovery may return `found`.)
 pub record Sound {D R K S X : Type 0} (discovers : D → Type 0) (discovered : D → Found K S X → D → Type 0) (sound : S → Type 0) (v : BalanceView D R K S) : Type 0 where
   pub discover : discovers v.discover
   pub services : CacheSound sound v.services
@@ -125,6 +126,8 @@ module _ {K S Q A E G X : Type 0} (eq : K → K → Bool) (s : ServiceOf S Q A E
   abbrev pub Promotes : ReadyCacheView K S → Result (Unit {0}) (Error E X) → ReadyCacheView K S → Type 0
   Promotes old answer new = (n : ℕ) × PromotesAfter n old answer new
 
+-- `loaded service load` says that the service may report this load, `cmp` compares loads, and `drew old word new` says that the generator may make this
+-- word.
 module _ {K S M : Type 0} (loaded : S → M → Type 0) (cmp : M → M → Option Ordering) where
   -- Whether the load that one endpoint reports is at most that of the other. If the loads don't compare, it isn't.
   abbrev pub IsLighter : List (K × S) → ℕ → ℕ → Bool → Type 0

@@ -1,4 +1,4 @@
--- How a `Hedge` is constructed.
+-- How a `Hedge` is constructed. (`gave`, `may_share`: as in RotatingHistogram.antt.)
 use Rattle.std.specs.Prelude.{◌≡◌, ℕ, List, Result}
 use Rattle.std.specs.declared.alloc.AllocError.{AllocError}
 use Rattle.tower_base.specs.declared.service.Clock.{Ghosts as ClockOf}

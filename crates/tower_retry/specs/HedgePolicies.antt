@@ -1,4 +1,4 @@
--- How long a second request waits, and whether there is one.
+-- How long a second request waits, and whether there is one. (`gave`: as in RotatingHistogram.antt.)
 use Rattle.std.specs.Prelude.{◌≡◌, ℕ, ◌*◌, ◌-◌, ◌^◌, min, nat_lt, if◌then◌else◌, Option, Some, None}
 use Rattle.tower_base.specs.declared.service.Clock.{Ghosts as ClockOf}
 use Rattle.tower_base.specs.declared.service.Fraction.{Fraction}

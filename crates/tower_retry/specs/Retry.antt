@@ -28,7 +28,8 @@ Unanswered None P = P
 Unanswered (Some Pending) P = P
 Unanswered (Some (Ready x)) P = ⊤
 
--- The cases of a call and of an iteration come before the whole, which cites them.
+-- The cases of a call and of an iteration come before the whole, which cites them. `stepped` is the relation of the inner future, and `waited` that of
+-- the policy's wait.
 module _ {P S Q A E F W : Type 0} (p : PolicyOf P Q A E W) where
   -- What follows the policy's decision. If it returns no wait, the result, as the policy left it, is the answer. Otherwise the wait takes the
   -- place of the inner future.
