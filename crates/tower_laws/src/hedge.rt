@@ -6,10 +6,11 @@ use tower_latch::Latch;
 use tower_retry::hedge::rotating_histogram::HistoCore;
 use tower_retry::hedge::{Hedge, Policy};
 
-/// States of each response: it makes at most two calls. The second is of a copy that the policy made with
-/// enough latencies and a clone of it allows, after the delay that the histogram named, of a clone of the
-/// service that is ready, if the first had no answer before. While the second side has no answer, there is
-/// no copy, or the delay isn't over, the clone isn't ready, the copy isn't allowed or the call is pending.
+/// States of each response: it makes at most two calls. The second has a copy of the request, which the
+/// policy made while enough latencies were known, and which a clone of the policy allows. It goes to a
+/// clone of the service that is ready, after the delay that the histogram named, if the first had no answer
+/// before. While the second side has no answer, there is no copy, or the delay isn't over, the clone isn't
+/// ready, the copy isn't allowed or the call is pending.
 ///
 /// The answer is that of the side that answers first, and the first side's if both do in the same poll. An
 /// error of the clone's readiness after the delay, or `Memory`, counts as the second side's answer.

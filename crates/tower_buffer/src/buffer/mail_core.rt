@@ -25,7 +25,7 @@ pub struct MailCore<Request, F, E: Clone> {
 /// A `MailCore` whose futures may be polled.
 pub type Mail<Request, F, E> = MailCore<Request, Pollable<F>, E>;
 
-// Makes a step that may wait, at a core without places.
+// Makes a step that may wait, at a core whose steps hand out no places.
 #[inline(always)]
 pub fn waited<C: Core, L: Latch<C>>(latch: &L, step: C::Step, cx: &mut Context<'_>) -> C::Reply
     requires admitted { C.admits step }
@@ -106,7 +106,7 @@ impl<Request: Drop, F: Drop, E: Clone> Core for MailCore<Request, F, E> {
     // The worker is told to wait for a message, a ticket for its place, and a response for its outcome.
     ghost stalls = { stalls };
 
-    // The number of places of its queue. No token stands for one.
+    // The bound: the number of places of its queue. For the latch they are no places, and no token stands for one.
     ghost terms = { λ core. core.bound };
 
     ghost starts = { none_held _ };
