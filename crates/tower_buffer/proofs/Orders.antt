@@ -78,12 +78,12 @@ module _ {L S Q A E F : Type 0} (gave : L → MailStep Q F E → MailReply Q F E
   passed latch service failed None answer new p = taken latch service failed answer new p.0 p.1 p.2
   passed latch service failed (Some message) answer new p = lived latch service failed message.0 message.1 answer new p.0 p.1 p.2
 
-  pass_orderly : (old : WorkerView L S Q) (answer : Option (Poll (Unit {0}))) (new : WorkerView L S Q)
+  iteration_orderly : (old : WorkerView L S Q) (answer : Option (Poll (Unit {0}))) (new : WorkerView L S Q)
       → Iteration gave s old answer new → OrderlyIteration gave old answer new
-  pass_orderly old answer new p =
+  iteration_orderly old answer new p =
       let r = passed old.latch old.service old.has_failed old.message answer new p in
       record { same = r.0; steps = r.1.0; some = r.1.2; works = r.1.1 }
 
   -- all polls of a worker keep to it
   pub poll_orderly : (old : WorkerView L S Q) (answer : Poll (Unit {0})) (new : WorkerView L S Q) → Stepped gave s old answer new → Orderly gave old answer new
-  poll_orderly old answer new p = iterations_map (Iteration gave s) (OrderlyIteration gave) pass_orderly Pending old answer new p
+  poll_orderly old answer new p = iterations_map (Iteration gave s) (OrderlyIteration gave) iteration_orderly Pending old answer new p

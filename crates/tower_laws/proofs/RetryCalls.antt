@@ -5,7 +5,7 @@ use Rattle.futures.specs.declared.task.Poll.{Poll}
 use Rattle.futures.specs.declared.task.Poll.TheVariants.{Ready, Pending}
 use Rattle.tower_base.specs.ServiceRun.{relations, Action, Makes, requests}
 use Rattle.tower_base.specs.declared.service.Service.{Ghosts as ServiceOf}
-use Rattle.tower_laws.specs.Retry.{AnswersCountCalls, OneMore, requested, requested_again, is_retry}
+use Rattle.tower_laws.specs.Retry.{AnswersCountCalls, OneMore, requested, requested_again, retry_count}
 use Rattle.tower_retry.proofs.RetryLemmas.{gives_answers}
 use Rattle.tower_retry.specs.RetryAttempts.{Attempt, Attempted, Ends, ReadyAfter, Retries, Decision, NotKept, NoRetry, RetryAfter}
 use Rattle.tower_retry.specs.declared.retry.error.Error.{Error}
@@ -34,7 +34,7 @@ module _ {P S Q A E F W : Type 0} (s : ServiceOf S Q A E F) (stepped : F → Pol
   retries_count NotKept old attempt rest again new output same none more = absurd none
   retries_count NoRetry old attempt rest again new output same none more = absurd none
   retries_count (RetryAfter wait) old attempt rest again new output same retry more =
-      let one : is_retry attempt.decision ≡ 1 = ap (λ (w : Decision W). is_retry w) same in
+      let one : retry_count attempt.decision ≡ 1 = ap (λ (w : Decision W). retry_count w) same in
       ⊎_elim (λ count. inl (omega arith)) (λ count. inr (omega arith, count.1)) more
 
   -- polls of readiness, and then this run

@@ -13,14 +13,14 @@ use Rattle.tower_retry.specs.declared.retry.error.Error.TheVariants.{Inner, Memo
 use Rattle.tower_retry.specs.declared.retry.policy.Policy.{Ghosts as PolicyOf}
 
 -- 1 if the decision is to retry, or else 0; and how many of the decisions are to retry
-abbrev pub is_retry : {W : Type 0} → Decision W → ℕ
-is_retry NotKept = 0
-is_retry NoRetry = 0
-is_retry (RetryAfter wait) = 1
+abbrev pub retry_count : {W : Type 0} → Decision W → ℕ
+retry_count NotKept = 0
+retry_count NoRetry = 0
+retry_count (RetryAfter wait) = 1
 
 abbrev pub retries : {Q A E W : Type 0} → List (Attempt Q A E W) → ℕ
 retries [] = 0
-retries (attempt ∷ rest) = is_retry attempt.decision + retries rest
+retries (attempt ∷ rest) = retry_count attempt.decision + retries rest
 
 -- the requests of the attempts, and of those after the first
 abbrev pub requested : {Q A E W : Type 0} → List (Attempt Q A E W) → List Q

@@ -216,9 +216,9 @@ module _ {D R K S Q A E G M : Type 0} (X : Type 0) (eq : K → K → Bool) (s : 
       by None picked on is = cc
       by (Some i) picked on is = ap turns is ∙ left_inside i (length old.services.ready) (picked_there loaded cmp drew old.services.ready old.services.ready old.rng h.1 i refl picked)
 
-  pass_less : (old : BalanceView D R K S) (kept : Option ℕ) → old.kept ≡ kept → (new : BalanceView D R K S) → IterationAt {X = X} eq s loaded cmp drew kept old None new → turns new + 1 ≤ turns old
-  pass_less old None is new h = omega (arith, chosen_turns old new h, ap (λ k. left_of k (length old.services.ready)) is)
-  pass_less old (Some i) is new h = by h.0 h.2 h.3
+  iteration_less : (old : BalanceView D R K S) (kept : Option ℕ) → old.kept ≡ kept → (new : BalanceView D R K S) → IterationAt {X = X} eq s loaded cmp drew kept old None new → turns new + 1 ≤ turns old
+  iteration_less old None is new h = omega (arith, chosen_turns old new h, ap (λ k. left_of k (length old.services.ready)) is)
+  iteration_less old (Some i) is new h = by h.0 h.2 h.3
     where
       by : (inner : Result Bool (Failed K E)) → Checked eq s old.services i inner h.1 → AfterCheck {X = X} eq s loaded cmp drew (record old { services = h.1 }) i inner None new → turns new + 1 ≤ turns old
       by (Ok true) checked after = let f : (let a : Option (Poll (Result (Unit {0}) (Error E X))) = None in a ≡ Some (Ready (Ok tt))) = after.1 in cc
@@ -232,10 +232,10 @@ module _ {D R K S Q A E G M : Type 0} (X : Type 0) (eq : K → K → Bool) (s : 
       → new.services.ready ≡ old.services.ready
   chosen_ready old answer new h = ap (λ v. v.services.ready) h.4
 
-  pass_asks : (old : BalanceView D R K S) (kept : Option ℕ) (new : BalanceView D R K S) → IterationAt {X = X} eq s loaded cmp drew kept old None new
+  iteration_asks : (old : BalanceView D R K S) (kept : Option ℕ) (new : BalanceView D R K S) → IterationAt {X = X} eq s loaded cmp drew kept old None new
       → IsPermutation old.services.ready (polled_at kept old.services.ready ++ new.services.ready)
-  pass_asks old None new h = subst (IsPermutation old.services.ready) (sym (chosen_ready old None new h)) (IsPermutation-refl old.services.ready)
-  pass_asks old (Some i) new h = by h.0 h.2 h.3
+  iteration_asks old None new h = subst (IsPermutation old.services.ready) (sym (chosen_ready old None new h)) (IsPermutation-refl old.services.ready)
+  iteration_asks old (Some i) new h = by h.0 h.2 h.3
     where
       goal : Option (K × S) → Type 0
       goal o = IsPermutation old.services.ready (option_map_or (λ e. e ∷ []) o [] ++ new.services.ready)
@@ -268,20 +268,20 @@ module _ {D R K S Q A E G M : Type 0} (X : Type 0) (eq : K → K → Bool) (s : 
   }
 
   pub settling_goes : (old was now : BalanceView D R K S) → Iteration {X = X} eq s loaded cmp drew was None now → Settling old was → Settling old now
-  settling_goes old was now pass h = record {
+  settling_goes old was now iteration h = record {
     count = h.count + 1;
     polled = h.polled ++ polled_at was.kept was.services.ready;
-    went = iterates_more (CountedIteration {X = X} eq s loaded cmp drew) h.count (old, []) (was, h.polled) (now, h.polled ++ polled_at was.kept was.services.ready) h.went (pass, refl);
-    left = omega (arith, h.left, pass_less was was.kept refl now pass);
-    once = asked_more h.polled old.services.ready was.services.ready (polled_at was.kept was.services.ready) now.services.ready h.once (pass_asks was was.kept now pass);
+    went = iterates_more (CountedIteration {X = X} eq s loaded cmp drew) h.count (old, []) (was, h.polled) (now, h.polled ++ polled_at was.kept was.services.ready) h.went (iteration, refl);
+    left = omega (arith, h.left, iteration_less was was.kept refl now iteration);
+    once = asked_more h.polled old.services.ready was.services.ready (polled_at was.kept was.services.ready) now.services.ready h.once (iteration_asks was was.kept now iteration);
   }
 
   pub settling_less : (was now : BalanceView D R K S) → Iteration {X = X} eq s loaded cmp drew was None now → turns now < turns was
-  settling_less was now pass = omega (arith, pass_less was was.kept refl now pass)
+  settling_less was now iteration = omega (arith, iteration_less was was.kept refl now iteration)
 
   pub settling_ends : (old was : BalanceView D R K S) (answer : Poll (Result (Unit {0}) (Error E X))) (new : BalanceView D R K S) → Iteration {X = X} eq s loaded cmp drew was (Some answer) new → Settling old was
       → Chosen eq s loaded cmp drew old answer new
-  settling_ends old was answer new pass h =
+  settling_ends old was answer new iteration h =
       let last = asked_last was.kept was.services.ready in
       record {
         count = h.count;
@@ -290,6 +290,6 @@ module _ {D R K S Q A E G M : Type 0} (X : Type 0) (eq : K → K → Bool) (s : 
         rest = last.0;
         within = omega (arith, h.left, one_left was.kept (length was.services.ready));
         went = h.went;
-        ends = pass;
+        ends = iteration;
         once = asked_more h.polled old.services.ready was.services.ready (polled_at was.kept was.services.ready) last.0 h.once last.1;
       }

@@ -54,10 +54,10 @@ module _ {D R K S Q A E G X M : Type 0} (eq : K → K → Bool) (s : ServiceOf S
       by None is = ap (λ v. v.services.ready) h.4 ∙ picked_none loaded cmp drew old.services.ready old.services.ready old.rng h.0 h.1 refl h.2 is
       by (Some i) is = let f : answer ≡ None = h.3 ∙ ap answer_of is in cc
 
-  pass_none : (old : BalanceView D R K S) (kept : Option ℕ) (answer : Option (Poll (Result (Unit {0}) (Error E X)))) (new : BalanceView D R K S)
+  iteration_none : (old : BalanceView D R K S) (kept : Option ℕ) (answer : Option (Poll (Result (Unit {0}) (Error E X)))) (new : BalanceView D R K S)
       → IterationAt eq s loaded cmp drew kept old answer new → answer ≡ Some Pending → new.services.ready ≡ []
-  pass_none old None answer new h e = chosen_none old answer new h e
-  pass_none old (Some i) answer new h e = by h.0 h.3
+  iteration_none old None answer new h e = chosen_none old answer new h e
+  iteration_none old (Some i) answer new h e = by h.0 h.3
     where
       by : (inner : Result Bool (Failed K E)) → AfterCheck eq s loaded cmp drew (record old { services = h.1 }) i inner answer new → new.services.ready ≡ []
       by (Ok true) after = let f : answer ≡ Some (Ready (Ok tt)) = after.1 in cc
@@ -67,7 +67,7 @@ module _ {D R K S Q A E G X M : Type 0} (eq : K → K → Bool) (s : ServiceOf S
   promoted_none : (inner : Result (Unit {0}) (Error E X)) (old : BalanceView D R K S) (answer : Poll (Result (Unit {0}) (Error E X))) (new : BalanceView D R K S)
       → AfterPromotion eq s loaded cmp drew inner old answer new → answer ≡ Pending → new.services.ready ≡ []
   promoted_none (Err x) old answer new h e = let f : answer ≡ Ready (Err x) = h.0 in cc
-  promoted_none (Ok u) old answer new h e = pass_none h.last h.last.kept (Some answer) new h.ends (ap Some e)
+  promoted_none (Ok u) old answer new h e = iteration_none h.last h.last.kept (Some answer) new h.ends (ap Some e)
 
   changed_none : (inner : Result (Unit {0}) (Error E X)) (old : BalanceView D R K S) (answer : Poll (Result (Unit {0}) (Error E X))) (new : BalanceView D R K S)
       → AfterChanges eq s loaded cmp drew inner old answer new → answer ≡ Pending → new.services.ready ≡ []

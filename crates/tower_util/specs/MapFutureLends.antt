@@ -4,6 +4,6 @@ use denote.RattleType.{RattleType}
 use Rattle.tower_util.specs.Maps.{MapView}
 use Rattle.tower_util.specs.contracts.util.map_future.MapFuture.{the_row}
 
--- `t` ends with the last value behind `r` as its inner service.
+-- When the loan `r` ends, its last value is the inner service of `t`.
 abbrev pub LendsInner : (S F : RattleType) → MutBor (MapView S.Denot F.Denot) → MutBor S.Denot → Fml
 LendsInner S F t r = Lends (the_row S F) S t r (λ w. record t.now { inner = w })

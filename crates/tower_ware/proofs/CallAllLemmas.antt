@@ -290,21 +290,21 @@ module _ {V Q D N A E R : Type 0} (sv : ServiceOf V R A E N) (fl : FlowOf Q R) (
       ))
       (goes_back v f e b k o t h)
 
-  abbrev Passing : St → Option (Poll (Option (Result A (Error E)))) → St → Type 0
-  Passing = Iteration (unfailing sv) fl dr
+  abbrev Iterating : St → Option (Poll (Option (Result A (Error E)))) → St → Type 0
+  Iterating = Iteration (unfailing sv) fl dr
 
-  pass_back : (s : St) (o : Option (Poll (Option (Result A (Error E))))) (t : St) → Passing s o t → Back s o t
-  pass_back s o t h = ask_back s.service s.requests s.queue h.1 s.ended s.kept h.0 o t h.2 h.3
+  iteration_back : (s : St) (o : Option (Poll (Option (Result A (Error E))))) (t : St) → Iterating s o t → Back s o t
+  iteration_back s o t h = ask_back s.service s.requests s.queue h.1 s.ended s.kept h.0 o t h.2 h.3
 
   abbrev Flowing : St → Poll (Option (Result A (Error E))) → St → Type 0
   Flowing = Flowed (unfailing sv) fl dr
 
   flows_back : (s : St) (a : Poll (Option (Result A (Error E)))) (t : St) → Flowing s a t → Back s (Some a) t
   flows_back s a t h =
-      let went : Back s None h.iterations.last = iterates_keeps Passing (λ w. Back s None w)
-      (λ v w step back. back_trans s v w None back (pass_back v None w step)) h.iterations.count s h.iterations.last h.iterations.went
+      let went : Back s None h.iterations.last = iterates_keeps Iterating (λ w. Back s None w)
+      (λ v w step back. back_trans s v w None back (iteration_back v None w step)) h.iterations.count s h.iterations.last h.iterations.went
       (λ fine. (fine, λ items rest. rest)) in
-      ⊎_elim (λ answered. back_trans s h.iterations.last t (Some a) went (pass_back h.iterations.last (Some a) t answered.1))
+      ⊎_elim (λ answered. back_trans s h.iterations.last t (Some a) went (iteration_back h.iterations.last (Some a) t answered.1))
       (λ out. rw (out.1, out.2) went) h.iterations.ends
 
   next_back : (n : ℕ) (s : St) (x : Result A (Error E)) (items : It) (P : St → Type 0) → ((t : St) → Fine t → P t → Rest t items) → Fine s

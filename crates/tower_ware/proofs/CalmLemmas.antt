@@ -72,9 +72,9 @@ module _ {V Q D N A E R : Type 0} (sv : ServiceOf V R A E N) (fl : FlowOf Q R) (
   ask_calm s (Ready None) o t h = goes_calm s.ended s.kept s o t h
   ask_calm s Pending o t h = goes_calm s.ended s.kept s o t h
 
-  pass_calm : (s : CallerView V Q D R) (o : Outcome) (t : CallerView V Q D R)
+  iteration_calm : (s : CallerView V Q D R) (o : Outcome) (t : CallerView V Q D R)
       → Iteration sv fl dr s o t → Iteration (unfailing sv) fl dr s o t
-  pass_calm s o t h = (h.0, h.1, h.2, ask_calm (record s { queue = h.1 }) h.0 o t h.3)
+  iteration_calm s o t h = (h.0, h.1, h.2, ask_calm (record s { queue = h.1 }) h.0 o t h.3)
 
   pub flows_calm : (s t : CallerView V Q D R) (a : Poll (Option (Result A (Error E)))) → Flowed sv fl dr s a t
       → Flowed (unfailing sv) fl dr s a t
@@ -83,7 +83,7 @@ module _ {V Q D N A E R : Type 0} (sv : ServiceOf V R A E N) (fl : FlowOf Q R) (
       count = h.iterations.count;
       last = h.iterations.last;
       went = iterates_map (Iteration sv fl dr) (Iteration (unfailing sv) fl dr)
-          (λ v w p. pass_calm v None w p) h.iterations.count s h.iterations.last h.iterations.went;
-      ends = ⊎_elim (λ x. inl (x.0, pass_calm h.iterations.last (Some a) t x.1)) inr h.iterations.ends;
+          (λ v w p. iteration_calm v None w p) h.iterations.count s h.iterations.last h.iterations.went;
+      ends = ⊎_elim (λ x. inl (x.0, iteration_calm h.iterations.last (Some a) t x.1)) inr h.iterations.ends;
     };
   }
