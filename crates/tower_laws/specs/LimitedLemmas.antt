@@ -123,14 +123,14 @@ module _ {L : Type 0} (l : LatchOf L LineCore LineStep LineReply ℕ) {S Q A E F
     abbrev rate_of : Relations (Rate.RateLimitView S C) Q E F
     rate_of = record { ready = λ v. s.ready v.inner × Rate.Stands v.core (λ plain. Rate.may_call plain ≡ true); polled = Rate.Polled s c; called = Rate.Called s c }
 
-    asked : (pass : Bool) (semaphore : SemaphoreView L) (old : S) (answer : Poll (Result (Unit {0}) E)) (new : S) → Rate.Asks s c pass old answer new
+    asked : (admitted : Bool) (semaphore : SemaphoreView L) (old : S) (answer : Poll (Result (Unit {0}) E)) (new : S) → Rate.Asks s c admitted old answer new
         → over semaphore old → over semaphore new
     asked true semaphore old answer new polled here = keeps.polls semaphore old answer new polled here
     asked false semaphore old answer new none here = subst (over semaphore) (sym none.1) here
 
     polled_at : (limited : Bool) (plain : Rate.Calls) (semaphore : SemaphoreView L) (old : Rate.RateLimitView S C) (answer : Poll (Result (Unit {0}) E)) (new : Rate.RateLimitView S C)
         → Rate.PollsAt s c limited plain old answer new → over semaphore old.inner → over semaphore new.inner
-    polled_at true plain semaphore old answer new h here = asked (Rate.passes plain (c.reading new.clock)) semaphore old.inner answer new.inner h.2 here
+    polled_at true plain semaphore old answer new h here = asked (Rate.admits plain (c.reading new.clock)) semaphore old.inner answer new.inner h.2 here
     polled_at false plain semaphore old answer new h here = keeps.polls semaphore old.inner answer new.inner h.1 here
 
     pub rate_keeps : KeepsLimit l rate_of f.stepped (λ semaphore v. over semaphore v.inner) inside
