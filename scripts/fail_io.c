@@ -1,8 +1,8 @@
 // For LD_PRELOAD: reads and writes of a program that fail, or move fewer bytes than they were asked for. FAIL_READ and FAIL_WRITE give the number of
 // the read of standard input, and of the write to standard output, that fails, with errno FAIL_WITH (EIO), and FAIL_TIMES - 1 after it do too;
 // FAIL_ERROR=N fails the writes to standard error from the Nth on; INTERRUPTED=1 interrupts each of these once before it is made; SHORT gives the
-// bytes that a read or write moves at most, and SHORT_ERROR those of a write to standard error; TAKES_NONE=1 has standard output take no byte. It
-// needs no header and is linked with nothing, so that the kit's own clang builds it.
+// bytes that a read or write moves at most, and SHORT_ERROR those of a write to standard error; TAKES_NONE=1 has standard output take no byte.
+// With TERMINAL=2 standard error is a terminal. It needs no header and is linked with nothing, so that the kit's own clang builds it.
 typedef unsigned long size;
 
 enum { READ = 0, WRITE = 1, EINTR = 4, EIO = 5 };
@@ -44,3 +44,5 @@ long write(int file, const void *bytes, size count) {
     if (file != 1 && file != 2) return syscall(WRITE, file, bytes, count);
     return moved(WRITE, file, bytes, count, file == 1 ? "FAIL_WRITE" : "FAIL_ERROR");
 }
+
+int isatty(int file) { return number("TERMINAL", -1) == file; }

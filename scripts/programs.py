@@ -1,173 +1,108 @@
 #!/usr/bin/env python3
-"""scripts/programs.py: runs `tower-run`, `example_paced_lines` and `example_http`, as `rt ci` built them, with arguments,
-scripts and files of all kinds: the rows of programs.txt, and here what needs more than one run.
+"""scripts/programs.py: makes the runs of programs.txt, and here those that no row can say.
 
 Without it a program could take wrong arguments, or lose what it read or wrote where a call of the system fails: no
 contract speaks of those. Each run is compared whole: status, standard output, standard error. What is expected was
 worked out by hand.
 """
+import contextlib
+import fnmatch
 import os
-import pty
 import re
 import resource
 import shlex
 import subprocess
-import sys
 import tempfile
 import time
+from pathlib import Path
 
 from common import TOP, library_of, program_of
 
-TOWER_RUN, PACED_LINES, HTTP = "tower_run_cli", "example_paced_lines", "example_http"
-OUT_OF_MEMORY, UNSTARTED = (1, b"", b"out of memory\n"), (3, b"", b"cannot start a thread\n")
-COUNTS = rb"(\d+) served, (\d+) busy, (\d+) broken"
-CROWD = rb"\d+ requests: %b, 0 wrong\n5 requests: %b, 0 wrong\nat most ([0-5]) inside at once, 0 at the end\n"
+RUNS = []
+STORM = "tower_run_cli", "storm", "4", "1000000", "4"
 
 
-class Runs:
-    """Runs of programs whose calls fail by libraries, counted."""
-
-    def __init__(self, room):
-        self.count = 0
-        self.libraries = " ".join(library_of(room, it) for it in ("fail_io", "fail_alloc", "fail_thread"))
-
-    def run(self, command, given=b"", **fails):
-        """The status, the output and the errors of a run in which these calls fail."""
-        self.count += 1
-        environment = {**os.environ, "LD_PRELOAD": self.libraries, **{name: str(it) for name, it in fails.items()}}
-        words = [program_of(command[0]), *command[1:]]
-        ran = subprocess.run(words, input=given, env=environment, capture_output=True, timeout=100, check=False)
-        return ran.returncode, ran.stdout, ran.stderr
-
-    def each_allocation(self, command, given, whole):
-        """Refuses each in turn: the program prints nothing and says so. (Of a storm it may be a thread's.)"""
-        quiet, number, ends = 0, 0, [OUT_OF_MEMORY, *[UNSTARTED] * (b"storm" in command)]
-        while quiet < 4 and number < 1000:
-            number += 1
-            found = self.run(command, given, FAIL_ALLOC=number)
-            assert found in (whole, *ends), (command, number, found)
-            quiet = quiet + 1 if found == whole else 0
-        assert quiet == 4 < number, (command, number)
+def run(program, *words, given=b"", **fails):
+    """The status, the output and the errors of a run in which these calls fail."""
+    RUNS.append(program)
+    how = {"env": {**os.environ, **fails}, "timeout": 100, "check": False}
+    ran = subprocess.run([program_of(program), *words], input=given, capture_output=True, **how)
+    return b"%d" % ran.returncode, ran.stdout, ran.stderr
 
 
-def bytes_of(word):
-    whole = re.sub(r"\((.*?)\)\*(\d+)", lambda it: it[1] * int(it[2]), word)
-    return whole.encode().decode("unicode_escape").encode("latin-1")
+def words_of(text):
+    """Its words, as programs.txt explains them."""
+    wholes = (re.sub(r"\((.*?)\)\*(\d+)", lambda it: it[1] * int(it[2]), word) for word in shlex.split(text))
+    return [it.encode().decode("unicode_escape").encode("latin-1") for it in wholes]
 
 
-def check_row(runs, row):
+def check_row(row):
     asked, _, ends = row.partition(" => ")
-    command, _, given = asked.partition(" < ")
-    command, given, (status, *wrote) = ([bytes_of(it) for it in shlex.split(part)] for part in (command, given, ends))
-    fails = dict(it.decode().split("=") for it in command if re.match(rb"[A-Z_]+=", it))
-    command = [command[len(fails)].decode(), *command[len(fails) + 1 :]]
-    given, wanted = b"".join(given), (int(status), *wrote, *[b""] * (2 - len(wrote)))
-    least, began = fails.pop("TAKES", None), time.monotonic()
-    if fails.get("FAIL_ALLOC") == "each":
-        return runs.each_allocation(command, given, wanted)
-    found, took = runs.run(command, given, **fails), (time.monotonic() - began) * 1000
-    assert found == wanted, f"{row[:300]}\nbut came {found}"[:2000]
-    assert least is None or int(least) <= took < int(least) + 1000, f"{row}\nbut took {took} ms"
+    ends = [[*words_of(it), b"", b""][:3] for it in ends.split(" or ")]
+    found, times = [], 1  # which end each run had, and how often the first has to come in the end
+    while found[-times:] != [0] * times:
+        command, _, given = asked.replace("EACH", str(len(found) + 1)).partition(" < ")
+        fails = dict(re.findall(r"([A-Z_]+)=(\S+)", command))
+        program, *words = words_of(command)[len(fails) :]
+        began = time.monotonic()
+        came = run(program.decode(), *words, given=b"".join(words_of(given)), **fails)
+        took = (time.monotonic() - began) * 1000
+        matches = [at for at, end in enumerate(ends) if all(map(fnmatch.fnmatchcase, came, end))]
+        assert matches and len(found) < 5000, f"{row[:300]}\nbut came {came}"[:2000]
+        assert "TAKES" not in fails or 0 <= took - int(fails["TAKES"]) < 1000, f"{row}\nbut took {took} ms"
+        found.append(matches[0])
+        times = int(fails.get("TIMES", 1))
+    assert len(found) - found.count(0) >= int(fails.get("OTHERS", 0)), f"{row}\nbut came {found}"
 
 
-def check_each_call(runs):
+def check_each_call():
     """Of a long script each read and each write fails in turn: what was written before stands. Calls of few bytes
     change nothing."""
-    script = (TOP / "scripts/timeout.script").read_bytes() * 400
-    status, whole, _ = runs.run([TOWER_RUN, "timeout"], script)
-    assert status == 0 and whole.count(b"\n") > 2000, whole
+    words, given = ["tower_run_cli", "timeout"], (TOP / "scripts/timeout.script").read_bytes() * 400
+    status, out, _ = whole = run(*words, given=given)
+    assert status == b"0" and out.count(b"\n") > 2000, whole
     for failing, told, step in (("FAIL_READ", b"cannot read\n", 0), ("FAIL_WRITE", b"cannot write\n", 1000)):
         number = 1
-        while (found := runs.run([TOWER_RUN, "timeout"], script, SHORT=1000, **{failing: number})) != (0, whole, b""):
-            assert found == (3, whole[: step * (number - 1)], told) and number < 1000, (failing, number, found[2])
+        while (found := run(*words, given=given, SHORT="1000", **{failing: str(number)})) != whole:
+            assert found == (b"3", out[: step * (number - 1)], told) and number < 1000, (failing, number, found)
             number += 1
         assert number > 3, (failing, number)
-    for most in (1, 7, 4095):
-        assert runs.run([TOWER_RUN, "timeout"], script, SHORT=most) == (0, whole, b""), most
+    for most in ("1", "7", "4095"):
+        assert run(*words, given=given, SHORT=most) == whole, most
 
 
-def check_threads(runs):
+def check_threads():
     """A storm makes its rounds in its threads at once: at one moment each of the four is there, and has taken time of
-    a processor."""
-    ticks, together = os.sysconf("SC_CLK_TCK"), 0
-    with subprocess.Popen([program_of(TOWER_RUN), "storm", "4", "1000000", "4"], stdout=subprocess.PIPE) as storm:
+    a processor. If the fourth can't be started, the others make their rounds before the program ends."""
+    together = 0
+    with subprocess.Popen([program_of(STORM[0]), *STORM[1:]], stdout=subprocess.PIPE) as storm:
         while storm.poll() is None:
-            busy = 0
-            for thread in os.listdir(f"/proc/{storm.pid}/task"):
-                try:
-                    with open(f"/proc/{storm.pid}/task/{thread}/stat", encoding="utf-8") as it:
-                        told = it.read().rpartition(")")[2].split()
-                except OSError:
-                    continue
-                busy += int(thread) != storm.pid and (int(told[11]) + int(told[12])) / ticks >= 0.02
-            together = max(together, busy)
+            with contextlib.suppress(OSError):  # as a thread ends
+                stats = [it.read_text().split() for it in Path(f"/proc/{storm.pid}/task").glob("*/stat")]
+                together = max(together, sum(int(it[13]) + int(it[14]) > 1 for it in stats if it[0] != str(storm.pid)))
             time.sleep(0.005)
-        assert storm.stdout.read() == b"threads 4 rounds 4000000 free 4 of 4\n"
-    assert together == 4, together
-    # If the fourth can't be started, the other three make their rounds before the program ends.
+        assert (together, storm.stdout.read()) == (4, b"threads 4 rounds 4000000 free 4 of 4\n"), together
     before = resource.getrusage(resource.RUSAGE_CHILDREN).ru_utime
-    assert runs.run([TOWER_RUN, "storm", "4", "1000000", "4"], FAIL_THREAD=4) == UNSTARTED
+    assert run(*STORM, FAIL_THREAD="4") == (b"3", b"", b"cannot start a thread\n")
     assert resource.getrusage(resource.RUSAGE_CHILDREN).ru_utime - before > 0.1
 
 
-def check_progress():
-    """At a terminal the progress is shown."""
-    ours, theirs = pty.openpty()
-    words = [program_of(PACED_LINES), "2", "20"]
-    ran = subprocess.run(words, input=b"a\nb\n", stdout=subprocess.PIPE, stderr=theirs, timeout=100, check=False)
-    os.close(theirs)
-    told = os.read(ours, 10**4).replace(b"\r\n", b"\n")
-    assert (ran.returncode, ran.stdout, told) == (0, b"a\nb\n", b"\r1 lines\r2 lines\n"), (ran, told)
-
-
-def crowd(runs, *words, **fails):
-    """What a crowd was told, and then five more: how many were served, shed, and cut off; and how many were inside at
-    once. No answer is wrong. `None` if memory was refused to the program itself, which then says so."""
-    status, out, errors = runs.run([HTTP, "crowd", *words], **fails)
-    if status == 1 and "FAIL_ALLOC" in fails and errors:
-        return None
-    told = re.fullmatch(CROWD % (COUNTS, COUNTS), out)
-    assert told and (status, errors) == (0, b""), (words, fails, status, out, errors)
-    return tuple(map(int, told.groups()))
-
-
-def check_crowds(runs):
-    """Connections in memory share a stack with a limit of five. Each request is answered, by a 200 or a 503, unless a
-    read, a write or memory fails; then its connection alone is cut off, no task is left asleep, and the permits are
-    back: five more are served."""
-    both = (2, 0, 0, 5, 0, 0, 5)
+def check_crowd():
+    """Twenty connections share a stack with a limit of five: each request is answered, by a 200 or a 503."""
+    rest = b"5 requests: 5 served, 0 busy, 0 broken, 0 wrong\nat most 5 inside at once, 0 at the end\n"
     for _ in range(5):
-        served, busy, *others = crowd(runs, "20")
-        assert served >= 5 and busy > 0 and served + busy == 20 and others == [0, 5, 0, 0, 5], (served, busy, others)
-    broken = number = whole = 0
-    while whole < 20 and number < 1000:
-        number += 1
-        told = crowd(runs, "2", str(number))
-        assert told in (both, (1, 0, 1, 5, 0, 0, 5)), (number, told)
-        broken, whole = broken + told[2], 0 if told[2] else whole + 1
-    assert whole == 20 and broken >= 10, (broken, number)
-    refused = number = whole = 0
-    while whole < 200 and number < 10_000:
-        number += 1
-        told = crowd(runs, "2", FAIL_ALLOC=number)
-        refused, whole = (refused, whole + 1) if told == both else (refused + 1, 0)
-        if told and told != both:
-            one, more = told[:3], told[3:6]
-            assert (sum(one), one[1], sum(more), more[1]) == (2, 0, 5, 0) and one[2] + more[2] == 1, (number, told)
-    assert whole == 200 and refused > 20, (refused, number)
-
-
-def main():
-    with tempfile.TemporaryDirectory() as room:
-        runs = Runs(room)
-        for row in (TOP / "scripts/programs.txt").read_text(encoding="utf-8").splitlines():
-            if row and not row.startswith("#"):
-                check_row(runs, row)
-        for check in (check_each_call, check_threads, check_crowds):
-            check(runs)
-        check_progress()
-    print(f"programs: {runs.count} runs, each as expected")
+        found = run("example_http", "crowd", "20")
+        told = re.fullmatch(rb"20 requests: (\d+) served, (\d+) busy, 0 broken, 0 wrong\n" + rest, found[1])
+        assert told and found == (b"0", told[0], b""), found
+        assert int(told[1]) >= 5 and int(told[2]) > 0 and int(told[1]) + int(told[2]) == 20, found
 
 
 if __name__ == "__main__":
-    sys.exit(main())
+    with tempfile.TemporaryDirectory() as room:
+        os.environ["LD_PRELOAD"] = " ".join([library_of(room, it) for it in ("fail_io", "fail_alloc", "fail_thread")])
+        for line in (TOP / "scripts/programs.txt").read_text(encoding="utf-8").splitlines():
+            if line and not line.startswith("#"):
+                check_row(line)
+        for check in (check_each_call, check_threads, check_crowd):
+            check()
+    print(f"programs: {len(RUNS)} runs, each as expected")
