@@ -1,9 +1,7 @@
 #!/usr/bin/env bash
-# scripts/check.sh PROGRAM: runs each script here on the stack that its name begins with, and compares what `tower-run`
-# prints with the file beside it, which was worked out by hand. Without it nothing compares whole stacks with what
-# somebody reckoned.
-program=$(realpath "$1") || exit 1
-cd "$(dirname "${BASH_SOURCE[0]}")" || exit 1
+# scripts/check.sh PROGRAM: runs each script here on the stack that its name begins with, and compares what it prints
+# with the file beside it, which was worked out by hand. Without it nobody's reckoning is compared with a whole stack.
+program=$(realpath "$1") && cd "$(dirname "$0")" || exit 1
 failed=0
 for script in *.script; do
     "$program" "${script%%[_.]*}" < "$script" | diff - "${script%.script}.out" || failed=1
