@@ -1,82 +1,51 @@
 #!/usr/bin/env python3
-"""scripts/measure/one_main.py hedge | DEPTH..: proves a program whose whole stack is called in one `main`.
+"""scripts/measure/one_main.py hedge | DEPTH..: proves a program whose whole stack is called in one `main`. Without it
+nobody could see that the check of such a program gives up, or takes longer than docs/GATE.md says.
 
-`hedge` is the program of scripts/measure/one_main/hedge.txt, a whole `Hedge`. A depth, from 1 to 10, is
-`example_ten_layers` with so many of its layers, the innermost ones. Each is proved alone, with nothing kept, in a
-repository that scripts/vendor makes with the library as it is built here, and a row of a table says what its check took
-(the memory is the most of any so far). The status is 1 if a program isn't proved.
+`hedge` is one_main/hedge.txt, a whole `Hedge`. A depth, from 1 to 10, is `example_ten_layers` with so many of its
+layers, the innermost ones. Each is proved alone, beside the library as it is built here, and a row says what its check
+took (the memory is the most of any so far). The status is 1 if one isn't proved.
 """
+import os
 import re
 import resource
-import shutil
 import subprocess
 import sys
 import tempfile
 
-from beside import head, listed, read, row, vendored
+from beside import ROOT, crate_in, head, read, row
 
-EXAMPLE = "crates/example_ten_layers/src"
-# A trait is used by its methods.
-WORD_OF = {"BlockOnExt": "block_on_call", "Clock": "share"}
-
-
-def without_unused(text):
-    """The text without the imports, the modules and the lines `let NAME` that nothing uses."""
-    lines, found = [], text.split("\n")
-    while found != lines:
-        lines, found = found, []
-        body = [it for it in lines if not re.match("(use|mod) ", it)]
-        word = lambda name: rf"\b{WORD_OF.get(name, name)}\b"
-        is_used = lambda name, but: any(re.search(word(name), it) for it in body if it is not but)
-        for line in lines:
-            if use := re.match(r"(use .*::)\{?([\w, ]+)\}?;", line):
-                names = [it for it in use[2].split(", ") if is_used(it, line)]
-                listing = ", ".join(names) if len(names) == 1 else "{" + ", ".join(names) + "}"
-                found += [f"{use[1]}{listing};"] * bool(names)
-            elif module := re.match(r"mod (\w+);", line):
-                found += [line] * any(it.startswith(f"use {module[1]}::") for it in lines)
-            elif not (let := re.match(r"    let (\w+) = ", line)) or is_used(let[1], line):
-                found.append(line)
-    return re.sub(r"\n{3,}", "\n\n", "\n".join(found))
+# The layers, innermost first, each with the words of what it alone needs: a line with one of them goes with the layer.
+LAYERS = ("then", "map_err|policy|Busy", "map_response", "map_request", "retry|TwoRetries|budget|SystemClock|alloc",
+          "filter|short|Short", "rate_limit", "concurrency_limit", "load_shed", "timeout")
 
 
-def program_of(depth):
-    """The files of the example with its innermost layers alone, or of the hedge."""
-    if depth == "hedge":
+def files_of(name):
+    if name == "hedge":
         return {"src/main.rt": read("scripts/measure/one_main/hedge.txt")}
-    main = read(f"{EXAMPLE}/main.rt")
-    layers = re.findall(r"\n        \.(?!service_fn)\w+\((?:[^\n]|\n {12}| *\n        \}\))*", main)
-    assert len(layers) == 10, layers
-    for layer in layers[: 10 - int(depth)]:
-        main = main.replace(layer, "")
-    main, policy = without_unused(main.replace("10 middleware", f"{depth} middleware")), read(f"{EXAMPLE}/policy.rt")
-    if "retry(" not in main:
-        policy = without_unused(re.split(r"(?m)^///.*\n.*\npub struct TwoRetries", policy)[0]).rstrip("\n") + "\n"
-    files = {"main": main, "policy": policy, "short": read(f"{EXAMPLE}/short.rt")}
-    return {f"src/{name}.rt": text for name, text in files.items() if name == "main" or f"mod {name};" in main}
+    main, policy, short = (read(f"crates/example_ten_layers/src/{it}.rt") for it in ("main", "policy", "short"))
+    main = main.replace("{Busy, TwoRetries}", "Busy;\nuse policy::TwoRetries")
+    for words in LAYERS[int(name) :]:
+        main = re.sub(rf"(?m)^.*\b({words})\b.*\n", "", main)
+    assert main.count("\n        .") == int(name) + 1, main
+    files = {"main": main, "policy": policy, "short": short}
+    return {f"src/{it}.rt": text for it, text in files.items() if it == "main" or f"mod {it};" in main}
 
 
 def is_proved(room, name):
-    """Proves a program with nothing kept, beside the library in the room."""
-    shutil.rmtree(f"{room}/crates/one_main", ignore_errors=True)
-    crate = listed(room, "one_main", " may_wait=3: tower futures thiserror", program_of(name))
-    before = resource.getrusage(resource.RUSAGE_CHILDREN)
-    how = {"stdout": subprocess.PIPE, "stderr": subprocess.STDOUT, "text": True}
-    ran = subprocess.run(["rt", "check", "--only", "main"], cwd=crate, check=False, **how)
-    after = resource.getrusage(resource.RUSAGE_CHILDREN)
-    took = after.ru_utime + after.ru_stime - before.ru_utime - before.ru_stime
-    print(ran.stdout[-3000:] * bool(ran.returncode), end="", file=sys.stderr)
-    row(name, f"{took:.0f}", after.ru_maxrss // 1024, "NO" if ran.returncode else "yes")
+    crate = crate_in(room, f"one_main_{name} may_wait=3: tower futures thiserror", files_of(name))
+    before = sum(os.times()[2:4])
+    ran = subprocess.run(["rt", "check", "--only", "main"], cwd=crate, capture_output=True, text=True, check=False)
+    took, most = sum(os.times()[2:4]) - before, resource.getrusage(resource.RUSAGE_CHILDREN).ru_maxrss // 1024
+    row(name, f"{took:.0f}", most, "NO" if ran.returncode else "yes")
+    if ran.returncode:
+        print((ran.stdout + ran.stderr)[-3000:], file=sys.stderr)
     return not ran.returncode
 
 
-def main(names):
-    with tempfile.TemporaryDirectory(prefix="one-main-") as room:
-        vendored(room, "--built")
-        subprocess.run(["rt", "lib"], cwd=f"{room}/crates/tower", check=True, capture_output=True)
-        head("Layers", "Processor seconds", "MB at most", "Proved")
-        return 0 if all([is_proved(room, it) for it in names]) else 1
-
-
 if __name__ == "__main__":
-    sys.exit(main(sys.argv[1:]))
+    with tempfile.TemporaryDirectory(prefix="one-main-") as folder:
+        subprocess.run([ROOT / "scripts/vendor", "--built", folder], check=True, stdout=sys.stderr)
+        subprocess.run(["rt", "lib"], cwd=f"{folder}/crates/tower", check=True, capture_output=True)
+        head("Layers", "Processor seconds", "MB at most", "Proved")
+        sys.exit(not all([is_proved(folder, it) for it in sys.argv[1:]]))
