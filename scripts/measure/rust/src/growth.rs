@@ -1,4 +1,4 @@
-//! Crowds of N, whose polls are counted, in a tokio runtime of one thread: the kinds of scripts/measure/growth.py.
+//! Crowds of N, whose polls are counted, in a tokio runtime of one thread: the kinds of scripts/measure/speed.py.
 use crate::rounds::{in_flight, Echo, Late, Lost};
 use futures::channel::oneshot::{channel, Receiver, Sender};
 use futures::stream::{iter, FuturesUnordered, Stream, StreamExt};

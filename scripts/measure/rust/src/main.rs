@@ -3,7 +3,7 @@
 //!     rust-tower rounds NAME N               N rounds of a line of `tower-bench`, by its name there
 //!     rust-tower sizes                       bytes of each middleware's service and response, as `tower-bench sizes` prints them
 //!     rust-tower threads CALLS THREADS       the lines of `bench-threads CALLS THREADS`
-//!     rust-tower growth KIND N TIMES         the polls of a crowd of N, made TIMES times, as scripts/measure/growth.py counts them
+//!     rust-tower growth KIND N TIMES         the polls of a crowd of N, made TIMES times, as scripts/measure/speed.py counts them
 mod growth;
 mod rounds;
 mod threads;
