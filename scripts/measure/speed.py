@@ -55,14 +55,16 @@ def counts(*words):
 def picture(lines):
     """A bar for each line that has the Rust's figure: ours over that, cut off at 2.6."""
     bars = [(name, int(ours), int(rust)) for name, ours, rust in lines if rust]
-    size = f'width="760" height="{18 * len(bars) + 10}" font-family="sans-serif" font-size="12"'
+    end = 18 * len(bars) + 8
+    size = f'width="760" height="{end + 22}" font-family="sans-serif" font-size="12"'
     yield f'<svg xmlns="http://www.w3.org/2000/svg" {size}>\n<rect width="100%" height="100%" fill="white"/>'
     for at, (name, ours, rust) in enumerate(bars, 1):
         length, color = 150 * min(ours / rust, 2.6), "#b5513a" if ours > rust else "#3a7a5c"
         yield f'<text x="270" y="{18 * at}" text-anchor="end">{name}</text>'
         yield f'<rect x="280" y="{18 * at - 11}" width="{length:.1f}" height="14" fill="{color}"/>'
         yield f'<text x="{max(length, 150) + 286:.1f}" y="{18 * at}">{ours} : {rust}</text>'
-    yield f'<path d="M430 0V{18 * len(bars) + 10}" stroke="black"/>\n</svg>\n'
+    yield f'<path d="M430 0V{end}" stroke="black"/>'
+    yield f'<text x="280" y="{end + 14}">instructions a round, ours : the Rust\'s</text>\n</svg>\n'
 
 
 def memory(rust):
