@@ -1,15 +1,11 @@
 #!/usr/bin/env python3
-"""scripts/forgets_nothing.py: no contract sees a leak, so the library has no way to make one. It prints where there is
-one, with status 1. A value ends without its drop
+"""scripts/forgets_nothing.py: no contract sees a leak, so without this a value of the library could end without its
+drop unseen. It prints each place where one may, with status 1:
 
-- by what the kit's std has for it: `forget` (of `std::mem`, and of a handle), `ManuallyDrop`, `leak` (of a `Box`, a
-  `Vec`, a cell's `Ref`), `into_raw` and its like; however it is called or imported, since each name is refused wherever
-  it stands;
-- in `unsafe` code, which may write over a value or read it twice: the library has `unsafe impl` alone;
-- in a `static`, which is never dropped;
-- where a value whose type has a `drop` of its own is taken apart by a pattern, since its `drop` isn't called then. Only
-  that `drop` may do it, and the functions of `ALLOWED`, whose contracts say what they return in place of it, or that
-  they make its step. Such a type isn't imported by another name."""
+- what the kit's std has for it, however that is called or imported; `unsafe` code (`unsafe impl` is none); a `static`;
+- a pattern that takes a value apart whose type has a `drop` of its own, which isn't called then. Only that `drop` may do
+  so, and the functions of `ALLOWED`, whose contracts say what they return in its place, or that they make its step. No
+  import renames such a type."""
 import re
 import sys
 from collections import defaultdict
@@ -27,38 +23,28 @@ AFTER = r"(?:[^;{}=]*?\))*\s*(?:if\b[^;{}]*?)?(?:=>|=(?![=>])|\|(?!\|)|:(?!:))"
 
 
 def taken_apart(texts):
-    """Where the files of a crate take a value of a type with a drop apart, or rename such a type. (Other crates don't
-    see its fields.)"""
-    types = "|".join(sorted({name for text in texts.values() for name in DROPS.findall(text)}))
-    if not types:
-        return
-    alias = re.compile(rf"^(?:pub(?:\([a-z]+\))? )?type (\w+)[^;]*?=\s*(?:\w+::)*(?:{types})\b", re.M)
-    types = "|".join([types, *sorted({name for text in texts.values() for name in alias.findall(text)})])
-    takes = re.compile(rf"\b(?:Self|{types})(?:::<[^{{}};]*>)?\s*\{{[^{{}}]*\}}{AFTER}")
+    """Where the files of a crate take such a value apart, or rename its type. (Other crates don't see its fields.)"""
+    whole = "\n".join(texts.values())
+    types = DROPS.findall(whole)
+    types += [alias for alias, of in re.findall(r"\btype (\w+)[^;]*?=\s*(?:\w+::)*(\w+)", whole) if of in types]
+    types = "|".join(types) or "No"
+    apart = re.compile(rf"\b(?:Self|{types})(?:::<[^{{}};]*>)?\s*\{{[^{{}}]*\}}{AFTER}|\b(?:{types})\s+as\s+\w+")
     for path, text in texts.items():
-        yield from ((path, it) for it in re.finditer(rf"\b(?:{types})\s+as\s+\w+", text))
-        for it in takes.finditer(text):
-            name = re.findall(r"\bfn (\w+)", text[: it.start()])[-1]
-            block = text.rfind("\nimpl", 0, it.start())
-            is_drop = name == "drop" and block > text.rfind("\n}", 0, it.start()) and DROPS.match(text, block + 1)
-            if not is_drop and f"{path}:{name}" not in ALLOWED:
+        for it in apart.finditer(text):
+            # Of what stands before it: whether the last block that begins or ends there is a `drop`'s, and the function.
+            blocks = re.findall(r"^(?:impl\b[^{]*|\})", text[: it.start()], re.M)
+            function = re.findall(r"\bfn (\w+)|$", text[: it.start()])[-2:][0]
+            if not (function == "drop" and DROPS.match(blocks[-1])) and f"{path}:{function}" not in ALLOWED:
                 yield path, it
 
 
-def main():
-    crates, seen = defaultdict(dict), 0
-    for path in sorted((TOP / "crates").glob("*/src/**/*.rt")):
-        name = path.relative_to(TOP / "crates").as_posix()
-        if not re.match("tests_|scripted_|example_|uses/", name):
-            crates[name.split("/")[0]][name] = re.sub(r"//[^\n]*", "", path.read_text(encoding="utf-8"))
-    found = [(path, it) for texts in crates.values() for path, text in texts.items() for it in REFUSED.finditer(text)]
-    for texts in crates.values():
-        seen += sum(map(len, map(DROPS.findall, texts.values())))
-        found += taken_apart(texts)
-    for path, it in found:
-        print(f"{path}:{it.string.count(chr(10), 0, it.start()) + 1}: {' '.join(it[0].split())}")
-    return bool(found) or not seen
-
-
-if __name__ == "__main__":
-    sys.exit(main())
+crates, found = defaultdict(dict), []
+for file in sorted((TOP / "crates").glob("tower*/src/**/*.rt")):
+    name = file.relative_to(TOP / "crates").as_posix()
+    crates[name.split("/")[0]][name] = re.sub(r"//[^\n]*", "", file.read_text(encoding="utf-8"))
+for sources in crates.values():
+    found += [(path, it) for path, source in sources.items() for it in REFUSED.finditer(source)]
+    found += taken_apart(sources)
+for path, it in found:
+    print(f"{path}:{it.string.count(chr(10), 0, it.start()) + 1}: {' '.join(it[0].split())}")
+sys.exit(bool(found) or not crates)
