@@ -31,15 +31,13 @@ class Row:
         return cls(asked)
 
     @classmethod
-    def refused(cls, asked, place, may_follow, may_begin):
-        """What comes of a script that is refused room once, where this line is the first that shows it: the room's name and the lines. After a refusal in
-        this line itself only such notes come as may follow so many others, and the lines up to this one are such as may begin the play."""
+    def refused(cls, asked, place, may_follow):
+        """The lines of each play that is refused room once, if the line at this place is the first that may show it. After a refusal in this line itself only
+        such notes come as may follow so many others."""
         whole = cls.whole(asked)
         before, here = ([0] + whole.ends)[place], whole.ends[place]
         for number in [*(it for it in range(before, here) if may_follow(whole.stage.rooms[it][1])), *range(before)]:
-            lines = cls.refused_at(asked, number)
-            if may_begin(lines[: place + 1]):
-                yield whole.stage.rooms[number][0], lines
+            yield cls.refused_at(asked, number)
 
     @classmethod
     @functools.lru_cache(1024)
