@@ -3,9 +3,9 @@
 drop unseen. It prints each place where one may, with status 1:
 
 - what the kit's std has for it, however that is called or imported; `unsafe` code (`unsafe impl` is none); a `static`;
-- a pattern that takes a value apart whose type has a `drop` of its own, which isn't called then. Only that `drop` may do
-  so, and the functions of `ALLOWED`, whose contracts say what they return in its place, or that they make its step. No
-  import renames such a type."""
+- a pattern that takes a value apart whose type has a `drop` of its own, which isn't called then. Only that `drop` may
+  do so, and the functions of `ALLOWED`, whose contracts say what they return in its place, or that they make its step.
+  No import renames such a type."""
 import re
 import sys
 from collections import defaultdict
@@ -31,7 +31,7 @@ def taken_apart(texts):
     apart = re.compile(rf"\b(?:Self|{types})(?:::<[^{{}};]*>)?\s*\{{[^{{}}]*\}}{AFTER}|\b(?:{types})\s+as\s+\w+")
     for path, text in texts.items():
         for it in apart.finditer(text):
-            # Of what stands before it: whether the last block that begins or ends there is a `drop`'s, and the function.
+            # Of what stands before it: the blocks that begin or end there, and the last function.
             blocks = re.findall(r"^(?:impl\b[^{]*|\})", text[: it.start()], re.M)
             function = re.findall(r"\bfn (\w+)|$", text[: it.start()])[-2:][0]
             if not (function == "drop" and DROPS.match(blocks[-1])) and f"{path}:{function}" not in ALLOWED:

@@ -8,7 +8,8 @@ python=(prove $(find scripts -name '*.py')) failed=0
 if command -v pyflakes3 > /dev/null; then
     pyflakes3 "${python[@]}" || failed=1
 else
-    python3 -W error -c 'import sys; [compile(open(it).read(), it, "exec") for it in sys.argv[1:]]' "${python[@]}" || failed=1
+    compiles='import sys; [compile(open(it).read(), it, "exec") for it in sys.argv[1:]]'
+    python3 -W error -c "$compiles" "${python[@]}" || failed=1
 fi
 for file in $(grep -lrE '^#!.*bash' test tower-run .ci scripts); do
     bash -n "$file" || failed=1

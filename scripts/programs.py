@@ -1,5 +1,5 @@
 #!/usr/bin/env python3
-"""scripts/programs.py: makes the runs of programs.txt, and here those that no row can say.
+"""scripts/programs.py: makes the runs of programs.txt, those of the scripts here, and those that no row can say.
 
 Without it a program could take wrong arguments, or lose what it read or wrote where a call of the system fails: no
 contract speaks of those. Each run is compared whole: status, standard output, standard error. What is expected was
@@ -55,6 +55,13 @@ def check_row(row):
     assert len(found) - found.count(0) >= int(fails.get("OTHERS", 0)), f"{row}\nbut came {found}"
 
 
+def check_transcripts():
+    """Each script of scripts/ is run on the stack that its name begins with."""
+    for script in sorted((TOP / "scripts").glob("*.script")):
+        found = run("tower_run_cli", re.match("[a-z]+", script.name)[0], given=script.read_bytes())
+        assert found == (b"0", script.with_suffix(".out").read_bytes(), b""), (script, found)
+
+
 def check_each_call():
     """Of a long script each read and each write fails in turn: what was written before stands. Calls of few bytes
     change nothing."""
@@ -103,6 +110,6 @@ if __name__ == "__main__":
         for line in (TOP / "scripts/programs.txt").read_text(encoding="utf-8").splitlines():
             if line and not line.startswith("#"):
                 check_row(line)
-        for check in (check_each_call, check_threads, check_crowd):
+        for check in (check_transcripts, check_each_call, check_threads, check_crowd):
             check()
     print(f"programs: {len(RUNS)} runs, each as expected")

@@ -15,7 +15,8 @@ grep -q "^$own is proved" "$room/verdict"
 (cd "$room/crates/$own" && rt run 2> "$room/log") | diff "crates/$own/stdout" - || { cat "$room/log" && exit 1; }
 
 echo "of the user's own" >> "$room/README.md"
-theirs() { tar -C "$room" -c --sort=name --mtime=@0 --exclude=out README.md HANDLES crates.txt crates/app "crates/$own" | sha256sum; }
+files=(README.md HANDLES crates.txt crates/app "crates/$own")
+theirs() { tar -C "$room" -c --sort=name --mtime=@0 --exclude=out "${files[@]}" | sha256sum; }
 before=$(theirs)
 scripts/vendor --built "$room"
 [ "$(theirs)" = "$before" ] || { echo "vendored: a second run changed what is the user's" >&2; exit 1; }
