@@ -3,179 +3,99 @@
 and all of them at once. Without it a drop at another point than those of the scripts could lose a permit, a place or a
 message: no contract says what a drop does to others.
 
-At each point of each script of PLAYED it drops one thing, whichever there is, and the script goes on; or all handles
-and then all responses, or all responses and then all handles, and the script ends. Of each run, by what was noted: each
-service, response, clone and share of a noted latch was dropped once, and nothing else was; and what the functions of
-the four kinds say. It prints how many runs there were. Status 1 and a line for each that isn't so."""
-import functools
+At each point one thing is dropped, whichever there is, and the script goes on; or all handles and then all responses
+are dropped, or the other way round, and the script ends. In each run, by what was noted, each service, response, clone
+and share of a latch was dropped once, nothing else was, and RULES hold. The first run that isn't so is printed."""
 import itertools
 import re
 import sys
 from collections import Counter
 
-from common import TOP, dropped_by, made_by, notes_of, play, program_of, scripts_of
+from common import dropped_by, files_of, made_by, notes_of, play, scripts_of
 
-# How many lines are played at once, which bounds the memory.
-LINES = 300_000
-
-
-def permits(run, notes, count, _):
-    """Each permit is given back, all are free at the end, and each wait gets its permit or its `Cancel`."""
-    yield "watched" in run[0].asked and not re.fullmatch(r"(\d+) of \1 permits free", notes[-1]), notes[-1]
-    taken = waits = 0
-    for line in run:
-        if "latch waited" in line.notes:
-            # (the share that was made for a permit is dropped if the permit isn't there yet)
-            is_taken = "latch dropped" not in notes_of(line.notes)
-            taken += is_taken
-            waits += "latch waited Join" in line.notes and not is_taken
-            waits -= "latch waited Look" in line.notes and is_taken
-    yield taken - count["latch stepped Release"], "permits weren't given back"
-    yield waits - count["latch stepped Cancel"], "waits went on and weren't cancelled"
-
-
-def loads(run, *_):
-    """None is counted once all responses are dropped."""
-    yield run[-2].asked == "load" and run[-2].answer != "Count(0)", run[-2].answer
-
-
-def mail(run, notes, count, is_fresh):
-    """It is at its end, and no request is left. Each `Join` has its `Part`, each place its `Send` or `Unreserve`, and
-    each wait its place, its error or its `Cancel`; each message's outcome is told or forgotten, once. If the worker is
-    kept and the mail open, then once all else is dropped as many clones as there are places are ready, and one more is
-    pending."""
-    yield notes[-1] != "mail at its end, 0 requests left", notes[-1]
-    places = waits = 0
-    for line in run:
-        asks = [it.split()[0] for it in notes_of(line.notes) if it.split()[0] in ("Reserve", "Look")]
-        if line.asked.startswith("poll") and asks:
-            places += line.answer == "ready"
-            waits += (line.answer == "pending") - (asks[0] == "Look")
-    yield count["Join"] + 1 - count["Part"], "joined and didn't part"
-    yield places - count["Send"] - count["Unreserve"], "places were neither used nor given back"
-    yield waits - count["Cancel"], "waits went on and weren't cancelled"
-    gone = next((at for at, line in enumerate(run) if "WorkerGone" in notes_of(line.notes)), len(run))
-    sent = sum(line.answer.startswith("call ") for line in run[:gone])
-    yield sent - sum(map(is_told, run)) - count["Forget"], "messages have no outcome that was told or forgotten"
-    yield count["WorkerGone"] - 1, "times more than once the worker went"
-    if is_fresh and not {"Fail", "WorkerGone"} & {it.split()[0] for line in run[:-1] for it in notes_of(line.notes)}:
-        polls = [line.answer for line in run if line.asked.startswith("poll")][-places_of(run[0].asked) - 1 :]
-        yield polls != ["ready"] * (len(polls) - 1) + ["pending"], f"the polls for all places are {polls}"
-
-
-def is_told(line):
-    notes = notes_of(line.notes)
-    return any(it.startswith("Outcome") for it in notes) and (line.answer != "pending" or len(notes) > 1)
-
-
-def slot(run, _notes, count, _):
-    """A handle aborts its slot once. Each task that was spawned puts its service or error back, is gone, or ends by an
-    abort."""
-    by_abort = 0
-    for notes in (notes_of(line.notes) for line in run if line.answer == "ended"):
-        by_abort += notes.count("Aborted") * (not {"Put", "PutError"} & {*notes})
-    yield count["Abort"] - 1, "aborts more than one"
-    ends = count["Put"] + count["PutError"] + count["TaskGone"] + by_abort
-    yield count["spawned"] - ends, "tasks more were spawned than came to an end"
-
-
-# Of each kind of run the file of scripts, and those of its scripts that are played, by their first word.
+# The scripts that are played, by their file and their first line. (After `into_inner` no handle is left.)
 PLAYED = (
-    (permits, "scripted_ware/data/limit/permits", "concurrency_limit"),
-    (permits, "scripted_ware/data/limit/concurrency_limit", "concurrency_limit"),
-    (permits, "scripted_ware/data/limit/counting_latch", "concurrency_limit"),
-    (loads, "scripted_ware/data/limit/load", "pending_requests"),
-    (mail, "scripted_pool/data/buffer/buffer", "buffer"),
-    (mail, "scripted_pool/data/buffer/buffer_passes", "buffer"),
-    (mail, "scripted_pool/data/buffer/buffer_round_a_limit", "buffer_round_a_limit"),
-    (slot, "scripted_pool/data/pool/spawn_ready", "spawn_ready"),
+    r"(permits|concurrency_limit|counting_latch): concurrency_limit\b(?!.*into_inner)|load: pending_requests\b"
+    r"|(buffer|buffer_passes): buffer\b|buffer_round_a_limit: buffer_round_a_limit\b|spawn_ready: spawn_ready\b"
+)
+# What else is dropped, by the first word.
+OTHERS = {"buffer": ["worker"], "buffer_round_a_limit": ["worker"], "spawn_ready": ["task", "ended"]}
+# In the lines of each run, `ASKED => ANSWER | NOTE | NOTE`, both patterns are found equally often.
+RULES = (
+    # Each permit that was taken is given back, each wait gets its permit or is cancelled, and all are free at the end.
+    (r"latch waited(?!.*latch dropped)", r"latch stepped Release"),
+    (r"latch waited Join.*latch dropped", r"latch waited Look(?!.*latch dropped)|latch stepped Cancel"),
+    (r"^.* watched", r"\| (\d+) of \1 permits free\Z"),
+    # Once all responses are dropped, no load is counted.
+    (r"^load .*\nend", r"^load => Count\(0\).*\nend"),
+    # Each handle of a buffer parts. Each place is used or given back, and each wait gets its place or its error, or is
+    # cancelled. The outcome of each message is told or forgotten, if it was sent to a worker. The worker goes once, and
+    # the mail is at its end.
+    (r"^buffer|\| Join", r"\| Part"),
+    (r"^poll.*=> ready.*\| (Reserve|Look \d)", r"\| (Send|Unreserve)"),
+    (r"^poll.*=> pending \| Reserve", r"^poll.*=> (?!pending).*\| Look \d|\| Cancel"),
+    (r"=> call (?=(?s:.*)\| WorkerGone)|=> pending \| Outcome \d+$", r"\| (Outcome|Forget)"),
+    (r"^buffer", r"\| WorkerGone"),
+    (r"^buffer", r"\| mail at its end, 0 requests left\Z"),
+    # A slot is aborted once, and each task puts its service or its error back, is gone, or ends by an abort.
+    (r"^spawn_ready", r"\| Abort\b"),
+    (r"\| spawned", r"\| (Put|PutError|TaskGone)\b|=> ended(?!.*\| Put).*\| Aborted"),
 )
 
 
-def variants(kind, script):
-    """The runs: what is asked in each, and whether all places are asked for at its end."""
-    asked = [it.asked for it in script]
-    others = {mail: ["worker"], slot: ["task", "ended"]}.get(kind, [])
-    for place in range(1, len(script)):
-        answers = [it.answer for it in script[:place]]
-        clones = [it.answer for it in script[:place] if it.asked.startswith("clone")]
-        letters = ["a", *(it for it in clones if re.fullmatch("[a-z]", it))]
-        numbers = [it.split()[1] for it in answers if re.fullmatch(r"call \d+", it)]
-        for word in [*letters, *numbers, *others]:
-            yield [*asked[:place], f"drop {word}", *asked[place:]], False
-        rest, handles, responses = ([f"drop {it}" for it in words] for words in (others, letters, numbers))
-        if kind == loads:
-            yield [*asked[:place], *responses, "load", "end"], False
-        for first, last in ((handles, responses), (responses, handles)):
-            for drops in ([*rest, *first], [*first, *rest]) if rest else (first,):
-                yield [*asked[:place], *drops, *last, "end"], False
-        # (a buffer of 2^64 - 1 places isn't filled)
-        if kind == mail and asked[0].startswith("buffer ") and places_of(asked[0]) < 10_000:
-            yield with_spare(asked, place, letters, responses), True
+def variants(before, after):
+    """What is asked in each run with a drop between these lines."""
+    asked = [it.asked for it in before]
+    name = re.match(r"\w+", asked[0])[0]
+    handles = ["drop a", *(f"drop {it.answer}" for it in before if re.fullmatch("[a-z]", it.answer))]
+    responses = [it.answer.replace("call", "drop") for it in before if it.answer.startswith("call ")]
+    others = [f"drop {it}" for it in OTHERS.get(name, [])]
+    for drop in [*handles, *responses, *others]:
+        yield [*asked, drop, *(it.asked for it in after)]
+    for order in itertools.permutations([handles, responses, others] if others else [handles, responses]):
+        if order[-1] is not others:
+            yield [*asked, *itertools.chain(*order), "end"]
+    if name == "pending_requests":
+        yield [*asked, *responses, "load", "end"]
+    # The handle b is made first, so the others have the next letters. Once it alone is left, it sends a message for
+    # each place. (A buffer of 2^64 - 1 places isn't filled.)
+    if places := re.fullmatch(r"buffer (\d{1,4})", asked[0]):
+        rest = "\n".join([*asked[1:], *handles, *responses])
+        shifted = re.sub(r"\b[b-z]\b", lambda letter: chr(ord(letter[0]) + 1), rest).split("\n")
+        polls = ["poll b", "call b 255"] * int(places[1])
+        yield [asked[0], "clone", *shifted, "shares 255", "readiness ready", "work", *polls, "poll b", "end"]
 
 
-def with_spare(asked, place, letters, responses):
-    """The handle b is made first and never polled. Once all others are dropped, its clones are polled; if there are
-    more places than letters, it sends a message for each."""
-    shift = lambda letter: chr(ord(letter) + 1)
-    shifted = lambda word: re.sub(r"^(poll|call|clone|drop) ([b-z])\b", lambda it: f"{it[1]} {shift(it[2])}", word)
-    parts, *rest = asked[:place]
-    drops = ["drop a", *(f"drop {shift(it)}" for it in letters[1:])]
-    fresh = range(places_of(parts) + 1)
-    if len(fresh) < 13:
-        polls = [it for letter in fresh for it in ("clone b", f"poll {chr(ord('b') + len(letters) + letter)}")]
-    else:
-        polls = ["poll b", "call b 0"] * len(fresh)
-    rest = [*map(shifted, rest), *drops, *responses]
-    return [parts, "clone", *rest, "shares 255", "readiness ready", "work", *polls, "end"]
-
-
-def places_of(first):
-    return int(first.split(";")[0].split()[1])
-
-
-@functools.cache
-def step_of(note):
-    """The note without what stands in brackets, or a number at its end."""
-    return re.sub(r"\(.*| \d+$", "", note)
-
-
-def faults(kind, run, is_fresh):
-    """What isn't so of a run."""
-    notes = [note for line in run for note in notes_of(line.notes)]
-    yield from (it for it in notes if it.endswith("unready"))
-    calls = sum(line.answer.startswith("call ") for line in run)
-    made = Counter(s=1, t="get_mut" in run[0].asked, c=calls * ("checked" in run[0].asked), latch=kind != mail)
-    made.update(filter(None, map(made_by, notes)))
-    dropped = Counter(filter(None, map(dropped_by, notes)))
-    for name in made.keys() | dropped.keys():
-        if made[name] != dropped[name]:
-            yield f"{name} was made {made[name]} times and dropped {dropped[name]} times"
-    answers = Counter(it.asked for it in run if it.asked.startswith("fut ") and it.answer.startswith(("ok", "error")))
-    yield from (f"{asked} answered {count} times" for asked, count in answers.items() if count > 1 and kind != loads)
-    told = kind(run, notes, Counter(map(step_of, notes)), is_fresh)
-    yield from (what if it is True else f"{it} {what}" for it, what in told if it)
+def faults(run):
+    """What should be equal in a run and isn't."""
+    lines = [[f"{it.asked} => {it.answer}", *notes_of(it.notes)] for it in run]
+    text, notes = "\n".join(map(" | ".join, lines)), [note for line in lines for note in line[1:]]
+    # (an `unready` call makes no response by its note, so the drop of its response is one too much)
+    made, dropped = (Counter(filter(None, map(how, notes))) for how in (made_by, dropped_by))
+    checks = text.count("=> call ") * (" checked" in text)
+    made.update(s=1, t=" get_mut" in text, c=checks, latch=not text.startswith("buffer"))
+    pairs = [(f"{it} made and dropped", made[it], dropped[it]) for it in made | dropped]
+    pairs += [(rule, *(len(re.findall(it, text, re.MULTILINE)) for it in rule)) for rule in RULES]
+    places, polls = text.count("\ncall b 255 "), re.findall("^poll b => (.*?)(?: |$)", text, re.MULTILINE)
+    # (a worker that failed or is gone gives no places)
+    if places and not re.search(r"\| (Fail|WorkerGone).*\n", text):
+        pairs.append(("polls for all places", polls, ["ready"] * places + ["pending"]))
+    return [pair for pair in pairs if pair[1] != pair[2]]
 
 
 def main():
-    failed = whole = 0
-    for kind, file, name in PLAYED:
-        program, count = program_of(file.split("/")[0]), 0
-        for script in scripts_of((TOP / f"crates/{file}.script").read_text(encoding="utf-8")):
-            first = script[0].asked.split(";")[0].split()
-            # (after `into_inner` no handle is left)
-            runs = variants(kind, script) if first[0] == name and "into_inner" not in first else iter(())
-            while batch := [*itertools.islice(runs, LINES // len(script) + 1)]:
-                count += len(batch)
-                for (_, is_fresh), run in zip(batch, play(program, [asked for asked, _ in batch])):
-                    for fault in faults(kind, run, is_fresh):
-                        failed += 1
-                        if failed < 20:
-                            print(f"drops: {file}: {fault}", *map(str, run), sep="\n    ", file=sys.stderr)
-        print(f"drops: {file}: {count} runs")
-        whole += count
-    print(f"drops: {whole} runs in all")
-    return failed > 0 or not whole
+    count = 0
+    for program, file in files_of(["scripted_pool", "scripted_ware"]):
+        for script in scripts_of(file.read_text(encoding="utf-8")):
+            if re.match(PLAYED, f"{file.stem}: {script[0].asked}"):
+                for place in range(1, len(script)):
+                    runs = play(program, list(variants(script[:place], script[place:])))
+                    count += len(runs)
+                    for run in runs:
+                        if wrong := faults(run):
+                            sys.exit("\n    ".join([f"drops: {file.name}: {wrong}", *map(str, run)]))
+    print(f"drops: {count} runs in all")
+    return not count
 
 
 if __name__ == "__main__":

@@ -1,11 +1,9 @@
 #!/usr/bin/env python3
-"""scripts/hostile.py: plays random scripts over a hostile party: without it only what somebody thought of would be
-played.
+"""scripts/hostile.py: plays random scripts over a hostile party. Without it only what somebody thought of is played.
 
 Each generator hostile/NAME.py writes files CRATE.NAME.script, of 10000 events at least, whose answers and notes a plain
-machine tells. They are played with the proved programs. It fails if any line is wrong. The scripts are always the same,
-but others for another SEED."""
-import re
+machine tells. They are played with the proved programs, up to the first file of which a line is wrong. The scripts are
+always the same, but others for another SEED."""
 import subprocess
 import sys
 import tempfile
@@ -13,24 +11,14 @@ from pathlib import Path
 
 from common import TOP, program_of
 
-LEAST = 10_000
-
-
-def main():
-    with tempfile.TemporaryDirectory() as room:
-        for generator in sorted((TOP / "scripts/hostile").glob("*.py")):
-            if "__main__" in generator.read_text(encoding="utf-8"):
-                subprocess.run([sys.executable, generator, room], check=True)
-        for file in sorted(Path(room).glob("*.script")):
-            crate, name, _ = file.name.split(".")
-            events = int(re.match(r"# (\d+) events\n", file.read_text(encoding="utf-8"))[1])
-            how = {"stdout": subprocess.PIPE, "stderr": subprocess.STDOUT, "text": True}
-            ran = subprocess.run([program_of(crate), file], timeout=120, check=False, **how)
-            if ran.returncode or events < LEAST or not ran.stdout.endswith(" scripts, 0 lines wrong\n"):
-                said = f"{ran.stdout[:2000]}..{ran.stdout[-500:]}"
-                sys.exit(f"{said}hostile: {name}: {events} events, status {ran.returncode}")
-            print(f"hostile: {name}: {events} events as its machine says")
-
-
-if __name__ == "__main__":
-    main()
+with tempfile.TemporaryDirectory() as room:
+    # (what the generators share writes nothing)
+    for generator in sorted((TOP / "scripts/hostile").glob("*.py")):
+        subprocess.run([sys.executable, generator, room], check=True)
+    for file in sorted(Path(room).glob("*.script")):
+        words = [program_of(file.name.split(".")[0]), file]
+        said = subprocess.run(words, stdout=subprocess.PIPE, text=True, timeout=120, check=True).stdout
+        events = int(file.read_text(encoding="utf-8").split()[1])
+        print(f"hostile: {file.stem}: {events} events, {said[:2000]}", end="", flush=True)
+        if events < 10_000 or not said.endswith(" scripts, 0 lines wrong\n"):
+            sys.exit(1)

@@ -1,83 +1,46 @@
 #!/usr/bin/env python3
 """scripts/quiet.py CRATE..: plays each script of the crates' data/ once more with parts that wake nobody, as `quiet` on
-its first line says, with the proved program.
+its first line says, with the proved program. Without it a task that is woken for no reason might be polled again at
+once, for ever, and one that isn't woken after the last of 64 passes might wait for ever.
 
-Each line is as without it. If a poll was pending, its task is woken (the note `woken`) exactly if `reason_of` says why:
-a task that is woken for no reason is polled again at once, for ever, and one that isn't woken after the last of 64
-passes may wait for ever."""
-import collections
+Each line is as without `quiet`, but a poll that was pending wakes its task (the note `woken`) exactly if there is a
+reason. The first line that isn't so is printed."""
 import re
 import sys
 
 from common import asked_of, files_of, notes_of, play, scripts_of
 
-PASSES = 64
-# What one pass of a bounded loop notes, by the row.
-PASS = {
-    "call_all": "requests gave",
-    "call_all_unordered": "requests gave",
-    "balance": "discovery (inserted|removed)",
-    "buffer": "Take|Live",
-    "reconnect": r"m ready|m\(0\) ready|s\d+ error",
-    "retry": r"s\d*(\(\d+\))? ready|w ready",
-    "spawn_ready": "s pending|Look",
-}
+# What is noted by each pass of a bounded loop, of which a poll makes 64: of a stream of calls, a balance, a buffer's
+# worker, a service that is made ready in a task, and of retries or connections.
+PASSES = ("requests gave", "discovery", "Take|Live", "s pending|Look", r"\w+(\(\d+\))? (ready|error)")
+# A clock wakes nobody. A poll looks again at a slot that was aborted, and asks again for a place that was cancelled.
+REASONS = r"\| clock read \d+\Z|\| Abort\b|^cancel"
 
 
-def waiting(waits, line):
-    """Who waits at the mail of a buffer after this line: of those before it the handles and responses that still do."""
-    who = re.sub("^(drop |fut |poll)", "", line.asked).strip() or "a"
-    left = waits - {who} if line.asked.startswith(("poll", "fut", "drop")) else waits
-    return left | {who} if line.answer == "pending" and line.asked != "work" else left
+def is_woken(lines):
+    """Whether the last of these lines, `ASKED => ANSWER | NOTE | NOTE`, wakes its task, by a poll that was pending."""
+    text, last = "\n".join(lines), lines[-1]
+    is_last_pass = any(len(re.findall(rf"\| ({it})", last)) == 64 for it in PASSES)
+    # A worker gives a place to a handle once it takes a message, and an outcome to a response. Their task is the same.
+    answers = dict(re.findall(r"^(?:poll|fut|drop)(?: a)? ?(\w*) => (\w*)", text, re.MULTILINE))
+    waiting = [who for who, answer in answers.items() if answer == "pending"]
+    gives = any(re.search(r"\| (Answer|Fail)" if who.isdigit() else r"\| Take \|", last) for who in waiting)
+    return is_last_pass or bool(re.search(REASONS, text, re.MULTILINE)) or last.startswith("work ") and gives
 
 
-def are_let_on(waits, notes):
-    """Whether these steps of a buffer's worker give a handle its place, or tell a response its outcome. (They are
-    polled in its task.)"""
-    tells = any(note.startswith(("Answer", "Fail")) for note in notes)
-    return any("Take" in notes[:-1] if who.isalpha() else tells for who in waits)
-
-
-def reason_of(row, line, before, waits):
-    """Why this poll, which was pending, wakes its task, if it does."""
-    notes = notes_of(line.notes)
-    if row in PASS and sum(bool(re.match(PASS[row], note)) for note in notes) == PASSES:
-        return "after the last pass"
-    if line.notes.split("; ")[-1].startswith("clock read"):
-        return "waits for a clock that wakes nobody"
-    if row == "spawn_ready" and any("Abort" in notes_of(it.notes) for it in [*before, line]):
-        return "looks at a slot that was aborted"
-    if row.startswith("semaphore") and any(it.asked.startswith("cancel") for it in before):
-        return "has lost its place, and asks again"
-    if line.asked == "work" and are_let_on(waits, notes):
-        return "lets another one go on, whose task is the same"
-    return None
-
-
-def faults(script, hushed, told):
-    """The lines that aren't as expected, each beside that of the play without `quiet`."""
-    row, waits = re.match(r"\w+", script[0].asked)[0], set()
-    for at, (line, other) in enumerate(zip(script, hushed)):
-        why = reason_of(row, line, script[:at], waits) if line.answer == "pending" else None
-        told[why] += line.answer == "pending"
-        waits = waiting(waits, line)
-        expected = "; ".join(filter(None, [line.notes, "woken" * bool(why)]))
-        if at and (line.answer, expected) != (other.answer, other.notes):
-            yield line, other, why
-
-
-def main():
-    told, wrong = collections.Counter(), 0
-    for program, file in files_of(sys.argv[1:]):
-        scripts = scripts_of(file.read_text(encoding="utf-8"))
-        plays = [play(program, [asked_of(it, change) for it in scripts]) for change in ("", "; quiet")]
-        for script, hushed in zip(*plays):
-            for line, other, why in faults(script, hushed, told):
-                wrong += 1
-                print(f"quiet: {file.name}: {script[0].asked}: {why}\n    {line}\n    {other}", file=sys.stderr)
-    print(f"quiet: {told.total()} polls were pending, of which {told.total() - told[None]} woke their task")
-    return wrong > 0 or not told[None] < told.total()
-
-
-if __name__ == "__main__":
-    sys.exit(main())
+pending = woken = 0
+for program, file in files_of(sys.argv[1:]):
+    scripts = scripts_of(file.read_text(encoding="utf-8"))
+    plays = [play(program, [asked_of(it, change) for it in scripts]) for change in ("", "; quiet")]
+    for script, quiet in zip(*plays):
+        lines = [" | ".join([f"{it.asked} => {it.answer}", *notes_of(it.notes)]) for it in script]
+        for place in range(1, len(script)):
+            line, came = script[place], quiet[place]
+            pending += line.answer == "pending"
+            if line.answer == "pending" and is_woken(lines[: place + 1]):
+                woken += 1
+                line = line._replace(notes=f"{line.notes}; woken".removeprefix("; "))
+            if line != came:
+                sys.exit(f"quiet: {file.name}: {script[0].asked}\n    expected {line}\n    came     {came}")
+print(f"quiet: {pending} polls were pending, of which {woken} woke their task")
+sys.exit(not woken)
