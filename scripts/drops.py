@@ -16,7 +16,7 @@ from common import dropped_by, files_of, made_by, notes_of, play, scripts_of
 # The scripts that are played, by their file and their first line. (After `into_inner` no handle is left.)
 PLAYED = (
     r"(permits|concurrency_limit|counting_latch): concurrency_limit\b(?!.*into_inner)|load: pending_requests\b"
-    r"|(buffer|buffer_passes): buffer\b|buffer_round_a_limit: buffer_round_a_limit\b|spawn_ready: spawn_ready\b"
+    r"|(buffer|buffer_passes|buffer_round_a_limit): buffer|spawn_ready: spawn_ready\b"
 )
 # What else is dropped, by the first word.
 OTHERS = {"buffer": ["worker"], "buffer_round_a_limit": ["worker"], "spawn_ready": ["task", "ended"]}
@@ -69,16 +69,18 @@ def variants(before, after):
 def faults(run):
     """What should be equal in a run and isn't."""
     lines = [[f"{it.asked} => {it.answer}", *notes_of(it.notes)] for it in run]
-    text, notes = "\n".join(map(" | ".join, lines)), [note for line in lines for note in line[1:]]
+    text = "\n".join(map(" | ".join, lines))
+    notes = [note for line in lines for note in line[1:]]
     # (an `unready` call makes no response by its note, so the drop of its response is one too much)
     made, dropped = (Counter(filter(None, map(how, notes))) for how in (made_by, dropped_by))
     checks = text.count("=> call ") * (" checked" in text)
     made.update(s=1, t=" get_mut" in text, c=checks, latch=not text.startswith("buffer"))
     pairs = [(f"{it} made and dropped", made[it], dropped[it]) for it in made | dropped]
     pairs += [(rule, *(len(re.findall(it, text, re.MULTILINE)) for it in rule)) for rule in RULES]
-    places, polls = text.count("\ncall b 255 "), re.findall("^poll b => (.*?)(?: |$)", text, re.MULTILINE)
+    places = text.count("\ncall b 255 ")
     # (a worker that failed or is gone gives no places)
     if places and not re.search(r"\| (Fail|WorkerGone).*\n", text):
+        polls = re.findall(r"^poll b => (\S*)", text, re.MULTILINE)
         pairs.append(("polls for all places", polls, ["ready"] * places + ["pending"]))
     return [pair for pair in pairs if pair[1] != pair[2]]
 
@@ -87,13 +89,14 @@ def main():
     count = 0
     for program, file in files_of(["scripted_pool", "scripted_ware"]):
         for script in scripts_of(file.read_text(encoding="utf-8")):
-            if re.match(PLAYED, f"{file.stem}: {script[0].asked}"):
-                for place in range(1, len(script)):
-                    runs = play(program, list(variants(script[:place], script[place:])))
-                    count += len(runs)
-                    for run in runs:
-                        if wrong := faults(run):
-                            sys.exit("\n    ".join([f"drops: {file.name}: {wrong}", *map(str, run)]))
+            if not re.match(PLAYED, f"{file.stem}: {script[0].asked}"):
+                continue
+            for place in range(1, len(script)):
+                runs = play(program, list(variants(script[:place], script[place:])))
+                count += len(runs)
+                for run in runs:
+                    if wrong := faults(run):
+                        sys.exit("\n    ".join([f"drops: {file.name}: {wrong}", *map(str, run)]))
     print(f"drops: {count} runs in all")
     return not count
 
