@@ -25,20 +25,20 @@ RULES = (
     # Each permit that was taken is given back, each wait gets its permit or is cancelled, and all are free at the end.
     (r"latch waited(?!.*latch dropped)", r"latch stepped Release"),
     (r"latch waited Join.*latch dropped", r"latch waited Look(?!.*latch dropped)|latch stepped Cancel"),
-    (r"^.* watched", r"\| (\d+) of \1 permits free\Z"),
+    (r"\A.* watched", r"\| (\d+) of \1 permits free\Z"),
     # Once all responses are dropped, no load is counted.
-    (r"^load .*\nend", r"^load => Count\(0\).*\nend"),
+    (r"\nload .*\nend", r"\nload => Count\(0\).*\nend"),
     # Each handle of a buffer parts. Each place is used or given back, and each wait gets its place or its error, or is
     # cancelled. The outcome of each message is told or forgotten, if it was sent to a worker. The worker goes once, and
     # the mail is at its end.
-    (r"^buffer|\| Join", r"\| Part"),
-    (r"^poll.*=> ready.*\| (Reserve|Look \d)", r"\| (Send|Unreserve)"),
-    (r"^poll.*=> pending \| Reserve", r"^poll.*=> (?!pending).*\| Look \d|\| Cancel"),
-    (r"=> call (?=(?s:.*)\| WorkerGone)|=> pending \| Outcome \d+$", r"\| (Outcome|Forget)"),
-    (r"^buffer", r"\| WorkerGone"),
-    (r"^buffer", r"\| mail at its end, 0 requests left\Z"),
+    (r"\Abuffer|\| Join", r"\| Part"),
+    (r"\npoll.*=> ready.*\| (Reserve|Look \d)", r"\| (Send|Unreserve)"),
+    (r"\npoll.*=> pending \| Reserve", r"\npoll.*=> (?!pending).*\| Look \d|\| Cancel"),
+    (r"=> call (?=(?s:.*)\| WorkerGone)|=> pending \| Outcome \d+\n", r"\| (Outcome|Forget)"),
+    (r"\Abuffer", r"\| WorkerGone"),
+    (r"\Abuffer", r"\| mail at its end, 0 requests left\Z"),
     # A slot is aborted once, and each task puts its service or its error back, is gone, or ends by an abort.
-    (r"^spawn_ready", r"\| Abort\b"),
+    (r"\Aspawn_ready", r"\| Abort\b"),
     (r"\| spawned", r"\| (Put|PutError|TaskGone)\b|=> ended(?!.*\| Put).*\| Aborted"),
 )
 
@@ -76,11 +76,11 @@ def faults(run):
     checks = text.count("=> call ") * (" checked" in text)
     made.update(s=1, t=" get_mut" in text, c=checks, latch=not text.startswith("buffer"))
     pairs = [(f"{it} made and dropped", made[it], dropped[it]) for it in made | dropped]
-    pairs += [(rule, *(len(re.findall(it, text, re.MULTILINE)) for it in rule)) for rule in RULES]
+    pairs += [(rule, *(len(re.findall(it, text)) for it in rule)) for rule in RULES]
     places = text.count("\ncall b 255 ")
     # (a worker that failed or is gone gives no places)
     if places and not re.search(r"\| (Fail|WorkerGone).*\n", text):
-        polls = re.findall(r"^poll b => (\S*)", text, re.MULTILINE)
+        polls = re.findall(r"\npoll b => (\S*)", text)
         pairs.append(("polls for all places", polls, ["ready"] * places + ["pending"]))
     return [pair for pair in pairs if pair[1] != pair[2]]
 
