@@ -12,7 +12,7 @@ from common import asked_of, files_of, notes_of, play, scripts_of
 
 # What is noted by each pass of a bounded loop, of which a poll makes 64: of a stream of calls, a balance, a buffer's
 # worker, a service that is made ready in a task, and of retries or connections.
-PASSES = ("requests gave", "discovery (inserted|removed)", "Take|Live", "s pending|Look", r"\w+(\(\d+\))? (ready|error)")
+PASSES = "requests gave", "discovery (inserted|removed)", "Take|Live", "s pending|Look", r"\w+(\(\d+\))? (ready|error)"
 # A clock wakes nobody. A poll looks again at a slot that was aborted, and asks again for a place that was cancelled.
 REASONS = r"\| clock read \d+\Z|\| Abort\b|^cancel"
 
