@@ -5,22 +5,22 @@ crate for each edit.)
 
 The wrong bodies are edits of the code. A file `must-fail/CRATE/MODULE.edits` has several, each of which begins with a
 line `edit: NAME`; a file `crates/CRATE/must-fail/NAME.edit`, the kit's own form, has one, without that line. Lines
-`file:`, `old:` and `new:` say what changes, as `rt must-fail` reads them. A line `function: PATH` names a function that
-changes, as a check prints it. There may be several, and one of them has to be refused.
+`file:`, `old:` and `new:` say what changes, as `rt must-fail` reads them. Each function that changes has a line
+`function: PATH`, with its name as a check prints it, and one of them has to be refused.
 
 Up to 24 edits are tried in one check: a function is proved from the contracts of those that it calls, and so a wrong
 body fails its own function alone. An edit counts as refused only if its function isn't proved, and calls none that
 isn't. If it calls such a one, the edit is tried again in another check. An edit that changes more than bodies (a bound,
 a constant, a signature) is marked `edit: NAME alone`, and has a check of its own.
 
-An edit of a law changes a machine and the body alike. Its `function:` is the law. Lines `proved: PATH` name what it
-changes, which has to be proved with it. A line `crate: NAME` says in which library below the law's crate that stands.
+An edit of a law changes a machine and the body alike. Its `function:` is the law. A line `proved: PATH` names what has
+to be proved with the edit, and `crate: NAME` the library whose files change, if it isn't the law's own crate.
 
 All edits are tried, or those of the crates that are named, or those alone that are named after them; with --gate those
-of them that are marked `edit: NAME gate` or stand in `crates/`. Of all others it is seen that each can be applied: its
-old text stands there exactly once. With --built the libraries are taken as `rt ci` left them; else they are proved
-first, where they have changed. No check is begun after MUST_FAIL_UNTIL, a moment in seconds since 1970, if the
-environment has it: so a gate on a slow machine ends in its time. What is left then is named.
+of them that are marked `edit: NAME gate` or stand in `crates/`. Of each other edit it is seen that it can be applied:
+its old text stands there once. With --built the libraries are taken as `rt ci` left them, and else proved first. No
+check begins after MUST_FAIL_UNTIL, a moment in seconds since 1970, if the environment has it: so a gate on a slow
+machine ends in its time. What is left then is named.
 
 The last line is `N refused, M not`, or `N refused, M not, K untried`. The status is 1 if M isn't 0.
 """
@@ -28,7 +28,6 @@ import argparse
 import collections
 import contextlib
 import functools
-import itertools
 import os
 import re
 import runpy
@@ -66,12 +65,11 @@ class Edit:
         self.functions, self.proved, self.below = told["function"], told["proved"], "".join(told["crate"])
         self.folder = Path(crate.folder).with_name(self.below or crate.name)
         self.name, *marks = heading.split() or [""]
-        self.is_in_gate, self.is_alone = "gate" in marks, "alone" in marks or bool(self.proved)
+        self.is_in_gate, self.is_alone = "gate" in marks, "alone" in marks or bool(self.proved or self.below)
         odd = [f"a line that isn't read: {word}:{it}" for word, it in lines if word not in WORDS]
         if {*marks} - {"gate", "alone"} or not re.fullmatch(r"\w+", self.name):
             odd.append(f"`edit: {heading}` has no name, or another mark than `gate` and `alone`")
-        if not self.functions:
-            odd.append("no line `function:` names what has to be refused")
+        odd += [] if self.functions else ["no line `function:` names what has to be refused"]
         self.is_bad(odd[0] if odd else applied([self])[1])
 
     def __str__(self):
@@ -104,13 +102,11 @@ class Edit:
 
 def edits_of(crate):
     """The edits of a crate: those of `must-fail/`, and those that the crate itself has, which stand in the gate."""
-    found = []
-    for file in sorted(Path("must-fail", crate.name).glob("*")):
-        for part in filter(str.strip, re.split(r"^edit: *", file.read_text(encoding="utf-8"), flags=re.M)):
-            heading, _, text = part.partition("\n")
-            found.append(Edit(crate, heading, text))
-    for file in sorted(Path("crates", crate.name, "must-fail").glob("*")):
-        found.append(Edit(crate, f"{file.stem} gate", file.read_text(encoding="utf-8")))
+    texts = [it.read_text(encoding="utf-8") for it in sorted(Path("must-fail", crate.name).glob("*"))]
+    own = sorted(Path("crates", crate.name, "must-fail").glob("*"))
+    texts += [f"edit: {it.stem} gate\n{it.read_text(encoding='utf-8')}" for it in own]
+    parts = [part for text in texts for part in re.split(r"^edit: *", text, flags=re.M) if part.strip()]
+    found = [Edit(crate, *part.partition("\n")[::2]) for part in parts]
     number = collections.Counter(it.name for it in found)
     for it in found:
         it.is_bad(number[it.name] > 1 and "another edit has its name")
@@ -162,26 +158,24 @@ def over_changed(edit, room):
     return crate
 
 
-def check(edits, kept, is_edited=True):
-    """Checks the functions that these edits name, over what the crate's checks before kept. One that a signal ended, as
-    where memory runs out, is made once more. Raises TimeoutError once no check may begin."""
+def check(crate, functions, texts, kept):
+    """Checks these functions with these texts in place of the crate's own, over what the checks before kept. One that a
+    signal ended, as where memory runs out, is made once more. Raises TimeoutError once no check may begin."""
     if time.time() > float(os.environ.get("MUST_FAIL_UNTIL", "inf")):
         raise TimeoutError
-    crate, texts = edits[0].crate, applied(edits)[0] if is_edited else {}
-    names = sorted({name for it in edits for name in it.functions + it.proved})
-    flags = ["--jobs", "1", *(word for it in names for word in ("--only", it))]
-    with tempfile.TemporaryDirectory() as room:
-        if edits[0].below:
-            crate, texts = over_changed(edits[0], room), {}
-        ran = rt.checked(crate, texts, flags, kept)
-        return ran if ran.returncode >= 0 else rt.checked(crate, texts, flags, kept)
+    flags = ["--jobs", "1", *(word for it in sorted({*functions}) for word in ("--only", it))]
+    ran = rt.checked(crate, texts, flags, kept)
+    return ran if ran.returncode >= 0 else rt.checked(crate, texts, flags, kept)
 
 
 def attempt(edits, kept):
     """Tries edits in one check. Of several it answers for those alone that are refused. If none is, each has a check of
     its own next."""
-    ran = check(edits, kept)
-    lines, texts = ran.stdout.rstrip("\n").split("\n"), applied(edits)[0]
+    functions, texts = [name for it in edits for name in it.functions + it.proved], applied(edits)[0]
+    with tempfile.TemporaryDirectory() as room:
+        crate, changed = (over_changed(edits[0], room), {}) if edits[0].below else (edits[0].crate, texts)
+        ran = check(crate, functions, changed, kept)
+    lines = ran.stdout.rstrip("\n").split("\n")
     unread = [it for it in lines if rt.unread(it, texts)]
     for edit in edits:
         answer, why = edit.verdict(ran.stdout)
@@ -189,16 +183,18 @@ def attempt(edits, kept):
             answer, why = "BAD EDIT", f"it does not reach the prover: {' / '.join(unread or lines[:6])}"
         if answer == REFUSED or len(edits) == 1:
             edit.answer, edit.why = answer, why
-    for edit in edits:
-        edit.is_alone = edit.is_alone or not any(it.answer for it in edits)
+    if not any(it.answer for it in edits):
+        for edit in edits:
+            edit.is_alone = True
 
 
 def try_all(edits):
     """Tries edits of a crate until each has its answer, or no check may begin."""
     crate, checks = edits[0].crate, 0
     with tempfile.TemporaryDirectory() as kept, contextlib.suppress(TimeoutError):
+        own = [name for it in edits for name in it.functions]
         # (a library that was built is proved)
-        if not os.path.isdir(crate.rlib) and (ran := check(edits, kept, is_edited=False)).returncode:
+        if not os.path.isdir(crate.rlib) and (ran := check(crate, own, {}, kept)).returncode:
             print(f"must-fail {crate.name}: NOT PROVED without an edit:\n{ran.stdout[-3000:]}", flush=True)
             for it in edits:
                 it.answer, it.why = "NOT TRIED", "its crate is not proved"
@@ -225,9 +221,8 @@ def main(root, words):
     of_crates, of_edits = {*given.names} & {*crates}, {*given.names} - {*crates}
     if unknown := {*os.listdir("must-fail")} - {*crates} | of_edits - {it.name for it in edits}:
         sys.exit(f"no crate or edit: {' '.join(sorted(unknown))}")
-    chosen = [it for it in edits if (it.is_in_gate or not given.gate) and not it.answer]
-    chosen = [it for it in chosen if it.crate.name in of_crates or not of_crates]
-    chosen = [it for it in chosen if it.name in of_edits or not of_edits]
+    chosen = [it for it in edits if not it.answer and (it.is_in_gate or not given.gate)]
+    chosen = [it for it in chosen if it.crate.name in (of_crates or crates) and it.name in (of_edits or [it.name])]
     needed = [library for it in chosen for library in [*it.crate.below(), it.crate] if not library.is_program]
     if not given.built and any(it.build_rlib([], anew=False) for it in dict.fromkeys(needed)):
         sys.exit("a library is not proved")
@@ -237,7 +232,7 @@ def main(root, words):
     lanes = os.environ.get("RT_JOBS") or max(1, min(rt.processors(), rt.free() // 4_500_000_000))
     with ThreadPoolExecutor(int(lanes)) as pool:
         # (those that take the most checks come first)
-        of_each = [[*its] for _, its in itertools.groupby(chosen, key=lambda it: it.crate)]
+        of_each = filter(None, ([it for it in chosen if it.crate is crate] for crate in crates.values()))
         list(pool.map(try_all, sorted(of_each, key=lambda it: -len(groups_of(it)))))
     number = collections.Counter(it.answer for it in edits)
     refused, late, looked_at = number[REFUSED], number[LATE], number[""]

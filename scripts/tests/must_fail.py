@@ -52,8 +52,8 @@ CASES = {
     "cut off": (ONE, {2: CUT_OFF}, OF_ONE, "one/one/one"),
     "cut off twice": (ONE, {2: CUT_OFF, 3: CUT_OFF}, {"one": "BAD EDIT"}, "one/one/one"),
     "not proved without": (ONE, {1: said(one="no proof")}, {"one": "NOT TRIED"}, "one"),
-    "a law": (LAW, {2: said(one="proved", two="no proof")}, OF_ONE, "one two/one two"),
-    "a law of a body that is not proved": (LAW, {}, {"one": "BAD EDIT"}, "one two/one two"),
+    "a law": (LAW, {2: said(one="proved", two="no proof")}, OF_ONE, "two/one two"),
+    "a law of a body that is not proved": (LAW, {}, {"one": "BAD EDIT"}, "two/one two"),
 }
 
 
