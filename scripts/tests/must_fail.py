@@ -13,10 +13,9 @@ from unittest import mock
 sys.path.insert(0, str(Path(__file__).resolve().parent.parent))
 import must_fail
 
-BODY = "pub fn {0}(x: usize) -> usize{1}\n{{\n    let of_{0} = x;\n    of_{0}\n}}\n"
-CLAUSE = "\n    ensures { result ≡ x }"
+BODY = "pub fn {0}(x: usize) -> usize\n    ensures {{ result ≡ {1} }}\n{{\n    let of_{0} = x;\n    of_{0}\n}}\n"
 LIBRARY = "#![tactic(auto)]\nghost use Rattle.std.specs.Prelude.{◌≡◌};\n"
-LIBRARY += BODY.format("one", CLAUSE) + BODY.format("two", CLAUSE) + BODY.format("any", "")
+LIBRARY += BODY.format("one", "x") + BODY.format("two", "x") + BODY.format("any", "result")
 EDIT = "edit: {0}\nfunction: {0}\nfile: src/lib.rt\nold:     of_{0}\nnew:     0\n"
 ONE, TWO, ANY, GONE = map(EDIT.format, ("one", "two", "any", "gone"))
 LAW = ONE.replace("function: one", "function: two\nproved: one")
@@ -37,8 +36,7 @@ CASES = {
     "refused": (ONE, {}, OF_ONE, "one/one"),
     "not refused": (ANY, {}, {"any": "NOT REFUSED"}, "any/any"),
     "bad": (GONE, {}, {"gone": "BAD EDIT"}, ""),
-    "a line that is not read": (f"{ONE}functions: two\n", {}, {"one": "BAD EDIT"}, ""),
-    "no function": (ONE.replace("function: one\n", ""), {}, {"one": "BAD EDIT"}, ""),
+    "no function, but a line that is not read": (ONE.replace("function", "functions"), {}, {"one": "BAD EDIT"}, ""),
     "a name twice": (ONE + ONE, {}, {"one": "BAD EDIT"}, ""),
     "unread": (ONE, {2: UNREAD}, {"one": "BAD EDIT"}, "one/one"),
     "two in one check": (ONE + TWO, {}, OF_BOTH, "one two/one two"),
@@ -60,14 +58,13 @@ CASES = {
 class Tests(unittest.TestCase):
     def outcome(self, edits, says=None):
         """What the script answers of each edit of a small library, and its last line. The prover is the kit's, or a
-        stand-in, which says what is given for a check of this number, or refuses each changed function but `any`."""
+        stand-in, which says what is given for a check of this number, or refuses each changed function, but `any`."""
         self.checks, printed = [], io.StringIO()
 
         def checked(_crate, texts, flags, _kept):
             functions, text = flags[3::2], texts.get("src/lib.rt", LIBRARY)
             self.checks.append(" ".join(functions))
-            changed = [it for it in functions if BODY.format(it, CLAUSE) not in text and it != "any"]
-            verdicts = {it: "no proof" if it in changed else "proved" for it in functions}
+            verdicts = {it: "proved" if it == "any" or BODY.format(it, "x") in text else "no proof" for it in functions}
             return says.get(len(self.checks)) or said(**verdicts)
 
         prover = mock.patch.object(must_fail.rt, "checked", must_fail.rt.checked if says is None else checked)
