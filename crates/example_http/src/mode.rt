@@ -31,7 +31,7 @@ pub enum Connections {
     /// One over standard input and output.
     Standard,
     /// So many in memory, of which one read or write may fail.
-    Crowd { connections: u64, fault: u64 },
+    Crowd { connections: u32, fault: u32 },
 }
 
 impl Mode {
@@ -48,10 +48,13 @@ impl Mode {
     }
 }
 
-fn number(word: Option<String>) -> u64 {
-    match word {
-        Some(word) => word.as_str().parse().ok().unwrap_or(0),
-        None => 0,
+fn number(word: Option<String>) -> u32 {
+    let Some(word) = word else {
+        return 0;
+    };
+    match word.as_str().parse() {
+        Ok(number) => number,
+        Err(_) => 0,
     }
 }
 
@@ -88,6 +91,7 @@ where
         }
         Connections::Crowd { connections, fault } => {
             let host = OneStack::new(stack);
+            let (connections, fault) = (u64::from(connections), u64::from(fault));
             crowds::<R, Q, T, Talk<T, S>, OneStack<S>>(rt, tasks, &host, connections, fault)
         }
     }
