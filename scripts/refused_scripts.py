@@ -23,7 +23,7 @@ import replay
 # What a program makes only once the first parts are there, by a word of the first line: a second service, the service
 # of a policy with a budget, a stream of calls.
 LATER = {"two": "t", "get_mut": "t", "retry_budget": "s", "buffer_beside_a_stream": "requests"}
-# What else leads to the state after a refusal, by the row: a share alone was asked for; an executor had no room.
+# What else leads to the state after a refusal, by how the row begins: a share alone was asked for; an executor had no room.
 INSTEAD = {"semaphore": ["share"], "spawn_ready": ["room 0", "{}", "room 255"]}
 OVER = "the script is over"
 WOKEN = re.compile("(; )?woken$")
@@ -63,7 +63,8 @@ def is_as_without(program, base, came, place):
     asked, line, notes = asked_of(base), came[place], notes_of(came[place].notes)
     same = len(os.path.commonprefix([notes_of(base[place].notes), notes]))
     is_cut = all(map(dropped_by, notes[same:])) and not any(balance([line]).values())
-    others = [[], [it.format(asked[place]) for it in INSTEAD.get(re.match(r"\w+", asked[0])[0], [])]]
+    instead = [it for row, lines in INSTEAD.items() if asked[0].startswith(row) for it in lines]
+    others = [[], [it.format(asked[place]) for it in instead]]
     wanted = told([*came[:place], *came[place + 1 :]])
     for other, lines in zip(others, play(program, [[*asked[:place], *it, *asked[place + 1 :]] for it in others])):
         is_here = is_cut and "out of memory" in line.answer or line in lines[place : place + len(other)]
