@@ -139,4 +139,6 @@ def flights(folder):
 
 if __name__ == "__main__":
     parts = {"counts": counts, "memory": memory, "threads": threads, "growth": growth, "flights": flights}
+    if not {*parts} & {*sys.argv[1:2]}:
+        sys.exit(__doc__)
     sys.exit(parts[sys.argv[1]](*sys.argv[2:]))
