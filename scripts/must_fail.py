@@ -1,247 +1,188 @@
 #!/usr/bin/env python3
 """scripts/must_fail.py [--built] [--gate] [CRATE ..] [EDIT ..]: the prover has to refuse each wrong body. Without it
-nothing would say that a contract still tells a right body from a wrong one. (The kit's `rt must-fail` proves a whole
-crate for each edit.)
+nothing would say that a contract tells right bodies from wrong ones. (`rt must-fail` proves a whole crate for each.)
 
-The wrong bodies are edits of the code. A file `must-fail/CRATE/MODULE.edits` has several, each of which begins with a
-line `edit: NAME`; a file `crates/CRATE/must-fail/NAME.edit`, the kit's own form, has one, without that line. Lines
-`file:`, `old:` and `new:` say what changes, as `rt must-fail` reads them. Each function that changes has a line
-`function: PATH`, with its name as a check prints it, and one of them has to be refused.
+A wrong body is an edit of the code. `must-fail/CRATE/MODULE.edits` has several, each under a line `edit: NAME`, and
+`crates/CRATE/must-fail/NAME.edit`, the kit's own form, has one, without that line. Lines `file:`, `old:` and `new:` say
+what changes, as `rt must-fail` reads them. A line `function: PATH` names each function that changes, as a check prints
+it, and one of these has to be refused.
 
-Up to 24 edits are tried in one check: a function is proved from the contracts of those that it calls, and so a wrong
-body fails its own function alone. An edit counts as refused only if its function isn't proved, and calls none that
-isn't. If it calls such a one, the edit is tried again in another check. An edit that changes more than bodies (a bound,
-a constant, a signature) is marked `edit: NAME alone`, and has a check of its own.
+Up to 24 edits share a check: a function is proved from the contracts of those that it calls, and so a wrong body fails
+its own function alone. An edit counts as refused only if its function isn't proved, and calls none that isn't. If it
+calls such a one, the edit is tried again in another check. An edit that changes more than bodies (a bound, a constant,
+a signature) is marked `edit: NAME alone`, and has a check of its own.
 
 An edit of a law changes a machine and the body alike. Its `function:` is the law. A line `proved: PATH` names what has
 to be proved with the edit, and `crate: NAME` the library whose files change, if it isn't the law's own crate.
 
 All edits are tried, or those of the crates that are named, or those alone that are named after them; with --gate those
-of them that are marked `edit: NAME gate` or stand in `crates/`. Of each other edit it is seen that it can be applied:
-its old text stands there once. With --built the libraries are taken as `rt ci` left them, and else proved first. No
-check begins after MUST_FAIL_UNTIL, a moment in seconds since 1970, if the environment has it: so a gate on a slow
-machine ends in its time. What is left then is named.
+of them that are marked `edit: NAME gate` or stand in `crates/`. Of each other edit it is seen that its old text stands
+there once. With --built the crates are taken as `rt ci` left them, and else proved first. No check begins after
+MUST_FAIL_UNTIL, in seconds since 1970: so a gate on a slow machine ends in its time, and names what is left.
 
-The last line is `N refused, M not`, or `N refused, M not, K untried`. The status is 1 if M isn't 0.
+The last line is `N refused, M not, K untried`. The status is 1 if M isn't 0.
 """
-import argparse
-import collections
-import contextlib
 import functools
 import os
 import re
 import runpy
 import shutil
+import subprocess
 import sys
 import tempfile
 import time
 import types
+from collections import Counter
 from concurrent.futures import ThreadPoolExecutor
 from pathlib import Path
 
 AT_ONCE = 24
-WORDS = ("file", "old", "new", "function", "proved", "crate")
-REFUSED, LATE = "refused", "OUT OF TIME"
-
-# The kit's `rt`, for crates of this folder.
+LINE = re.compile(r"^(edit: \w+( gate| alone)*$|(file|old|new|function|proved|crate):.*)", re.M)
 rt = types.SimpleNamespace(**runpy.run_path(os.path.realpath(shutil.which("rt"))))
-rt.rtlib.Crate = rt.Crate
-# (its first call sets a signal's handler, which only the main thread may)
-rt.rtlib.guarded()
-
-
-def crates_of(root):
-    rt.Crate.allowed = rt.handles_of(root)
-    return {it.name: it for it in rt.rtlib.crates_below(root)}
+rt.rtlib.guarded()  # its first call sets a signal's handler, which only the main thread may
 
 
 class Edit:
-    """A wrong body. What came of it are its answer, which is empty as long as nothing is known, and the reason."""
+    """A wrong body. Its answer is empty as long as nothing is known."""
 
-    def __init__(self, crate, heading, text):
-        self.crate, self.text, self.answer, self.why = crate, text, "", ""
-        lines = [it.partition(":")[::2] for it in text.split("\n") if it.strip()]
-        told = {word: [it.strip() for first, it in lines if first == word] for word in WORDS}
-        self.functions, self.proved, self.below = told["function"], told["proved"], "".join(told["crate"])
-        self.folder = Path(crate.folder).with_name(self.below or crate.name)
-        self.name, *marks = heading.split() or [""]
+    def __init__(self, crate, text):
+        self.crate, self.text, self.answer = crate, text, ""
+        self.name, marks = re.match(r"(?:edit: (\w+))?(.*)", text).groups("")
+        found = [re.findall(rf"^{word}: *(\S+)", text, re.M) for word in ("function", "proved", "crate")]
+        self.functions, self.proved, self.below = *found[:2], "".join(found[2])
         self.is_in_gate, self.is_alone = "gate" in marks, "alone" in marks or bool(self.proved or self.below)
-        odd = [f"a line that isn't read: {word}:{it}" for word, it in lines if word not in WORDS]
-        if {*marks} - {"gate", "alone"} or not re.fullmatch(r"\w+", self.name):
-            odd.append(f"`edit: {heading}` has no name, or another mark than `gate` and `alone`")
-        odd += [] if self.functions else ["no line `function:` names what has to be refused"]
-        self.is_bad(odd[0] if odd else applied([self])[1])
+        lacks = "" if self.name and self.functions else "it has no line `edit:` or `function:`"
+        if why := LINE.sub("", text).strip() or lacks or applied([self])[1]:
+            self.answers(f"BAD EDIT: {why}")
 
-    def __str__(self):
-        return f"must-fail {self.crate.name}/{self.name}: {self.answer}: {self.why[:200]}"
-
-    def is_bad(self, why):
-        if why:
-            self.answer, self.why = "BAD EDIT", why
+    def answers(self, answer):
+        self.answer = answer
+        print(f"must-fail {self.crate.name}/{self.name}: {answer[:220]}".replace("\n", " / "), flush=True)
 
     def owns(self, printed):
-        """Whether a name that a check prints is of a function of this edit, or of a closure in one, which is printed
-        `MODULE::fn::FUNCTION::CLOSURE`."""
+        """Whether a check prints so a function of this edit, or a closure in one (`MODULE::fn::FUNCTION::CLOSURE`)."""
         name = re.sub(r"(^|::)fn::", r"\1", printed.removeprefix(f"{self.crate.name}::"))
         return any(name == it or name.startswith((f"{it}::", f"{it}+")) for it in self.functions)
 
     def verdict(self, output):
-        """What a check that came to its end says of this edit, if no other shares it, and why."""
+        """The answer by a check that came to its end, if no other edit shares it."""
         told = re.findall(r"^fn (\S+): (.*)$", output, re.M)
-        others = [what for name, what in told if not self.owns(name)]
-        if self.proved and {*others} != {"proved"}:
-            return "BAD EDIT", f"what it changes is not proved: {others}"
-        own = [(name, what) for name, what in told if self.owns(name)]
-        for name, what in own:
+        others = {what for name, what in told if not self.owns(name)}
+        if self.proved and others != {"proved"}:
+            return f"BAD EDIT: what it changes is not proved: {others}"
+        for name, what in told:
             called = re.findall(r"`([^`]*)`", what.partition("it calls ")[2])
             is_refused = what.startswith(("not proved", "no proof")) and "could not tell" not in what
-            if is_refused and all(map(self.owns, called)):
-                return REFUSED, f"{name}: {what}"
-        return "NOT REFUSED", "; ".join(f"{name}: {what}" for name, what in own)
+            if is_refused and all(map(self.owns, [name, *called])):
+                return f"refused: {name}: {what}"
+        return f"NOT REFUSED: {[it for it in told if self.owns(it[0])]}"
 
 
 def edits_of(crate):
     """The edits of a crate: those of `must-fail/`, and those that the crate itself has, which stand in the gate."""
-    texts = [it.read_text(encoding="utf-8") for it in sorted(Path("must-fail", crate.name).glob("*"))]
-    own = sorted(Path("crates", crate.name, "must-fail").glob("*"))
-    texts += [f"edit: {it.stem} gate\n{it.read_text(encoding='utf-8')}" for it in own]
-    parts = [part for text in texts for part in re.split(r"^edit: *", text, flags=re.M) if part.strip()]
-    found = [Edit(crate, *part.partition("\n")[::2]) for part in parts]
-    number = collections.Counter(it.name for it in found)
-    for it in found:
-        it.is_bad(number[it.name] > 1 and "another edit has its name")
-    return found
+    text = "\n".join(it.read_text(encoding="utf-8") for it in sorted(Path("must-fail", crate.name).glob("*")))
+    for path in sorted(Path("crates", crate.name, "must-fail").glob("*")):
+        text += f"\nedit: {path.stem} gate\n{path.read_text(encoding='utf-8')}"
+    edits = [Edit(crate, it) for it in re.split(r"^(?=edit:)", text, flags=re.M) if it.strip()]
+    number = Counter(it.name for it in edits)
+    for it in edits:
+        if number[it.name] > 1:
+            it.answers("BAD EDIT: another edit has its name")
+    return edits
 
 
 def applied(edits):
     """The texts of the files that these edits change, or None and the reason, if an old text isn't there once."""
-    return rt.edited("\n".join(it.text for it in edits), edits[0].folder)
+    return rt.edited("\n".join(it.text for it in edits), f"crates/{edits[0].below or edits[0].crate.name}")
 
 
-def go_together(edits):
-    """Whether these edits may share a check: no two of them change one function or one line."""
-    functions = [name for it in edits for name in it.functions]
-    is_fit = len(edits) <= AT_ONCE and len({*functions}) == len(functions) and not any(it.is_alone for it in edits)
-    return is_fit and applied(edits)[0] is not None
+def group_of(edits):
+    """Those of the edits that are tried next, in one check: no two of them change one function or one line. Those of
+    functions with many edits come first, so that there are few checks."""
+    number, group = Counter(name for it in edits for name in it.functions), []
+    for edit in sorted(edits, key=lambda it: -max(map(number.get, it.functions))):
+        more = [*group, edit]
+        functions = [name for it in more for name in it.functions]
+        is_fit = len(more) <= AT_ONCE and len({*functions}) == len(functions) and not any(it.is_alone for it in more)
+        if not group or is_fit and applied(more)[0]:
+            group = more
+    return group
 
 
-def groups_of(edits):
-    """Edits that are tried together. Those of functions with many edits come first, so that there are few groups."""
-    number = collections.Counter(name for it in edits for name in it.functions)
-    groups = []
-    for edit in sorted(edits, key=lambda it: -max(number[name] for name in it.functions)):
-        group = next((it for it in groups if go_together([*it, edit])), None)
-        if group is None:
-            groups.append(group := [])
-        group.append(edit)
-    return groups
-
-
-def over_changed(edit, room):
-    """The edit's crate over the library below that it changes, of which a copy is made in the room. That library and
-    those above it are read as texts, the others as they were built."""
-    crate = rt.Crate(edit.crate.folder, os.getcwd(), {})
+def over_changed(edit, texts, room):
+    """The edit's crate over the library below that it changes, of which a copy with these texts is made in the room.
+    That library and those above it are read as texts, the others as they were built."""
+    crate, words = rt.rtlib.Crate(edit.crate.folder, os.getcwd(), {}), []
     changed = next(it for it in crate.below() if it.name == edit.below)
-    for part in rt.rtlib.PARTS:
-        shutil.copytree(f"{changed.folder}/{part}", f"{room}/{part}")
-    for path, text in applied([edit])[0].items():
+    shutil.copytree(changed.folder, room, ignore=shutil.ignore_patterns("out"), dirs_exist_ok=True)
+    for path, text in texts.items():
         Path(room, path).write_text(text, encoding="utf-8")
     changed.folder = room
-    texts = crate.sources_below()[1::2]
-
-    def sources_below():
-        for it, text in zip(crate.below(), texts):
-            yield from ("--lib", text) if changed in (it, *it.below()) else ("--extern", f"{it.name}={it.rlib}")
-
-    crate.sources_below = sources_below
-    crate.words = functools.partial(crate.words, as_source=True)
+    for it, source in zip(crate.below(), crate.sources_below()[1::2]):
+        words += ["--lib", source] if changed in (it, *it.below()) else ["--extern", f"{it.name}={it.rlib}"]
+    crate.sources_below, crate.words = lambda: words, functools.partial(crate.words, as_source=True)
     return crate
 
 
-def check(crate, functions, texts, kept):
-    """Checks these functions with these texts in place of the crate's own, over what the checks before kept. One that a
-    signal ended, as where memory runs out, is made once more. Raises TimeoutError once no check may begin."""
-    if time.time() > float(os.environ.get("MUST_FAIL_UNTIL", "inf")):
-        raise TimeoutError
-    flags = ["--jobs", "1", *(word for it in sorted({*functions}) for word in ("--only", it))]
-    ran = rt.checked(crate, texts, flags, kept)
-    return ran if ran.returncode >= 0 else rt.checked(crate, texts, flags, kept)
-
-
 def attempt(edits, kept):
-    """Tries edits in one check. Of several it answers for those alone that are refused. If none is, each has a check of
-    its own next."""
-    functions, texts = [name for it in edits for name in it.functions + it.proved], applied(edits)[0]
+    """Tries edits in one check, which is made once more if a signal ends it, as where memory runs out. Of several edits
+    it answers for those alone that are refused. If none is, each has a check of its own next."""
+    texts, names = applied(edits)[0], [name for it in edits for name in it.functions + it.proved]
+    flags = ["--jobs", "1", *(word for name in names for word in ("--only", name))]
     with tempfile.TemporaryDirectory() as room:
-        crate, changed = (over_changed(edits[0], room), {}) if edits[0].below else (edits[0].crate, texts)
-        ran = check(crate, functions, changed, kept)
+        crate, changed = (over_changed(edits[0], texts, room), {}) if edits[0].below else (edits[0].crate, texts)
+        ran = rt.checked(crate, changed, flags, kept)
+        ran = ran if ran.returncode >= 0 else rt.checked(crate, changed, flags, kept)
     lines = ran.stdout.rstrip("\n").split("\n")
-    unread = [it for it in lines if rt.unread(it, texts)]
-    for edit in edits:
-        answer, why = edit.verdict(ran.stdout)
-        if unread or not lines[-1].startswith("only="):
-            answer, why = "BAD EDIT", f"it does not reach the prover: {' / '.join(unread or lines[:6])}"
-        if answer == REFUSED or len(edits) == 1:
-            edit.answer, edit.why = answer, why
+    unread = [it for it in lines if rt.unread(it, texts)] or lines[: 0 if lines[-1].startswith("only=") else 6]
+    for it in edits:
+        answer = f"BAD EDIT: it does not reach the prover: {' / '.join(unread)}" if unread else it.verdict(ran.stdout)
+        if answer.startswith("refused") or len(edits) == 1:
+            it.answers(answer)
     if not any(it.answer for it in edits):
-        for edit in edits:
-            edit.is_alone = True
+        for it in edits:
+            it.is_alone = True
 
 
 def try_all(edits):
     """Tries edits of a crate until each has its answer, or no check may begin."""
-    crate, checks = edits[0].crate, 0
-    with tempfile.TemporaryDirectory() as kept, contextlib.suppress(TimeoutError):
-        own = [name for it in edits for name in it.functions]
-        # (a library that was built is proved)
-        if not os.path.isdir(crate.rlib) and (ran := check(crate, own, {}, kept)).returncode:
-            print(f"must-fail {crate.name}: NOT PROVED without an edit:\n{ran.stdout[-3000:]}", flush=True)
-            for it in edits:
-                it.answer, it.why = "NOT TRIED", "its crate is not proved"
-        while left := [it for it in edits if not it.answer]:
-            for group in groups_of(left):
-                attempt(group, kept)
-                checks += 1
-    for it in edits:
-        it.answer = it.answer or LATE
-        print(it)
-    print(f"must-fail {crate.name}: {len(edits)} edits in {checks} checks", flush=True)
+    checks, until = 0, float(os.environ.get("MUST_FAIL_UNTIL", "inf"))
+    with tempfile.TemporaryDirectory() as kept:
+        while time.time() < until and (left := [it for it in edits if not it.answer]):
+            attempt(group_of(left), kept)
+            checks += 1
+    print(f"must-fail {edits[0].crate.name}: {len(edits)} edits in {checks} checks", flush=True)
+
+
+def is_proved(crate, is_built):
+    """Whether the crate is proved without an edit, by what `rt ci` left, or by a check."""
+    if is_built:
+        return os.path.exists(f"{crate.folder}/out/{crate.name}" if crate.is_program else crate.rlib)
+    return not subprocess.run(["rt", "check"], cwd=crate.folder, check=False).returncode
 
 
 def main(root, words):
-    parser = argparse.ArgumentParser(description=__doc__, formatter_class=argparse.RawDescriptionHelpFormatter)
-    parser.add_argument("--built", action="store_true")
-    parser.add_argument("--gate", action="store_true")
-    parser.add_argument("names", nargs="*", metavar="CRATE or EDIT")
-    given = parser.parse_intermixed_args(words)
     os.chdir(root)
-    os.environ.pop(rt.rtlib.ALLOW_C, None)
-    crates = crates_of(os.getcwd())
+    crates = {it.name: it for it in rt.rtlib.crates_below(os.getcwd())}
     edits = [edit for name in sorted(crates) for edit in edits_of(crates[name])]
-    of_crates, of_edits = {*given.names} & {*crates}, {*given.names} - {*crates}
+    options, of_crates = {*words} & {"--built", "--gate"}, {*words} & {*crates}
+    of_edits = {*words} - options - of_crates
     if unknown := {*os.listdir("must-fail")} - {*crates} | of_edits - {it.name for it in edits}:
-        sys.exit(f"no crate or edit: {' '.join(sorted(unknown))}")
-    chosen = [it for it in edits if not it.answer and (it.is_in_gate or not given.gate)]
+        sys.exit(f"{__doc__}\nno crate or edit: {' '.join(sorted(unknown))}")
+    chosen = [it for it in edits if not it.answer and (it.is_in_gate or "--gate" not in options)]
     chosen = [it for it in chosen if it.crate.name in (of_crates or crates) and it.name in (of_edits or [it.name])]
-    needed = [library for it in chosen for library in [*it.crate.below(), it.crate] if not library.is_program]
-    if not given.built and any(it.build_rlib([], anew=False) for it in dict.fromkeys(needed)):
-        sys.exit("a library is not proved")
-    for it in edits:
-        if it.answer:
-            print(it, flush=True)
+    unproved = [it for it in {it.crate for it in chosen} if not is_proved(it, "--built" in options)]
+    for it in (it for it in chosen if it.crate in unproved):
+        it.answers("NOT TRIED: its crate is not proved without it")
+    of_each = [[it for it in chosen if it.crate is crate] for crate in crates.values()]
     lanes = os.environ.get("RT_JOBS") or max(1, min(rt.processors(), rt.free() // 4_500_000_000))
     with ThreadPoolExecutor(int(lanes)) as pool:
-        # (those that take the most checks come first)
-        of_each = filter(None, ([it for it in chosen if it.crate is crate] for crate in crates.values()))
-        list(pool.map(try_all, sorted(of_each, key=lambda it: -len(groups_of(it)))))
-    number = collections.Counter(it.answer for it in edits)
-    refused, late, looked_at = number[REFUSED], number[LATE], number[""]
-    failed = len(edits) - refused - late - looked_at
-    if looked_at:
-        print(looked_at, "edits were not tried: the old text of each stands there once")
-    if late:
-        print(late, "edits were not tried for want of time")
-    print(f"{refused} refused, {failed} not" + (f", {late + looked_at} untried" if late + looked_at else ""))
+        list(pool.map(try_all, sorted(filter(None, of_each), key=len, reverse=True)))
+    if late := [it.name for it in chosen if not it.answer]:
+        print(f"{len(late)} edits were not tried for want of time: {' '.join(late)}")
+    number = Counter(it.answer.partition(":")[0] for it in edits)
+    failed = len(edits) - number["refused"] - number[""]
+    print(f"{number['refused']} refused, {failed} not, {number['']} untried")
     return failed > 0
 
 

@@ -4,8 +4,8 @@ Without it `scripts/vendor --built` would have them proved once more for each te
 import sys
 from pathlib import Path
 
-from must_fail import crates_of
+from must_fail import rt
 
-for crate in crates_of(str(Path(sys.argv[1]).resolve())).values():
+for crate in rt.rtlib.crates_below(str(Path(sys.argv[1]).resolve())):
     if Path(crate.rlib).is_dir():
         Path(crate.folder, "out/rlib/stamp").write_text(crate.stamp(), encoding="utf-8")
