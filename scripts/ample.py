@@ -10,26 +10,22 @@ from common import TOP
 # What only the library itself calls (a letter is a type parameter), and what a test calls by another name.
 PRIVATE = "Waiters|Cells|Held|Slots|Bag|Line|Spare|Tally|Mailbox|[A-Z]"
 CALLED = {"drive_with_state": "drive", "LayerFn::layer": "layer_fn", "WaitQueue::wait": "ample_joins"}
-IMPL = re.compile(r"^impl\b(?:[^{]*( for )|<[^{]*?(?<!-)>\s)?\s*(?:\w+::)*(\w+)", re.M)
+IMPL = re.compile(r"^impl\b(?:[^{]*( for )|<[^{]*?(?<!-)>\s)?\s*(?:\w+::)*(\w+)|\Z", re.M)
 CALL = re.compile(r"^ *(pub )?fn (\w+)(.*?)(?:(?:[{;]|\{\})$|^ *(?:where|requires|ensures)\b)", re.M | re.S)
-
-
-def texts(*patterns):
-    return [path.read_text(encoding="utf-8") for pattern in patterns for path in sorted((TOP / "crates").glob(pattern))]
-
-
-libraries = re.findall(r"^tower(?!_run|_bench|_laws|_hyper|_refusal)\w*", (TOP / "crates.txt").read_text(), re.M)
+LIBRARIES = re.findall(r"^tower(?!_run|_bench|_laws|_hyper|_refusal)\w*", (TOP / "crates.txt").read_text(), re.M)
+crates = TOP / "crates"
+sources = [file.read_text(encoding="utf-8") for it in LIBRARIES for file in crates.glob(f"{it}/src/**/*.rt")]
+tests = [file.read_text(encoding="utf-8") for it in ("tests_*", "uses") for file in crates.glob(f"{it}/src/**/*.rt")]
+scripts = [file.read_text(encoding="utf-8") for file in crates.glob("*/data/**/*.script")]
 calls = []
-for block in "\n}\n".join(texts(*(f"{it}/src/**/*.rt" for it in libraries))).split("\n}\n"):
-    impl = IMPL.search(block)
-    of_trait, owner = impl.groups() if impl else (None, "")
+for block in "\n}\n".join(sources).split("\n}\n"):
+    of_trait, owner = IMPL.search(block).groups("")
     for is_public, name, result in CALL.findall(block):
         if (is_public or of_trait) and not re.fullmatch(PRIVATE, owner):
             calls.append((f"{owner}::{name}".removeprefix("::"), "AllocError" in result.rpartition("->")[2]))
 wanted = {call for call, may_lack in calls if may_lack}
-marks = {*" ".join(re.findall("(?m)^# ample: (.*)$", "\n".join(texts("*/data/**/*.script")))).split()}
+marks = {*" ".join(re.findall("^# ample: (.*)$", "\n".join(scripts), re.M)).split()}
 wrong = [f"a script marks {it}, which isn't there" for it in marks - {*dict(calls)}]
-tests = texts("tests_*/src/**/*.rt", "uses/src/**/*.rt")
 for call in wanted - marks:
     owner, _, name = CALLED.get(call, call).rpartition("::")
     if not any(re.search(rf"\b{name}(::<[^;]*?>)?\(", it) and re.search(rf"\b{owner}\b", it) for it in tests):
