@@ -12,7 +12,7 @@ from socket import SHUT_RDWR, SHUT_WR, create_connection, create_server
 
 from common import program_of
 
-WAIT = 20  # seconds: of each read, and of a program's end
+WAIT = 20  # seconds, of each read
 ONE_BY_ONE = (  # over one connection. A list is sent in chunks, and no page at /square needs a body
     ("/square/12", 200, "144"), ("/slow/20", 200, "at last"), ("/length", 200, "5", b"12345"),
     ("/nowhere", 404, "no such page"), ("/length", 200, "300000", b"x" * 300000), ("/slow/5000", 504, "too slow"),
@@ -30,12 +30,14 @@ TEXTS = (  # what is sent, which sides its client shuts then, and the statuses t
     (GET % b"/slow/300", SHUT_RDWR, b""), (b"GET /squ", SHUT_RDWR, b""),
     (b"POST /length HTTP/1.1\r\nhost: h\r\ncontent-length: 9\r\n\r\nabc", SHUT_RDWR, b""),
 )
+LISTENER, STARTED = create_server(("127.0.0.1", 0), backlog=64), []
 
 
-def accept(listener, program, started):
-    for _ in range(1000):
-        with listener.accept()[0] as it:
-            started.append(subprocess.Popen([program], stdin=it, stdout=it, stderr=subprocess.DEVNULL))
+def accept():
+    command = ["timeout", "60", program_of("example_http")]  # (so each ends)
+    while True:
+        with LISTENER.accept()[0] as it:
+            STARTED.append(subprocess.Popen(command, stdin=it, stdout=it, stderr=subprocess.DEVNULL))
 
 
 def answer(client, path, body=None, **headers):
@@ -44,37 +46,27 @@ def answer(client, path, body=None, **headers):
     return response.status, response.read().decode()
 
 
-def check(address):
-    client = HTTPConnection(*address, WAIT)
+threading.Thread(target=accept, daemon=True).start()
+connect = lambda: HTTPConnection(*LISTENER.getsockname(), WAIT)
+with contextlib.closing(connect()) as client:
     for path, status, told, *body in ONE_BY_ONE:
         began = time.monotonic()
         assert answer(client, path, *body) == (status, f"{told}\n"), path
         assert status != 504 or 0.5 <= time.monotonic() - began < 4
         client.auto_open = False
-    client.close()
-    for text, sides, statuses in TEXTS:
-        with create_connection(address, WAIT) as it:
-            it.sendall(text)
-            if sides:
-                it.shutdown(sides)
-            came = it.makefile("rb").read(10_000)
-        assert [it[:3] for it in came.split(b"HTTP/1.1 ")] == [b"", *statuses.split()], (text, came)
-    for path in ("/length", "/nowhere"):
-        with contextlib.suppress(OSError):  # a body longer than what the program reads: its client may be reset
-            assert answer(HTTPConnection(*address, WAIT), path, b"x" * 1_100_000)[0] == 413, path
-    alone = lambda path: answer(HTTPConnection(*address, WAIT), path, connection="close")
-    assert [alone(f"/square/{side}") for side in range(200)] == [(200, f"{side * side}\n") for side in range(200)]
-    with ThreadPoolExecutor(20) as at_once:
-        assert list(at_once.map(alone, ["/slow/300"] * 20)) == [(200, "at last\n")] * 20
-
-
-if __name__ == "__main__":
-    started, listener = [], create_server(("127.0.0.1", 0), backlog=64)
-    threading.Thread(target=accept, args=(listener, program_of("example_http"), started), daemon=True).start()
-    try:
-        check(listener.getsockname())
-        assert {it.wait(WAIT) for it in started} <= {0, 1}  # each has ended
-    finally:
-        for it in started:
-            it.kill()
-    print(f"http client: {len(started)} connections, each answered as expected")
+for text, sides, statuses in TEXTS:
+    with create_connection(LISTENER.getsockname(), WAIT) as it:
+        it.sendall(text)
+        if sides:
+            it.shutdown(sides)
+        came = it.makefile("rb").read(10_000)
+    assert [it[:3] for it in came.split(b"HTTP/1.1 ")] == [b"", *statuses.split()], (text, came)
+for path in ("/length", "/nowhere"):
+    with contextlib.suppress(OSError):  # a body longer than what the program reads: its client may be reset
+        assert answer(connect(), path, b"x" * 1_100_000)[0] == 413, path
+alone = lambda path: answer(connect(), path, connection="close")
+assert [alone(f"/square/{side}") for side in range(200)] == [(200, f"{side * side}\n") for side in range(200)]
+with ThreadPoolExecutor(20) as at_once:
+    assert list(at_once.map(alone, ["/slow/300"] * 20)) == [(200, "at last\n")] * 20
+assert {it.wait() for it in STARTED} <= {0, 1}  # each has ended
+print(f"http client: {len(STARTED)} connections, each answered as expected")
