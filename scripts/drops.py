@@ -3,15 +3,14 @@
 and all of them at once. Without it a drop at another point than those of the scripts could lose a permit, a place or a
 message: no contract says what a drop does to others.
 
-At each point one thing is dropped, whichever there is, and the script goes on; or all handles and then all responses
-are dropped, or the other way round, and the script ends. In each run, by what was noted, each service, response, clone
-and share of a latch was dropped once, nothing else was, and RULES hold. The first run that isn't so is printed."""
-import itertools
+At each point one thing is dropped, and the script goes on; or all handles, all responses and all that else there is
+are dropped, in each order of these three, and the script ends. In each run, by what was noted, each service, response,
+clone and share of a latch was dropped once, nothing else was, and RULES hold, or the run is printed."""
 import re
 import sys
-from collections import Counter
+from itertools import chain, permutations
 
-from common import dropped_by, files_of, made_by, notes_of, play, scripts_of
+from common import balance, files_of, play, text_of
 
 # The scripts that are played, by their file and their first line. (After `into_inner` no handle is left.)
 PLAYED = (
@@ -30,13 +29,15 @@ RULES = (
     (r"\nload .*\nend", r"\nload => Count\(0\).*\nend"),
     # Each handle of a buffer parts. Each place is used or given back, and each wait gets its place or its error, or is
     # cancelled. The outcome of each message is told or forgotten, if it was sent to a worker. The worker goes once, and
-    # the mail is at its end.
+    # the mail is at its end. A handle that alone is left gets all places, unless the worker failed or is gone.
     (r"\Abuffer|\| Join", r"\| Part"),
     (r"\npoll.*=> ready.*\| (Reserve|Look \d)", r"\| (Send|Unreserve)"),
     (r"\npoll.*=> pending \| Reserve", r"\npoll.*=> (?!pending).*\| Look \d|\| Cancel"),
     (r"=> call (?=(?s:.*)\| WorkerGone)|=> pending \| Outcome \d+\n", r"\| (Outcome|Forget)"),
     (r"\Abuffer", r"\| WorkerGone"),
     (r"\Abuffer", r"\| mail at its end, 0 requests left\Z"),
+    (r"\A(?!(?s:.*)\| (Fail|WorkerGone).*\n)(?=(?s:.*)\ncall b 255 )",
+     r"\nwork .*(\npoll b => ready.*\ncall b 255 .*)+\npoll b => pending.*\nend"),
     # A slot is aborted once, and each task puts its service or its error back, is gone, or ends by an abort.
     (r"\Aspawn_ready", r"\| Abort\b"),
     (r"\| spawned", r"\| (Put|PutError|TaskGone)\b|=> ended(?!.*\| Put).*\| Aborted"),
@@ -52,9 +53,8 @@ def variants(before, after):
     others = [f"drop {it}" for it in OTHERS.get(name, [])]
     for drop in [*handles, *responses, *others]:
         yield [*asked, drop, *(it.asked for it in after)]
-    for order in itertools.permutations([handles, responses, others] if others else [handles, responses]):
-        if order[-1] is not others:
-            yield [*asked, *itertools.chain(*order), "end"]
+    for order in permutations(filter(None, [handles, responses, others])):
+        yield [*asked, *chain(*order), "end"]
     if name == "pending_requests":
         yield [*asked, *responses, "load", "end"]
     # The handle b is made first, so the others have the next letters. Once it alone is left, it sends a message for
@@ -67,39 +67,22 @@ def variants(before, after):
 
 
 def faults(run):
-    """What should be equal in a run and isn't."""
-    lines = [[f"{it.asked} => {it.answer}", *notes_of(it.notes)] for it in run]
-    text = "\n".join(map(" | ".join, lines))
-    notes = [note for line in lines for note in line[1:]]
-    # (an `unready` call makes no response by its note, so the drop of its response is one too much)
-    made, dropped = (Counter(filter(None, map(how, notes))) for how in (made_by, dropped_by))
+    """Which parts were not dropped as often as they were made or given, and which rules do not hold."""
+    text, parts = "\n".join(map(text_of, run)), balance(run)
+    # (An `unready` call makes no response by its note, so the drop of its response is one too much.)
     checks = text.count("=> call ") * (" checked" in text)
-    made.update(s=1, t=" get_mut" in text, c=checks, latch=not text.startswith("buffer"))
-    pairs = [(f"{it} made and dropped", made[it], dropped[it]) for it in made | dropped]
-    pairs += [(rule, *(len(re.findall(it, text)) for it in rule)) for rule in RULES]
-    places = text.count("\ncall b 255 ")
-    # (a worker that failed or is gone gives no places)
-    if places and not re.search(r"\| (Fail|WorkerGone).*\n", text):
-        polls = re.findall(r"\npoll b => (\S*)", text)
-        pairs.append(("polls for all places", polls, ["ready"] * places + ["pending"]))
-    return [pair for pair in pairs if pair[1] != pair[2]]
+    parts.subtract(s=1, t=" get_mut" in text, c=checks, latch=not text.startswith("buffer"))
+    rules = [rule for rule in RULES if len(re.findall(rule[0], text)) != len(re.findall(rule[1], text))]
+    return [f"{number:+} drops of {part}" for part, number in parts.items() if number] + rules
 
 
-def main():
-    count = 0
-    for program, file in files_of(["scripted_pool", "scripted_ware"]):
-        for script in scripts_of(file.read_text(encoding="utf-8")):
-            if not re.match(PLAYED, f"{file.stem}: {script[0].asked}"):
-                continue
-            for place in range(1, len(script)):
-                runs = play(program, list(variants(script[:place], script[place:])))
-                count += len(runs)
-                for run in runs:
-                    if wrong := faults(run):
-                        sys.exit("\n    ".join([f"drops: {file.name}: {wrong}", *map(str, run)]))
-    print(f"drops: {count} runs in all")
-    return not count
-
-
-if __name__ == "__main__":
-    sys.exit(main())
+count = 0
+for program, name, scripts in files_of(["scripted_pool", "scripted_ware"]):
+    played = [it for it in scripts if re.match(PLAYED, f"{name}: {it[0].asked}")]
+    cut = [(it[:place], it[place:]) for it in played for place in range(1, len(it))]
+    for run in play(program, [run for parts in cut for run in variants(*parts)]):
+        count += 1
+        if wrong := faults(run):
+            sys.exit("\n    ".join([f"drops: {name}: {wrong}", *map(text_of, run)]))
+print(f"drops: {count} runs in all")
+sys.exit(not count)

@@ -14,7 +14,7 @@ import tempfile
 from common import library_of, program_of
 
 crate, last = [*sys.argv[1:], "4"][:2]
-program = program_of(crate, f"{crate}_tests")
+program = program_of(crate, "_tests")
 names = subprocess.check_output([program, "--list"], text=True)
 refused, ample = (re.findall(rf"^((?:.*::)?{it}_[a-z0-9_]*): test$", names, re.M) for it in ("refused", "ample"))
 number = shown = 0
