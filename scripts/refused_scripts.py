@@ -80,10 +80,10 @@ def is_known(program, base, came):
 def refuse_each(program, name, scripts):
     """Plays the scripts once for each allocation, `quiet` so that wakes show. Did they go on after each refusal?"""
     asked = "\n\n".join("\n".join([f"{first.asked}; quiet", *(it.asked for it in rest)]) for first, *rest in scripts)
-    with tempfile.TemporaryDirectory() as room, open(f"{room}/out", "wb") as out, open(f"{room}/err", "wb") as errors:
+    with tempfile.TemporaryDirectory() as room, open(f"{room}/out", "wb") as out, open(f"{room}/err", "wb") as err:
+        Path(room, "asked").write_text(asked, encoding="utf-8")
         env, met = {**os.environ, "LD_PRELOAD": library_of(room, "fork_alloc"), "FORK_ALLOC": room}, []
-        how = {"stdout": out, "stderr": errors, "env": env, "timeout": 600, "check": True, "text": True}
-        subprocess.run([program, "--write", "/dev/stdin"], input=asked, **how)
+        subprocess.run([program, "--write", f"{room}/asked"], stdout=out, stderr=err, env=env, timeout=600, check=True)
         read = lambda name: Path(room, name).read_text(encoding="utf-8")
         ends, ample = read("statuses").splitlines(), read("out")
         for number, status in map(str.split, ends):
