@@ -51,7 +51,7 @@ def is_as_without(program, base, came, at, begun):
     line, asked = came[at], [it.asked for it in base]
     is_cut = f"{text_of(base[at]._replace(answer=line.answer))} | ".startswith(f"{begun} | ")
     is_cut = is_cut and "out of memory" in line.answer and not any(balance([line]).values())
-    instead = [it.format(line.asked) for row, lines in INSTEAD.items() if asked[0].startswith(row) for it in lines]
+    instead = [it.format(asked[at]) for row, lines in INSTEAD.items() if asked[0].startswith(row) for it in lines]
     plays = play(program, [[*asked[:at], *it, *asked[at + 1 :]] for it in ([], instead)])
     wanted, ends = told(came[:at] + came[at + 1 :]), (at, at + len(instead))
     return any((is_cut or line in it[at:end]) and told(it[:at] + it[end:]) == wanted for it, end in zip(plays, ends))
