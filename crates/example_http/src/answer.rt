@@ -6,29 +6,21 @@ use hyper::{Response, StatusCode, header};
 use std::alloc::Global;
 use tower::{Refusal, StackError, load_shed};
 
-/// A reason why there is no response. It ends the connection.
+/// A refusal without a response. It ends the connection.
 #[derive(Clone, Copy, Debug, thiserror::Error)]
-pub enum Failure {
-    /// A layer refused the request.
-    #[error("{0}")]
-    Refused(Refusal),
-    /// The response wasn't made.
-    #[error("cannot make a response")]
-    NoResponse,
-}
+#[error("{0}")]
+pub struct Failure(Refusal);
 
+// A response isn't made for want of memory alone.
 impl From<http::Error> for Failure {
     fn from(_error: http::Error) -> Failure {
-        Failure::NoResponse
+        Failure(Refusal::Memory)
     }
 }
 
 impl<E: StackError + Drop> From<load_shed::Error<E>> for Failure {
     fn from(error: load_shed::Error<E>) -> Failure {
-        match error.refusal() {
-            Some(refusal) => Failure::Refused(refusal),
-            None => Failure::NoResponse,
-        }
+        Failure(error.refusal().unwrap_or(Refusal::Memory))
     }
 }
 
@@ -40,12 +32,12 @@ pub fn respond<E: StackError + Drop>(
 ) -> Result<Response<Page>, Failure> {
     let error = match outcome {
         Ok(response) => return Ok(response),
-        Err(error) => error,
+        Err(error) => Failure::from(error),
     };
-    match error.refusal() {
-        Some(Refusal::Overloaded) => Ok(busy(alloc)?),
-        Some(Refusal::Elapsed) => Ok(text(alloc, StatusCode::GATEWAY_TIMEOUT, "too slow")?),
-        _ => Err(Failure::from(error)),
+    match error {
+        Failure(Refusal::Overloaded) => Ok(busy(alloc)?),
+        Failure(Refusal::Elapsed) => Ok(text(alloc, StatusCode::GATEWAY_TIMEOUT, "too slow")?),
+        error => Err(error),
     }
 }
 

@@ -44,7 +44,7 @@ pub trait Serves<I> {
 fn connect(alloc: Global, fault: &Fault) -> Result<(RawPeer<Pipe>, Pipe), AllocError> {
     let (near, far) = duplex(alloc, PIPE)?;
     let near = Pipe::new(near, fault.clone()?);
-    let client = RawPeer::new(alloc, near, REQUEST, Vec::new(alloc));
+    let client = RawPeer::new(alloc, near, REQUEST);
     Ok((client, Pipe::new(far, fault.clone()?)))
 }
 

@@ -7,12 +7,10 @@
 //!
 //! `example_http crowd N` serves N connections in memory at once in place of that, which share one stack,
 //! and prints how they were answered. `example_http crowd N F` has the Fth of their reads and writes fail.
-//! `example_http client` is a client in place of a server.
 #![tactic(auto)]
 
 mod answer;
 mod asked;
-mod client;
 mod connection;
 mod crowd;
 mod mode;
@@ -26,7 +24,7 @@ mod stream;
 mod tally;
 mod visits;
 
-use mode::{Connections, Mode};
+use mode::Connections;
 use routes::Routes;
 use stack::answer_all;
 use std::rc::Rc;
@@ -36,10 +34,7 @@ use visits::Visits;
 
 fn main(rt: HostRuntime) -> anyhow::Result<()> {
     let mut tasks = ClockLoop::new(rt, &rt)?;
-    let connections = match Mode::asked(&rt)? {
-        Mode::Client => return client::run(&rt, &mut tasks),
-        Mode::Server(connections) => connections,
-    };
+    let connections = Connections::asked(&rt)?;
     let visits = Rc::new(rt.alloc(), Visits::new())?;
     let routes = Routes::new(rt.alloc(), tasks.clock(), visits.clone()?);
     let stream = Stream::Standard(rt.stdin(), rt.stdout());

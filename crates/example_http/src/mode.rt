@@ -16,15 +16,6 @@ use tokio::io::{AsyncRead, AsyncWrite};
 use tower::Service;
 use tower_time::ClockLoop;
 
-/// What the program is asked for by its arguments.
-#[derive(Clone, Copy)]
-pub enum Mode {
-    /// To ask for pages.
-    Client,
-    /// To answer requests.
-    Server(Connections),
-}
-
 /// The connections whose requests are answered.
 #[derive(Clone, Copy)]
 pub enum Connections {
@@ -34,16 +25,24 @@ pub enum Connections {
     Crowd { connections: u32, fault: u32 },
 }
 
-impl Mode {
-    pub fn asked<R: Env + AllocGlobal>(rt: &R) -> io::Result<Mode> {
+impl Connections {
+    /// The connections that the program's arguments ask for.
+    pub fn asked<R: Env + AllocGlobal>(rt: &R) -> io::Result<Connections> {
         let mut words = env::args(rt)?.skip(1);
         match words.next() {
-            Some(word) if word.as_str() == "client" => Ok(Mode::Client),
-            Some(word) if word.as_str() == "crowd" => Ok(Mode::Server(Connections::Crowd {
+            Some(word) if word.as_str() == "crowd" => Ok(Connections::Crowd {
                 connections: number(words.next()),
                 fault: number(words.next()),
-            })),
-            _ => Ok(Mode::Server(Connections::Standard)),
+            }),
+            _ => Ok(Connections::Standard),
+        }
+    }
+
+    /// How many requests may be with the routes at once.
+    pub fn limit(self) -> usize {
+        match self {
+            Connections::Standard => 64,
+            Connections::Crowd { .. } => 5,
         }
     }
 }
@@ -55,16 +54,6 @@ fn number(word: Option<String>) -> u32 {
     match word.as_str().parse() {
         Ok(number) => number,
         Err(_) => 0,
-    }
-}
-
-impl Connections {
-    /// How many requests may be with the routes at once.
-    pub fn limit(self) -> usize {
-        match self {
-            Connections::Standard => 64,
-            Connections::Crowd { .. } => 5,
-        }
     }
 }
 
