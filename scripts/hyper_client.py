@@ -11,7 +11,7 @@ from common import TOP
 sys.path.insert(0, str(TOP / "scripts/measure"))
 from beside import crate_in
 
-CRATE = "hyper_client may_wait=6: tower tower_hyper tower_time hyper http_body_util bytes futures tokio anyhow"
+CRATE = "hyper_client may_wait=5: tower tower_hyper tower_time hyper http_body_util bytes futures tokio anyhow"
 WANTED = "200 OK: 108 bytes\nrequest timed out\n"
 
 with tempfile.TemporaryDirectory(prefix="hyper-client-") as folder:
