@@ -62,7 +62,7 @@ pub enum Stack {
     Contended(usize),
     /// The line of permits alone, with so many waiters.
     Line(Line, u64),
-    /// A balancer or a cache, with so many endpoints.
+    /// A balancer, with so many endpoints.
     Pool(Pool, usize),
     /// `block_on_call` under a timeout, by one waiter.
     Waiter,
@@ -75,27 +75,27 @@ pub enum Stack {
 impl Stack {
     /// The stack of this name.
     pub fn named(name: &str) -> Option<Stack> {
-        match name.as_bytes() {
-            b"direct" => Some(Stack::Direct),
-            b"timeout" => Some(Stack::Timeout),
-            b"rate_limit" => Some(Stack::Rate),
-            b"rate_limit_each_window_full" => Some(Stack::FullRate),
-            b"concurrency_limit" => Some(Stack::Limit),
-            b"load_shed" => Some(Stack::LoadShed),
-            b"all" => Some(Stack::All),
-            b"retry_budget" => Some(Stack::Budget),
-            b"retry_budget_one_retry" => Some(Stack::OneRetry),
-            b"steer_8" => Some(Stack::Steer),
-            b"filter" => Some(Stack::Filter),
-            b"reconnect" => Some(Stack::Reconnect),
-            b"maps_5" => Some(Stack::Maps),
-            b"hedge_too_few_points" => Some(Stack::Hedge(11)),
-            b"hedge" => Some(Stack::Hedge(10)),
-            b"buffer_64" => Some(Stack::Buffer),
-            b"spawn_ready" => Some(Stack::SpawnReady),
-            b"semaphore_take_give" => Some(Stack::Semaphore),
-            b"block_on_call" => Some(Stack::Waiter),
-            b"block_on_call_anew" => Some(Stack::WaiterAnew),
+        match name {
+            "direct" => Some(Stack::Direct),
+            "timeout" => Some(Stack::Timeout),
+            "rate_limit" => Some(Stack::Rate),
+            "rate_limit_each_window_full" => Some(Stack::FullRate),
+            "concurrency_limit" => Some(Stack::Limit),
+            "load_shed" => Some(Stack::LoadShed),
+            "all" => Some(Stack::All),
+            "retry_budget" => Some(Stack::Budget),
+            "retry_budget_one_retry" => Some(Stack::OneRetry),
+            "steer_8" => Some(Stack::Steer),
+            "filter" => Some(Stack::Filter),
+            "reconnect" => Some(Stack::Reconnect),
+            "maps_5" => Some(Stack::Maps),
+            "hedge_too_few_points" => Some(Stack::Hedge(11)),
+            "hedge" => Some(Stack::Hedge(10)),
+            "buffer_64" => Some(Stack::Buffer),
+            "spawn_ready" => Some(Stack::SpawnReady),
+            "semaphore_take_give" => Some(Stack::Semaphore),
+            "block_on_call" => Some(Stack::Waiter),
+            "block_on_call_anew" => Some(Stack::WaiterAnew),
             _ => Stack::of_parts(name),
         }
     }
