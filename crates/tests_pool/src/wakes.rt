@@ -1,13 +1,14 @@
 //! Whether a poll of a balancer wakes its task, and how many services of a list it takes. Its own service is never called.
 ghost use Rattle.std.specs.Prelude.{⊤};
 
-use futures::future::{Future, Ready, ready};
+use futures::future::{Ready, ready};
 use futures::task::{Context, Poll};
-use futures::test::MockTask;
+use std::alloc::AllocGlobal;
 use std::convert::Infallible;
+use std::random::RandomSource;
 use std::test::Fail;
 use tests_support::checks::Checks;
-use tests_support::run::{polled, task};
+use tests_support::run::{is_woken, polled, task};
 use tower_base::service::Service;
 use tower_limit::discover::{Change, Discover, ServiceList};
 use tower_limit::load::Load;
@@ -78,37 +79,28 @@ impl Discover for Surge {
     }
 }
 
-// The readiness of a service as a future.
-#[derive(Drop)]
-struct Asked<B> {
-    service: B,
-}
-
-impl<B: Service<u8>> Future for Asked<B> {
-    type Output = Result<(), B::Error>;
-
-    ghost can_poll = { λ a. B.sound a.service };
-
-    fn poll(&mut self, cx: &mut Context<'_>) -> Poll<Result<(), B::Error>> {
-        self.service.poll_ready(cx)
+// Whether one poll of readiness, which is pending, wakes its task.
+fn wakes<R, B>(rt: R, mut service: B) -> Result<bool, Fail>
+where
+    R: RandomSource + AllocGlobal + Copy,
+    B: Service<u8>,
+    requires { B.sound service }
+{
+    let solo = task(&rt)?;
+    if polled(&solo, &mut service).is_ready() {
+        return Err("the service is not pending".into());
     }
+    Ok(is_woken(&solo))
 }
 
 #[test]
 fn poll_of_64_changes_wakes_its_task(rt: HostRuntime) -> Result<(), Fail> {
-    let checks = Checks::new(rt.alloc());
-    let service = Balance::new(rt.alloc(), Surge { is_there: false });
-    let mut endless = Asked { service };
-    let task = MockTask::new(&rt)?;
-    assert!(rt; task.poll(&mut endless).is_pending());
-    checks.holds(task.is_woken());
+    let endless = Balance::new(rt.alloc(), Surge { is_there: false });
+    assert!(rt; wakes(rt, endless)?);
     let services: Vec<Quiet> = Vec::new(rt.alloc());
-    let service = Balance::new(rt.alloc(), ServiceList::new(services));
-    let mut over = Asked { service };
-    let task = MockTask::new(&rt)?;
-    assert!(rt; task.poll(&mut over).is_pending());
-    checks.holds(!task.is_woken());
-    checks.verdict()
+    let over = Balance::new(rt.alloc(), ServiceList::new(services));
+    assert!(rt; !wakes(rt, over)?);
+    Ok(())
 }
 
 #[test]
