@@ -35,7 +35,7 @@ LISTENER, STARTED = create_server(("127.0.0.1", 0), backlog=64), []
 
 def accept():
     command = ["timeout", "60", program_of("example_http")]  # (so each ends)
-    while True:
+    for _ in range(1000):
         with LISTENER.accept()[0] as it:
             STARTED.append(subprocess.Popen(command, stdin=it, stdout=it, stderr=subprocess.DEVNULL))
 
