@@ -11,7 +11,7 @@ use tower::{Refusal, StackError, load_shed};
 #[error("{0}")]
 pub struct Failure(Refusal);
 
-// A response isn't made for want of memory alone.
+// Only want of memory keeps a response from being made.
 impl From<http::Error> for Failure {
     fn from(_error: http::Error) -> Failure {
         Failure(Refusal::Memory)
