@@ -9,7 +9,8 @@ use Rattle.tower_pool.specs.declared.spawn_ready.slot_core.SlotStep.TheVariants.
 use Rattle.tower_pool.specs.declared.spawn_ready.slot_core.SlotReply.{SlotReply}
 use Rattle.tower_pool.specs.declared.spawn_ready.slot_core.SlotReply.TheVariants.{Done, Back, Truth, Waiting, Service, Error, Lost, Unknown}
 
--- The reply to a step, and the slot after it. Once aborted a slot stays so, and a step that doesn't fit changes nothing.
+-- The reply to a step, and the slot after it. Once aborted a slot stays so, and a step that doesn't fit changes nothing. The step `Aborted`, here
+-- `IsAborted`, asks whether the slot is aborted.
 abbrev pub slot_step : {S E : Type 0} → Slot S E → SlotStep S E → SlotReply S E × Slot S E
 slot_step Idle Start = (Done, Running)
 slot_step Running (Put service) = (Done, Holds service)
