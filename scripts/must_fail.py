@@ -134,7 +134,9 @@ def attempt(edits, kept):
         ran = rt.checked(crate, changed, flags, kept)
         ran = ran if ran.returncode >= 0 else rt.checked(crate, changed, flags, kept)
     lines = ran.stdout.rstrip("\n").split("\n")
-    unread = [it for it in lines if rt.unread(it, texts)] or lines[: 0 if lines[-1].startswith("only=") else 6]
+    # (what depends on a rejected lemma isn't checked, and antt says so of a file, not of a name)
+    unread = [it for it in lines if rt.unread(it, texts) and "which was rejected" not in it]
+    unread = unread or lines[: 0 if lines[-1].startswith("only=") else 6]
     for it in edits:
         answer = f"BAD EDIT: it does not reach the prover: {' / '.join(unread)}" if unread else it.verdict(ran.stdout)
         if answer.startswith("refused") or len(edits) == 1:
