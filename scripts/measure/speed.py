@@ -107,11 +107,11 @@ def built(folder, line, texts, **more):
 
 
 def polls(count, *words):
-    """The polls of a call: of tasks and workers, or of responses."""
+    """The polls of a call: of tasks and workers (a limit has none), or of responses."""
     told = output(*words, str(count), "1")
     callers, workers, responses, answered = map(int, re.findall(r"\d+", told))
     assert answered == count, told
-    return f"{(responses or callers + workers) / count:.4g}"
+    return f"{(responses or callers + workers * ('limit' not in words)) / count:.4g}"
 
 
 def cost(count, *words):
