@@ -11,7 +11,7 @@ ghost use Rattle.tower_pool.specs.SpawnReady.{TaskStepped, view_of};
 
 use std::convert::Infallible;
 use std::hash::Hash;
-use tower_base::service::{Clock, Executor, Service, Steps};
+use tower_base::service::{Clock, Executor, Service};
 use tower_base::util::rng::Rng;
 use tower_buffer::buffer::MailCore;
 use tower_latch::Latch;

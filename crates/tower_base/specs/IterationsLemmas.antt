@@ -20,7 +20,7 @@ module _ {V A : Type 0} (iteration : V → Option A → V → Type 0) where
   iterates_keeps P keeps zero old new went h = subst P (sym went) h
   iterates_keeps P keeps (suc n) old new went h = keeps went.0 new went.2 (iterates_keeps P keeps n old went.0 went.1 h)
 
-  -- A iteration gives an answer.
+  -- An iteration gives an answer.
   pub iterations_answer : (n : ℕ) (tired answer : A) (old last new : V) → Iterates iteration n old last → n < limit → iteration last (Some answer) new
       → Iterations iteration tired old answer new
   iterations_answer n tired answer old last new went below ends = record { count = n; last = last; went = went; ends = inl (below, ends) }

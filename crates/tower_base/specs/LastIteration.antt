@@ -11,6 +11,6 @@ module _ {V A : Type 0} (iteration : V → Option A → V → Type 0) where
     pub below : count < limit
     pub ends : iteration last (Some answer) new
 
-  -- A iteration gives this answer. Otherwise the last iteration that the poll may make gave none, and the poll has woken its own task.
+  -- An iteration gives this answer. Otherwise the last iteration that the poll may make gave none, and the poll has woken its own task.
   abbrev pub AnsweredOrWoken : V → A → V → Bool → Type 0
   AnsweredOrWoken old answer new is_woken = Answered old answer new ⊎ (is_woken ≡ true)

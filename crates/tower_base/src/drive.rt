@@ -1,9 +1,8 @@
 //! Whole runs of a service, driven by a list of events. The Rust has no such function.
-ghost use Rattle.std.specs.Prelude.{◌≡◌, [], ◌+◌, ◌<◌, true, false, All, IfOk, OnErr, Some, slice_get, slice_set, Result, IfSome, IfNone, IsOk};
+ghost use Rattle.std.specs.Prelude.{◌≡◌, [], ◌+◌, ◌<◌, true, false, All, IfOk, OnErr, Some, slice_get, slice_set, Result, IfSome, IfNone};
 ghost use Rattle.futures.specs.Task.{Keeps};
 ghost use Rattle.tower_base.specs.Drive.{Step, Run, Calls, Polls, initial, allows, slot_after, IsLive, IsKept};
 ghost use Rattle.tower_base.specs.Driver.{state_of, Sound, CanStep};
-ghost use Rattle.std.specs.Vec.{vec_len, vec_capacity};
 
 use crate::service::{Service, Steps};
 use futures::task::{Context, Poll};

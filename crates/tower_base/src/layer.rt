@@ -21,19 +21,13 @@ pub trait Layer<S> {
 }
 
 /// A layer that returns the service unchanged. It is the Rust's `tower::layer::util::Identity`.
-#[derive(Clone, Copy, Debug, PartialEq, Eq)]
+#[derive(Clone, Copy, Debug, Default, PartialEq, Eq)]
 pub struct Identity;
 
 impl Identity {
     /// Creates the layer. Neither this nor its `layer` allocates.
     pub fn new() -> Identity {
         Identity
-    }
-}
-
-impl Default for Identity {
-    fn default() -> Identity {
-        Identity::new()
     }
 }
 

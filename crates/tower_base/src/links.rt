@@ -27,7 +27,7 @@ pub struct Links<T> {
 }
 
 impl<T> Model for Links<T> {
-    ghost use Rattle.std.specs.Prelude.{List, ℕ};
+    ghost use Rattle.std.specs.Prelude.{ℕ};
     ghost use Rattle.tower_base.specs.Links.{LinksView, links_code};
 
     ghost Value = { LinksView T };

@@ -95,7 +95,8 @@ pub trait Service<Request>: Drop {
     ghost called: { Self → Request → Self.Future → Self → Type 0 } = { λ _ _ _ _. ⊤ };
 
     /// Polls the service's readiness for a call. An error means that the service can't be used any more,
-    /// but for one that says otherwise: a `Reconnect` and a `Balance` go on.
+    /// but for `Memory` and `NotSpawned`, after which the next poll tries again, and for a service that says
+    /// otherwise: a `Reconnect` and a `Balance` go on.
     fn poll_ready(&mut self, cx: &mut Context<'_>) -> Poll<Result<(), Self::Error>>
         requires { sound self.old }
         ensures polled { polled self.old result self.new }
@@ -147,9 +148,9 @@ pub trait Clock: Drop {
     fn share(&self) -> Self
         ensures { shared self.now result };
 
-    /// Has the task polled again at the deadline, or soon after it, or sooner: a moment of this clock, in
-    /// nanoseconds. Doesn't read the clock. If this is left out, the task is polled again at once, and so
-    /// is busy all the while.
+    /// Has the task polled again at the deadline (a moment of this clock, in nanoseconds), soon after it, or
+    /// sooner. Doesn't read the clock. If this is left out, the task is polled again at once, and so is busy
+    /// all the while.
     fn wake_at(&mut self, _deadline: u128, cx: &mut Context<'_>)
         ensures registered { Covers cx.new (hears self.new) }
         ensures timed { (cx.new.is_woken ≡ true) ⊎ wakes_by self.new _deadline cx.new }

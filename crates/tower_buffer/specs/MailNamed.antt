@@ -26,7 +26,7 @@ module _ (Q F E : Type 0) where
   abbrev pub ResponsesAreNamed : Type 0
   ResponsesAreNamed = OfEach (λ old step reply new wakes. (id : ℕ) → id < shared_from → Stalls old (Waiter.response id) → Decides step reply id → IsWoken stalls new wakes (response_key id))
 
-  -- A worker that waits for a message is woken by a `Send`, and by the step that makes the mail over.
+  -- A worker that waits for a message is woken by a `Send`, and by the step that ends the mail.
   abbrev pub WorkerIsNamed : Type 0
   WorkerIsNamed = OfEach (λ old step reply new wakes. Stalls old Waiter.worker → ((id : ℕ) × (reply ≡ Sent id)) ⊎ (is_over new ≡ true) → IsWoken stalls new wakes 0)
 

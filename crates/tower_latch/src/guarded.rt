@@ -124,8 +124,8 @@ impl<C: Core, R: Wait + Copy> Guarded<C, R> {
         seat
     }
 
-    // Makes one step, with wakers beside the core. They are woken once the lock is free. Apart from the
-    // steps of `Latch`, so that those have no place for the woken if no waker is kept.
+    // Makes one step, with wakers beside the core. They are woken once the lock is free. It stands apart
+    // from the steps of `Latch`, so that those have no place for the woken if no waker is kept.
     #[inline(always)]
     fn step_and_wake(&self, mut seat: Seat<C>, step: C::Step) -> (C::Reply, Token)
         requires { MayStep C.Core (λ k. k.core) self.now.table self.now.terms seat step }
@@ -174,8 +174,8 @@ impl<C: Core, R: Wait + Copy> Guarded<C, R> {
 // How often a thread looks whether the core is there before it parks.
 const LOOKS: u32 = 1_000;
 
-// What may wait or wake takes the shared part alone: a reference to the `Guarded` itself would keep the
-// value that has it in memory.
+// What may wait or wake takes the shared part alone: a reference to the `Guarded` itself would force
+// whatever holds it into memory.
 impl<C: Core> Shared<C> {
     // Waits for the core, which another holder has. Whoever found a mark of a thread that parks, which its
     // own step overwrote, leaves a mark at once.

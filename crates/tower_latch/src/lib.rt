@@ -36,8 +36,8 @@ pub enum Wakes {
 }
 
 impl Wakes {
-    /// Names those whom either names: all if either names all, and if both name somebody, those of all
-    /// who no longer stall.
+    /// Names those whom either names: if one is `Nobody`, what the other is; if either is `All`, all; and
+    /// otherwise those of all who no longer stall.
     pub fn and(self, other: Wakes) -> Wakes
         ensures named { (key : ℕ) → IsNamed self key ⊎ IsNamed other key → IsNamed result key }
         ensures waits { (key : ℕ) → result ≡ Wakes.Wait key → ((self ≡ Wakes.Wait key)
@@ -179,7 +179,7 @@ pub trait Latch<C: Core>: Sized + Drop {
         ensures heard { C.is_wait result.0 ≡ true → (s : ℕ) → source self.now s → Hears cx.new s }
         ensures kept { Keeps cx.old cx.new };
 
-    /// Makes one step of the core for the holder of `token`, which hands no places out, and returns its
+    /// Makes one step of the core, which hands no places out, for the holder of `token`, and returns its
     /// reply and another token: it has the places of `token`, less those that the step gives back. The
     /// core's count of places that are held has those of `token`.
     fn give(&self, step: C::Step, token: Token) -> (C::Reply, Token)

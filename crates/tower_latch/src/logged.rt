@@ -1,5 +1,5 @@
 //! A lock around a core, with the whole history of its steps.
-ghost use Rattle.std.specs.Prelude.{◌≡◌, ◌≢◌, ℕ, ◌<◌, List, [], ◌∷◌, ◌++◌, length, Some, IfOk, OnOk, OnErr, vec_len};
+ghost use Rattle.std.specs.Prelude.{◌≡◌, ◌≢◌, ◌<◌, List, [], ◌∷◌, ◌++◌, length, Some, IfOk, OnOk, OnErr, vec_len};
 ghost use Rattle.std.specs.List.{sum_by, AllByRecursion};
 ghost use Rattle.tower_latch.specs.History.{IsLegal, EachFits, HaveOneEach, Weighs};
 

@@ -6,7 +6,7 @@ use Rattle.tower_base.specs.declared.service.Clock.{Ghosts as ClockOf}
 use Rattle.tower_base.specs.declared.util.rng.Rng.{Ghosts as RngOf}
 use Rattle.tower_retry.specs.Backoff.{Begins, ExponentialBackoffMakerView, ExponentialBackoffView, new_maker}
 
--- so many waits, of which the first is given, and each other is twice the one before, at most the greatest
+-- this many waits: the first is given, and each other is twice the one before, at most the greatest
 abbrev pub doubling : ℕ → ℕ → ℕ → List ℕ
 doubling zero wait greatest = []
 doubling (suc n) wait greatest = wait ∷ doubling n (min (2 * wait) greatest) greatest

@@ -6,10 +6,11 @@ use tower_buffer::buffer::MailCore;
 use tower_latch::Latch;
 use tower_latch::held::Pollable;
 
-/// States of each step of mail, over every run from initial mail and in the history of mail that ran under a
-/// log: `Take` hands out the messages in the order of their sends, each once, without those that were
-/// cancelled before; an outcome is what was given to that message; and after a failure whoever asks for a
-/// place, or for the outcome of a message that failed, is told the error of the first failure.
+/// For each step of mail, over every run from initial mail and in the history of mail that ran under a log:
+/// `Take` hands out the messages in the order of their sends, each once, without those that were cancelled
+/// before; an outcome is what was given to that message; and after a failure whoever asks for a place, or
+/// for the outcome of a message that failed, is told the error of the first failure, or `Memory` if its
+/// clone fails.
 ///
 /// Over all its polls a worker takes a message only once the last one has its outcome or nobody waits for
 /// it, and after a failure of its service each message that it takes gets the stored error.

@@ -5,7 +5,7 @@ ghost use Rattle.tower_laws.specs.Filter.{RunsLetThrough};
 use tower_base::service::Service;
 use tower_ware::filter::{Filter, Predicate};
 
-/// States of each run: the predicate checks each request once, in the order of the calls, and the service
+/// For each run: the predicate checks each request once, in the order of the calls, and the service
 /// gets just what it lets through, each request once and in that order. The answer of a request that it
 /// refuses is its error.
 pub fn law<R, P, S: Service<P>, U: Predicate<R, Request = P>>()

@@ -6,7 +6,7 @@ use tower_latch::Latch;
 use tower_retry::hedge::rotating_histogram::HistoCore;
 use tower_retry::hedge::{Hedge, Policy};
 
-/// States of each response: it makes at most two calls. The second has a copy of the request, which the
+/// For each response: it makes at most two calls. The second has a copy of the request, which the
 /// policy made while enough latencies were known, and which a clone of the policy allows. It goes to a
 /// clone of the service that is ready, after the delay that the histogram named, if the first had no answer
 /// before. While the second side has no answer, there is no copy, or the delay isn't over, the clone isn't

@@ -7,7 +7,7 @@ ghost use Rattle.tower_ware.specs.Reconnect.{view_of};
 use tower_base::service::Service;
 use tower_ware::reconnect::Reconnect;
 
-/// States of each run that begins without an error, as a new `Reconnect` does: the next call after a failed
+/// For each run that begins without an error, as a new `Reconnect` does: the next call after a failed
 /// connect returns its error, unless a later connect failed before that call, and no other call does. Every
 /// other call goes, once, to the connection that is there.
 pub fn law<Request, M, S, Target>()

@@ -5,7 +5,7 @@ ghost use Rattle.tower_laws.specs.Steer.{EachGetsWhatIsPicked};
 use tower_base::service::Service;
 use tower_ware::steer::{Picker, Steer};
 
-/// States of each run: the run of the service at each index has just the requests for which the picker
+/// For each run: the run of the service at each index has just the requests for which the picker
 /// returned that index, in their order.
 pub fn law<S: Service<Req>, F: Picker<S, Req>, Req>()
     ensures { EachGetsWhatIsPicked (relations ⟦<Steer<S, F, Req> as Service<Req>>⟧)

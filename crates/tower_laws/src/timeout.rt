@@ -3,7 +3,7 @@ ghost use Rattle.tower_laws.specs.Timeout.{AnswersInTime};
 
 use tower_base::service::{Clock, Service};
 
-/// States of each poll of a response, up to its answer: an inner answer is returned in the poll in which it
+/// For each poll of a response, up to its answer: an inner answer is returned in the poll in which it
 /// came, an error as `Inner`. If the inner response is pending, the clock is read; the answer is `Elapsed`
 /// if that reading is at or past the reading of the call plus the duration, and otherwise the poll is
 /// pending.

@@ -42,7 +42,7 @@ pub enum Refusal {
     /// An `Optional` has no service.
     #[error("no service")]
     NoService,
-    /// The service of a `SpawnReady` or of a `FutureService` failed earlier.
+    /// A `SpawnReady`'s service failed, or its task is gone; or a `FutureService`'s future failed.
     #[error("service is gone")]
     Gone,
     /// The executor of a `Buffer` or of a `SpawnReady` gave the task back.

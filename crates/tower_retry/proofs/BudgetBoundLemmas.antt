@@ -7,14 +7,13 @@ use Rattle.std.proofs.lemmas.Bool.Decides.{nat_tests}
 use Rattle.std.proofs.Math.Logic.{∥∥₁_map}
 use Rattle.tower_latch.specs.HistoryLemmas.{serves_at, plain_run}
 use Rattle.tower_latch.specs.Latch.{Serves}
-use Rattle.tower_retry.specs.Budget.{Ledger, Steps, advanced, initial, counts, generation_at, size, total}
+use Rattle.tower_retry.specs.Budget.{Amount, Ledger, Steps, advanced, initial, counts, generation_at, size, total}
 use Rattle.tower_retry.specs.BudgetBound.{RetriesBounded, BoundedAtLatch, BoundedInHistory, cost, gain, spent, earned}
 use Rattle.tower_retry.specs.BudgetCore.{StandsFor, Opens}
 use Rattle.tower_retry.specs.BudgetTermsLemmas.{serves_terms, step_terms}
 use Rattle.tower_retry.proofs.BudgetTermsRuns.{runs_from_terms}
 use Rattle.tower_retry.specs.BudgetWindows.{NeverBack, moment_of}
 use Rattle.tower_retry.proofs.BudgetWindowLemmas.{generation_grows, windows_later, aligned, same_at, after_step, later, counts_near, counts_no_more}
-use Rattle.tower_retry.specs.declared.retry.budget.steps.Amount.{Amount}
 use Rattle.tower_retry.specs.declared.retry.budget.steps.BudgetStep.{BudgetStep}
 use Rattle.tower_retry.specs.declared.retry.budget.steps.BudgetStep.TheVariants.{Deposit, Withdraw}
 use Rattle.tower_retry.specs.declared.retry.budget.steps.BudgetReply.{BudgetReply}

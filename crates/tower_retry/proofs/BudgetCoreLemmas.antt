@@ -10,11 +10,10 @@ use Rattle.std.proofs.lemmas.Bool.Decides.{nat_tests, leb_tells}
 use Rattle.tower_latch.specs.LatchLemmas.{is_run}
 use Rattle.tower_retry.proofs.BudgetLemmas.{exact, older_sum, other_size, other_sum, size_parts, sum_size, total_parts}
 use Rattle.tower_retry.proofs.SlotLemmas.{back_size, none_keeps, saturates, triangle}
-use Rattle.tower_retry.specs.Budget.{Ledger, added, advanced, generation_at, IsExact, Steps, balance}
+use Rattle.tower_retry.specs.Budget.{Amount, Ledger, added, advanced, generation_at, IsExact, Steps, balance}
 use Rattle.tower_retry.specs.BudgetCore.{StandsFor, SumsKept, kept_balance}
 use Rattle.tower_retry.specs.Slots.{Each, Keeps, Shifted, kept_sum, size_back, slot, sum_back}
 use Rattle.tower_retry.specs.declared.retry.budget.budget_core.BudgetCore.{BudgetCore}
-use Rattle.tower_retry.specs.declared.retry.budget.steps.Amount.{Amount}
 use Rattle.tower_retry.specs.declared.retry.budget.steps.Terms.{Terms}
 
 -- what a core keeps is the balance of each ledger that it stands for

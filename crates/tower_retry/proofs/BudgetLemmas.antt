@@ -4,9 +4,8 @@ use Rattle.std.specs.Prelude.{ℤ, pos, ◌+ℤ◌, nat_abs, nat_eq, nat_le, ◌
 use Rattle.std.proofs.lemmas.Int.{ints}
 use Rattle.std.proofs.lemmas.Bool.Decides.{nat_tests, leb_tells}
 use Rattle.tower_retry.proofs.SlotLemmas.{part_size, kept_sum_more, kept_sum_none, saturates, triangle}
-use Rattle.tower_retry.specs.Budget.{counts, total, size}
+use Rattle.tower_retry.specs.Budget.{Amount, counts, total, size}
 use Rattle.tower_retry.specs.Slots.{Slotted, kept_sum, size_back, slot, sum_back}
-use Rattle.tower_retry.specs.declared.retry.budget.steps.Amount.{Amount}
 
 zero_plus : (z : ℤ) → pos 0 +ℤ z ≡ z
 zero_plus z = omega (arith, ints)

@@ -5,9 +5,8 @@ use Rattle.std.proofs.Math.Nat.{add-mul-div_right, div-mul-le_self, max-eq_right
 use Rattle.std.proofs.lemmas.Nat.{le-div}
 use Rattle.std.proofs.lemmas.Bool.Decides.{nat_tests}
 use Rattle.tower_latch.specs.Latch.{Serves}
-use Rattle.tower_retry.specs.Budget.{Ledger, Steps, added, advanced, initial, counts, generation_at}
+use Rattle.tower_retry.specs.Budget.{Amount, Ledger, Steps, added, advanced, initial, counts, generation_at}
 use Rattle.tower_retry.specs.BudgetWindows.{CountsForTenWindows, NeverBack, deposit_at, moment_of}
-use Rattle.tower_retry.specs.declared.retry.budget.steps.Amount.{Amount}
 use Rattle.tower_retry.specs.declared.retry.budget.steps.BudgetStep.{BudgetStep}
 use Rattle.tower_retry.specs.declared.retry.budget.steps.BudgetStep.TheVariants.{Deposit, Withdraw}
 use Rattle.tower_retry.specs.declared.retry.budget.steps.BudgetReply.{BudgetReply}

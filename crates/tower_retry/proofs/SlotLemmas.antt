@@ -5,8 +5,8 @@ use Rattle.std.specs.Int.{w128, saturate_signed}
 use Rattle.std.proofs.lemmas.Int.{ints}
 use Rattle.std.proofs.lemmas.List.{get_or-set_same, get_or-set_other}
 use Rattle.std.proofs.lemmas.Bool.Decides.{nat_tests, leb_tells}
+use Rattle.tower_retry.specs.Budget.{Amount}
 use Rattle.tower_retry.specs.Slots.{Each, Keeps, Shifted, Slotted, kept_sum, place, size_back, slot, sum_back}
-use Rattle.tower_retry.specs.declared.retry.budget.steps.Amount.{Amount}
 
 pub each_map : (P Q : Amount → Type 0) → ((a : Amount) → P a → Q a) → (xs : List Amount) → Each P xs → Each Q xs
 each_map P Q f [] h = tt

@@ -22,7 +22,7 @@ pub record ExponentialBackoffView (R C : Type 0) : Type 0 where
   pub maker : ExponentialBackoffMakerView R C
   pub count : ℕ
 
--- A maker of these parts, or an error: the least wait isn't above the greatest, which isn't 0, and the jitter isn't above 100.
+-- A maker of these parts, if the least wait isn't above the greatest, which isn't 0, and the jitter isn't above 100; or an error.
 abbrev pub new_maker : {R C : Type 0} → ExponentialBackoffMakerView R C → Result (ExponentialBackoffMakerView R C) InvalidBackoff
 new_maker parts =
     if nat_lt parts.most parts.least then Err MaximumBelowMinimum
@@ -62,7 +62,7 @@ module _ {R C : Type 0} (clones : CloneOf R) (c : ClockOf C) where
     pub clock : c.shared old.clock new.clock
     pub same : new ≡ record old { rng = new.rng; clock = new.clock }
 
-  -- The result of a maker: a new backoff, or an error, which happens only if the clone of its words may fail. The maker is unchanged.
+  -- The result of a maker: a new backoff, or an error, which happens only if its generator's clone may fail. The maker is unchanged.
   abbrev pub Made : ExponentialBackoffMakerView R C → Result (ExponentialBackoffView R C) AllocError → ExponentialBackoffMakerView R C → Type 0
   Made old (Ok backoff) new = IsClone old backoff.maker × (backoff.count ≡ 0) × (new ≡ old)
   Made old (Err refused) new = (new ≡ old) × ¬ (clones.is_infallible old.rng)

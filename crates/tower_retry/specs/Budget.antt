@@ -3,12 +3,16 @@
 -- amount counts in its own generation and in the next ten: for ten generations at least, and less than eleven.
 use Rattle.std.specs.Prelude.{◌≡◌, ◌<◌, ◌≤◌, ℕ, ◌+◌, ◌-◌, ◌*◌, ◌/◌, ◌^◌, max, nat_le, nat_eq, if◌then◌else◌, ◌&&◌, Bool, List, [], ◌∷◌, ℤ, pos, neg_ℤ, nat_abs, ◌+ℤ◌, int_le}
 use Rattle.tower_base.specs.declared.service.Fraction.{Fraction}
-use Rattle.tower_retry.specs.declared.retry.budget.steps.Amount.{Amount}
 use Rattle.tower_retry.specs.declared.retry.budget.steps.BudgetStep.{BudgetStep}
 use Rattle.tower_retry.specs.declared.retry.budget.steps.BudgetStep.TheVariants.{Deposit, Withdraw}
 use Rattle.tower_retry.specs.declared.retry.budget.steps.BudgetReply.{BudgetReply}
 use Rattle.tower_retry.specs.declared.retry.budget.steps.BudgetReply.TheVariants.{Done, Allowed}
 use Rattle.tower_retry.specs.declared.retry.budget.steps.Terms.{Terms}
+
+-- An amount that was added in one generation, or taken if it is below 0.
+pub record Amount : Type 0 where
+  pub generation : ℕ
+  pub amount : ℤ
 
 -- A budget's value: its terms (the amounts of a deposit and of a withdrawal, the reserve, and the length `window` of a generation), the moment at
 -- which it was made, the present generation, counted from 0, and every amount so far, the newest first. A withdrawal adds a negative amount.
@@ -18,7 +22,7 @@ pub record Ledger : Type 0 where
   pub generation : ℕ
   pub amounts : List Amount
 
--- What a constructor accepts, as the Rust's budget does: `ttl` is 1 to 60 seconds; `min_per_sec`, the retries that the reserve covers for each second of
+-- What a constructor accepts, as the Rust's budget does: `ttl` is 1 to 60 seconds; `min_per_sec`, the retries that the reserve covers for each whole second of
 -- `ttl`, is below 2147483647, the largest `i32`; and `fraction`, the number of retries that a success pays for, is at most 1000.
 pub record Fits (ttl min_per_sec : ℕ) (fraction : Fraction) : Type 0 where
   pub long : 1000000000 ≤ ttl

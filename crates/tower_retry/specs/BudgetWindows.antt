@@ -1,8 +1,7 @@
 -- How long a deposit counts.
 use Rattle.std.specs.Prelude.{◌≡◌, ◌<◌, ◌≤◌, ℕ, ◌+◌, ◌*◌, true, false, List, [], ◌∷◌, ◌++◌, pos}
 use Rattle.tower_latch.specs.Latch.{Serves}
-use Rattle.tower_retry.specs.Budget.{Ledger, Steps, advanced, initial, counts}
-use Rattle.tower_retry.specs.declared.retry.budget.steps.Amount.{Amount}
+use Rattle.tower_retry.specs.Budget.{Amount, Ledger, Steps, advanced, initial, counts}
 use Rattle.tower_retry.specs.declared.retry.budget.steps.BudgetStep.{BudgetStep}
 use Rattle.tower_retry.specs.declared.retry.budget.steps.BudgetStep.TheVariants.{Deposit, Withdraw}
 use Rattle.tower_retry.specs.declared.retry.budget.steps.BudgetReply.{BudgetReply}

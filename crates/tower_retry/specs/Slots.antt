@@ -1,7 +1,7 @@
 -- Ten slots in a ring, and what they keep of a list of amounts.
 use Rattle.std.specs.Prelude.{◌≡◌, ◌<◌, ◌≤◌, ℕ, zero, suc, ◌+◌, ◌-◌, ◌^◌, ◌%◌, nat_eq, if◌then◌else◌, List, [], ◌∷◌, ℤ, pos, nat_abs, ◌+ℤ◌, ⊤, slice_index_or}
 use Rattle.std.specs.Int.{w128, saturate_signed}
-use Rattle.tower_retry.specs.declared.retry.budget.steps.Amount.{Amount}
+use Rattle.tower_retry.specs.Budget.{Amount}
 
 -- P holds of each amount.
 abbrev pub Each : (Amount → Type 0) → List Amount → Type 0

@@ -15,6 +15,6 @@ status_of CannotRead = 3
 status_of CannotWrite = 3
 status_of CannotStart = 3
 
--- Arguments that can't be had: memory was refused, or one of them isn't text, and so is a wrong one.
+-- Arguments that can't be had: memory was refused, or one of them isn't text, and is thus wrong.
 abbrev pub OfWords : ErrorKind → Fault → Type 0
 OfWords kind fault = (kind ≡ OutOfMemory → fault ≡ Memory) × (kind ≢ OutOfMemory → fault ≡ Usage)

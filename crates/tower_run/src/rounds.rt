@@ -18,7 +18,7 @@ impl Model for Rounds {
 }
 
 impl Rounds {
-    /// Returns the number of no rounds.
+    /// Returns zero rounds.
     pub fn none() -> Rounds
         ensures { result ≡ 0 }
     {

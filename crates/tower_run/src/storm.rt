@@ -99,7 +99,7 @@ impl Storm {
     /// Runs the storm, joins every thread, and returns its report.
     ///
     /// If a thread can't be started, the started ones end first, and the fault is `CannotStart`. If
-    /// allocation fails in any of them, or in this one, the fault is `Memory`.
+    /// allocation fails in any of them, or in this one, or one gets no random number, the fault is `Memory`.
     pub fn run<H, G>(self, rt: &H, gate: &G) -> Result<Report, Fault>
     where
         H: Threads + Wait + RandomSource + AllocGlobal + Copy + Send + Drop + 'static,

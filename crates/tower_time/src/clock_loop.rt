@@ -74,8 +74,8 @@ impl<R: rt::Clock + Copy> ClockLoop<R> {
         self.event_loop.block_on(rt, &mut self.naps, future)
     }
 
-    /// As `block_on`, and polls what is spawned into the set too, until no task is left. No other thread
-    /// may work at the set meanwhile.
+    /// As `block_on`, and polls what is spawned into the set too, until no task is left. Returns an error,
+    /// too, if the set is shut down while the future is pending. No other thread may work at the set meanwhile.
     pub fn block_on_with<W, F, B>(
         &mut self,
         rt: &W,

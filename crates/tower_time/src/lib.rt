@@ -1,5 +1,5 @@
-//! Clocks that have a waiting task polled again once its deadline has come, and not before: `Timers` for
-//! any executor, with a thread of its own, and `ClockLoop` for tasks of one thread.
+//! Clocks that wake a waiting task once its deadline has come, and not before: `Timers` for any executor,
+//! with a thread of its own, and `ClockLoop` for tasks of one thread.
 #![tactic(auto)]
 
 pub mod clock_loop;

@@ -1,5 +1,5 @@
 //! Between nanoseconds and the ticks of timers.
-ghost use Rattle.std.specs.Prelude.{◌≡◌, ◌+◌, ◌-◌, ◌*◌, ◌<◌, ◌≤◌};
+ghost use Rattle.std.specs.Prelude.{◌+◌, ◌-◌, ◌*◌, ◌<◌, ◌≤◌};
 
 /// A tick is a microsecond: less than the system's own delay of a sleep. (tokio's is a millisecond, which
 /// would slow a rate limit of a thousand calls a second.)

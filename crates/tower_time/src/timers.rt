@@ -1,6 +1,5 @@
 //! Timers that a thread fires, and the clock whose tasks wait at them under any executor.
 ghost use Rattle.std.specs.Prelude.{◌≡◌, option_map};
-ghost use Rattle.std.specs.Arc.{arc_value};
 ghost use Rattle.futures.specs.Task.{Covers, Keeps};
 ghost use Rattle.tower_base.specs.SystemClock.{Read};
 ghost use Rattle.tower_time.specs.Clocks.{ClockView, Hears};
@@ -88,9 +87,8 @@ impl<R: rt::Clock + Copy> Timers<R> {
     /// Returns what the closure returned once that thread has ended.
     ///
     /// Tasks wait from the beginning of the call on, so none is polled again before the thread has begun.
-    /// If no thread can be made, tasks are polled again at once for the whole call; so they are in a
-    /// second call, since the first has closed the timers. Tasks that still wait at the end are polled
-    /// again then.
+    /// If no thread can be made, tasks are polled again at once for the whole call, as in any second
+    /// call, since the first has closed the timers. Tasks that still wait at the end are polled again then.
     pub fn beside<W, F, A>(&self, rt: &W, f: F) -> A
     where
         R: Sync,

@@ -1,9 +1,9 @@
--- A `LoadShed` may be called at any time.
-use Rattle.std.proofs.Common.{◌≡◌, true, Option, Some, None, Ok, Err, Result}
+-- A `LoadShed` may be called after each poll.
+use Rattle.std.proofs.Common.{◌≡◌, true, Ok, Err, Result}
 use Rattle.futures.specs.declared.task.Poll.{Poll}
 use Rattle.futures.specs.declared.task.Poll.TheVariants.{Ready, Pending}
 use Rattle.tower_base.specs.declared.service.Service.{Ghosts as ServiceOf}
-use Rattle.tower_ware.specs.LoadShed.{Called, IsClone, IsReady, LoadShedView, Polled, flag_of, initial}
+use Rattle.tower_ware.specs.LoadShed.{IsReady, LoadShedView, Polled, flag_of}
 use Rattle.tower_ware.specs.declared.load_shed.error.Error.{Error}
 
 module _ {S Q A E F : Type 0} (s : ServiceOf S Q A E F)
@@ -18,17 +18,3 @@ pub ready_after : {S Q A E F : Type 0} {s : ServiceOf S Q A E F}
     → ((before after : S) → s.polled before (Ready (Ok tt)) after → s.ready after) → (old : LoadShedView S)
     → (answer : Poll (Result (Unit {0}) (Error E))) (new : LoadShedView S) → Polled s old answer new → IsReady s new
 ready_after {s = s} readies old answer new p set = flagged s readies old.inner new.inner p.inner p.polled (rw p.flag at set)
-
--- after each call
-pub ready_called : {S Q A E F : Type 0} (s : ServiceOf S Q A E F) (old : LoadShedView S) (request : Q) (future : Option F) (new : LoadShedView S)
-    → Called s old request future new → IsReady s new
-ready_called s old request (Some future) new c set = absurd (let flag = c.3 in cc)
-ready_called s old request None new c set = absurd (let flag = c.0 in let same = c.1 in cc)
-
--- when it is new, and when it is a clone
-pub ready_new : {S Q A E F : Type 0} (s : ServiceOf S Q A E F) (inner : S) → IsReady s (initial inner)
-ready_new s inner set = absurd (cc set)
-
-pub ready_clone : {S Q A E F : Type 0} (s : ServiceOf S Q A E F) (is_clone : S → S → Type 0) (old clone : LoadShedView S)
-    → IsClone is_clone old clone → IsReady s clone
-ready_clone s is_clone old clone c set = absurd (let flag = c.1 in cc)

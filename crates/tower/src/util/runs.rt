@@ -56,7 +56,7 @@ where
 /// `block_on_each` does. The calls that reach the service below the limit are those that went through the
 /// limit, and they keep to its rate.
 ///
-/// The outer error means that the executor failed. The later requests aren't called then.
+/// The outer error means that the executor failed. The later requests aren't made then.
 pub fn block_on_each_within_rate<Request, Passed, W, S, C, R, F>(
     stack: &mut W,
     rt: &R,

@@ -26,9 +26,9 @@ const LONGEST: u64 = 1_000;
 ///
 /// Between two polls the thread sleeps until a waker wakes it. A task that was woken while it was polled, as
 /// by itself, is polled again at once. If it was woken in that poll too, the thread sleeps for 50 microseconds
-/// before the next one, then twice as long each time, and 1 millisecond at most, and may see a wake by another
-/// thread as late. That is so over a clock that can't wake a task (`Clock::wake_at`), and not over one that
-/// does.
+/// before the next one, then twice as long each time, 1 millisecond at most, and may see a wake by another
+/// thread that late. So it is over a clock that can't wake a task (`Clock::wake_at`), and if poll after poll
+/// ends by `TURNS`.
 #[derive(Drop)]
 pub struct Waiter {
     // It has one task, which is queued between two waits.
@@ -103,7 +103,7 @@ impl Waiter {
     /// answer to the closure before the next call, and goes on after an answer that is an error.
     ///
     /// The outer error means that the waiter failed, which it doesn't if it has memory. The later requests
-    /// aren't called then.
+    /// aren't made then.
     pub fn block_on_each<S, R, Request: Drop, F>(
         &mut self,
         rt: &R,

@@ -53,7 +53,7 @@ where
 /// Calls a borrowed service with each of the requests, in order, as `Waiter::block_on_each` does. Passes each
 /// answer to the closure before the next call, and goes on after an answer that is an error.
 ///
-/// The outer error means that the executor failed. The later requests aren't called then.
+/// The outer error means that the executor failed. The later requests aren't made then.
 pub fn block_on_each<S, R, Request: Drop, F>(
     service: &mut S,
     rt: &R,
@@ -74,7 +74,7 @@ where
 }
 
 /// Polls a future on this thread until it is ready, as `Waiter::block_on` does. The `block_on` of `futures`
-/// does so too, but polls a future that waits for a clock that can't wake it without sleeping in between.
+/// does so too, but doesn't sleep between polls over a clock that can't wake the task.
 pub fn block_on<R, F>(rt: &R, future: F) -> io::Result<F::Output>
 where
     R: Wait + RandomSource + AllocGlobal,

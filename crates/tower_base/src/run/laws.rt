@@ -25,7 +25,7 @@ where
         W.inside W.goes }
 {}
 
-/// Projections compose: a service inside of the service inside is itself inside.
+/// Projections that pass on each request once compose: what is inside of the inside is inside.
 pub fn compose<Request, S: Service<Request>, M: Service<Request>, I: Service<Request>>()
     ensures { (outside : S → M) (inside : M → I)
         → Projects (relations S.Service) (relations M.Service) outside Once

@@ -1,6 +1,5 @@
 //! The kit's plain futures as `Steps`.
 ghost use Rattle.std.specs.Prelude.{◌≡◌};
-ghost use Rattle.futures.specs.Poll.{IfReady};
 ghost use Rattle.tower_base.specs.Gives.{GivesOnly};
 ghost use Rattle.futures.specs.declared.task.Poll.TheVariants.{Pending};
 

@@ -15,7 +15,6 @@ use crate::buffer::reservation::ResponseState;
 use futures::future::Future;
 use futures::task::{Context, Poll};
 use std::marker::{Model, PhantomData};
-use std::mem;
 use tower_base::service::Steps;
 use tower_latch::Latch;
 

@@ -113,11 +113,11 @@ impl<Request: Drop, F: Drop, E: Clone> Core for MailCore<Request, F, E> {
 
     ghost counts = { no_places _ _ keeps_bound };
 
-    /// Makes a step, and names those who may go on: of several, as those who get places at once, whoever no
-    /// longer stalls. Open mail replies `Memory` to `Reserve` only if room was missing. `Take` reaches at most six entries, of the messages and
-    /// of the wait queue, for each message that leaves the queue, and any other step reaches at most six,
-    /// whatever is stored. Closing isn't counted: `WorkerGone` reaches every message, and `Fail` drops the wait
-    /// queue together with the count of its touches.
+    /// Makes a step, and names those who may go on: of several, whoever no longer stalls; all once the worker
+    /// is gone. Open mail replies `Memory` to `Reserve` only if room was missing. `Take` reaches at most six
+    /// entries, of the messages and of the wait queue, for each message that leaves the queue, and any other
+    /// step reaches at most six, whatever is stored. Closing isn't counted: `WorkerGone` reaches every message,
+    /// and `Fail` drops the wait queue together with the count of its touches.
     #[inline(always)]
     fn step(&mut self, step: MailStep<Request, F, E>) -> (MailReply<Request, F, E>, Wakes)
         ensures steps { StepsAs StandsFor MailSteps self.old step result.0 self.new }
@@ -165,8 +165,8 @@ impl<Request: Drop, F: Drop, E: Clone> Core for MailCore<Request, F, E> {
         }
     }
 
-    /// Returns whether whoever waits at this key would still be told to wait, of each key that one waiter
-    /// has alone: so a latch wakes those of several who no longer stall, and nobody else.
+    /// Returns whether the waiter at this key would still be told to wait, and `false` for the key that
+    /// several share: so a latch wakes those who no longer stall, and all at the shared key.
     fn is_stalled(&self, key: usize) -> bool
         ensures stalled { result ≡ true → stalls self.now key }
         ensures exact { key ≢ 2 ^ 64 - 1 → stalls self.now key → result ≡ true }

@@ -8,7 +8,7 @@ use crate::buffer::error::{Error, ServiceError};
 use crate::buffer::future::ResponseFuture;
 use crate::buffer::mail::{MailReply, MailStep};
 use crate::buffer::mail_core::{Mail, waited};
-use crate::buffer::reservation::{Reservation, ResponseState};
+use crate::buffer::reservation::Reservation;
 use futures::task::{Context, Poll};
 use std::alloc::AllocError;
 use std::marker::{Model, PhantomData};

@@ -19,8 +19,8 @@ use tower_latch::Latch;
 use tower_latch::held::Pollable;
 
 /// A future that takes one message after another, waits until the service is ready, and calls it: the
-/// Rust's `tower::buffer::Worker`. It is passed to an executor, and ends once no further message will
-/// come.
+/// Rust's `tower::buffer::worker::Worker`, whose module is private. It is passed to an executor, and ends
+/// once no further message will come.
 ///
 /// After a failure of the service each message that it takes gets that error. A poll makes at most
 /// `TURNS` iterations; then it is pending and has woken its own task. If a worker is dropped, the messages

@@ -1,5 +1,5 @@
 //! What sends requests.
-ghost use Rattle.std.specs.Prelude.{◌≡◌, ⊤, Result};
+ghost use Rattle.std.specs.Prelude.{⊤, Result};
 ghost use Rattle.futures.specs.Task.{IsArmed, Keeps};
 ghost use Rattle.futures.specs.Poll.{OnPending};
 ghost use Rattle.futures.specs.declared.task.Poll.{Poll};

@@ -1,5 +1,5 @@
 //! The wakers of the tasks that wait at one key.
-ghost use Rattle.std.specs.Prelude.{◌≡◌, ◌↔◌, ◌+◌, ◌∷◌, ◌++◌, List, [], IsSomeAnd, IsTrue, IfOk, OnErr, if◌then◌else◌, slice_get, length};
+ghost use Rattle.std.specs.Prelude.{◌≡◌, ◌↔◌, ◌+◌, List, [], IsSomeAnd, IsTrue, IfOk, OnErr, if◌then◌else◌, slice_get};
 ghost use Rattle.futures.specs.Task.{Hears, IsArmed, Keeps};
 ghost use Rattle.tower_latch.specs.Group.{members_of};
 ghost use Rattle.tower_latch.specs.Guarded.{IsKept, group, some};

@@ -1,5 +1,5 @@
 //! The wakers of waiting tasks, as the lock keeps them.
-ghost use Rattle.std.specs.Prelude.{◌≡◌, ◌⊎◌, ◌<◌, ◌++◌, ℕ, List, Option, [], ◌∷◌, None, true, IsTrue, OnOk, length};
+ghost use Rattle.std.specs.Prelude.{◌≡◌, ◌⊎◌, ◌<◌, ℕ, List, Option, [], None, true, IsTrue, OnOk, length};
 ghost use Rattle.futures.specs.Task.{Hears, IsArmed, Keeps};
 ghost use Rattle.tower_latch.specs.Guarded.{HandsOn, IsAlone, IsKept, IsSame, Takes, at, crowded, group};
 ghost use Rattle.tower_latch.specs.Wakes.{IsNamed, IsSpared};
@@ -130,8 +130,8 @@ impl Waiters {
         }
     }
 
-    // Takes all who are named, except those who are passed over, since they stall. The lists keep their
-    // capacity. If there is no memory for those who are taken, takes all.
+    // Takes all who are named, except those who are passed over, since they stall. A list of one waiter
+    // keeps its capacity. If there is no memory for those who are taken, takes all.
     #[inline(never)]
     fn take_several<C: Core>(&mut self, wakes: Wakes, core: &C, woken: &mut Woken)
         requires { (key : ℕ) → IsNamed wakes key }
@@ -146,9 +146,7 @@ impl Waiters {
                     return;
                 };
                 if let Some(group) = self.take_crowd(key) {
-                    let Ok(()) = groups.push(group) else {
-                        unreachable!();
-                    };
+                    groups.push_reserved(group);
                 }
             }
             key += 1;

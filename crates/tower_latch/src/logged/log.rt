@@ -1,12 +1,12 @@
 // The type parameter that names a log, and the table of its tokens.
-ghost use Rattle.std.specs.Prelude.{◌≡◌, ℕ, [], Option};
+ghost use Rattle.std.specs.Prelude.{◌≡◌, [], Option};
 ghost use Rattle.crossbeam_utils.specs.Seq.{cell_view};
 ghost use Rattle.atomic_table.specs.Seated.{TableId};
 ghost use Rattle.tower_latch.specs.Tokens.{knower};
 
 use crate::logged::rule::{Cell, PassToken};
 use std::alloc::{AllocError, Global};
-use std::marker::{Brand, Model, PhantomData};
+use std::marker::{Brand, Model};
 use std::sync::ledger::Ledger;
 
 /// A type that names one log: its ledger, the core that it opens with, and its table.

@@ -1,5 +1,5 @@
 //! The contents of a log's lock, and the passes with which threads make steps.
-ghost use Rattle.std.specs.Prelude.{◌≡◌, ℕ, ◌+◌, ◌<◌, List, [], ◌∷◌, ◌++◌, length, Some, IfOk, OnErr, vec_len, vec_capacity};
+ghost use Rattle.std.specs.Prelude.{◌≡◌, ℕ, ◌+◌, ◌<◌, List, [], ◌∷◌, ◌++◌, length, Some, IfOk, OnErr, vec_len};
 ghost use Rattle.std.specs.List.{sum_by, AllByRecursion};
 ghost use Rattle.crossbeam_utils.specs.Seq.{cell_view};
 ghost use Rattle.tower_latch.specs.History.{LeadsTo, IsLegal, Rises, EachFits, HaveOneEach, Weighs};
@@ -71,16 +71,6 @@ impl<C: Core, K: Log<C>> Model for Held<C, K> {
         × (h.rest.amount ≡ 0) };
 }
 
-fn push_in_room<T: Drop>(items: &mut Vec<T>, item: T)
-    requires { vec_len items.old < vec_capacity items.old }
-    ensures { items.new.items ≡ items.old.items ++ item ∷ [] }
-{
-    match items.push(item) {
-        Ok(()) => {}
-        Err(_) => unreachable!(),
-    }
-}
-
 impl<C: Core, K: Log<C>> Held<C, K>
 where
     C::Step: Copy,
@@ -108,8 +98,8 @@ where
         let (reply, _) = self.core.step(step);
         stamp(rt, cell, &mut self.keeper, &mut pass.token, step, reply);
         self.book.add(&mut pass.share, 1);
-        push_in_room(&mut self.history, (step, reply));
-        push_in_room(&mut pass.receipts, (place, step, reply));
+        self.history.push_reserved((step, reply));
+        pass.receipts.push_reserved((place, step, reply));
         Ok(Receipt { place, reply })
     }
 }

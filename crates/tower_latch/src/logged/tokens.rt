@@ -1,5 +1,5 @@
 // Operations on tokens. The keeper adds entries, and gathers the claims of passes to compare them.
-ghost use Rattle.std.specs.Prelude.{◌≡◌, ℕ, [], ◌∷◌, ◌++◌, length, true, Some};
+ghost use Rattle.std.specs.Prelude.{◌≡◌, [], ◌∷◌, ◌++◌, length, true, Some};
 ghost use Rattle.crossbeam_utils.specs.Seq.{cell_view, IsSamePass};
 ghost use Rattle.tower_latch.specs.History.{Stand};
 ghost use Rattle.tower_latch.specs.Tokens.{knower, claimer, gathered, Accounts};

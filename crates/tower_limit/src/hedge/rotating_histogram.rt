@@ -62,7 +62,8 @@ impl<L: Latch<HistoCore>, C: Clock> RotatingHistogram<L, C> {
         RotatingHistogram { latch, clock }
     }
 
-    /// Adds a latency in milliseconds, which is read in the present period.
+    /// Adds a latency in milliseconds, which is read in the present period. It is left out if allocation
+    /// fails or the period is full.
     pub fn seed(&mut self, millis: u64)
         ensures { Seeded L.gave C.Clock self.old millis self.new }
     {
@@ -90,8 +91,8 @@ impl<L: Latch<HistoCore>, C: Clock> RotatingHistogram<L, C> {
         }
     }
 
-    /// Returns the milliseconds that this fraction of the present period's latencies is at or below, or
-    /// 0 if there are no latencies.
+    /// Returns the milliseconds that this fraction of the latencies read in the present period is at or
+    /// below, or 0 if there are none.
     pub fn quantile(&mut self, part: Fraction) -> u64
         ensures { Ranked L.gave C.Clock self.old part result self.new }
     {

@@ -1,7 +1,5 @@
 //! When a request is no longer pending: the Rust's `tower::load::completion`.
 ghost use Rattle.std.specs.Prelude.{◌≡◌, ⊤, Some, IsSome};
-ghost use Rattle.futures.specs.Poll.{IfReady, OnPending};
-ghost use Rattle.futures.specs.Task.{Covers, Keeps};
 ghost use Rattle.tower_base.specs.Gives.{IsStep, MayGive};
 ghost use Rattle.tower_limit.specs.Completion.{TrackCompletionFutureView, Stepped};
 
@@ -29,14 +27,8 @@ pub trait TrackCompletion<H, V>: Copy {
 
 /// Drops the handle at once, so that a request is pending until its response is there: the Rust's
 /// `tower::load::completion::CompleteOnResponse`.
-#[derive(Clone, Copy, Debug, PartialEq, Eq)]
+#[derive(Clone, Copy, Debug, Default, PartialEq, Eq)]
 pub struct CompleteOnResponse;
-
-impl Default for CompleteOnResponse {
-    fn default() -> CompleteOnResponse {
-        CompleteOnResponse
-    }
-}
 
 impl<H: Drop, V: Drop> TrackCompletion<H, V> for CompleteOnResponse {
     type Output = V;

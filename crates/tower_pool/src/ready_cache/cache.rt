@@ -1,5 +1,5 @@
 //! The cache of endpoints.
-ghost use Rattle.std.specs.Prelude.{cond, ℕ, suc, None, ◌≡◌, ◌<◌, ◌+◌, ◌*◌, ◌≤◌, ◌++◌, ◌||◌, ◌↔◌, [], ◌∷◌, length, slice_get, is_some, true, false, Some, Err, IsTrue, IfSome, OnOk, OnErr, IfErr, IfOk, if◌then◌else◌};
+ghost use Rattle.std.specs.Prelude.{ℕ, suc, None, ◌≡◌, ◌<◌, ◌+◌, ◌*◌, ◌≤◌, ◌++◌, ◌||◌, ◌↔◌, [], ◌∷◌, length, slice_get, is_some, true, false, Some, Err, IsTrue, IfSome, OnOk, OnErr, IfErr, IfOk};
 ghost use Rattle.std.specs.List.{IsDistinct};
 ghost use Rattle.std.specs.Map.{keys_of, lookup};
 ghost use Rattle.std.specs.Map.Iter.{deref_pair};

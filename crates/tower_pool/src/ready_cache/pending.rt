@@ -1,5 +1,5 @@
 //! The endpoints that aren't ready yet, in the order of waiting.
-ghost use Rattle.std.specs.Prelude.{◌≡◌, ◌≢◌, cond, Some, None, ◌+◌, ◌*◌, ◌<◌, ◌≤◌, ◌^◌, ◌++◌, ◌&&◌, ◌||◌, not, [], ◌∷◌, false, true, length, is_some, IfErr, OnErr, OnOk, OnSome, IfNone, IfSome, if◌then◌else◌};
+ghost use Rattle.std.specs.Prelude.{◌≡◌, cond, Some, None, ◌+◌, ◌*◌, ◌<◌, ◌≤◌, ◌^◌, ◌++◌, ◌&&◌, ◌||◌, not, [], ◌∷◌, false, true, length, is_some, IfErr, OnErr, OnOk, OnSome, IfNone, IfSome, if◌then◌else◌};
 ghost use Rattle.std.specs.Option.{option_map_or};
 ghost use Rattle.tower_pool.specs.ReadyCache.{is_pending, cancel, put_back, pending_entry, Apart};
 ghost use Rattle.std.specs.Map.{lookup};

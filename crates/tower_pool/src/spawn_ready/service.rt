@@ -194,8 +194,8 @@ where
         Some(service.poll_ready(cx))
     }
 
-    // Makes the iterations of a poll, of which the first has polled the service already. It is a call, so
-    // that whoever polls a service that is ready saves no registers for it.
+    // Makes the iterations of a poll, of which the first has polled the service already. It isn't inlined,
+    // so that a poll of a service that is ready saves no registers for it.
     #[cold]
     #[inline(never)]
     fn go_on(&mut self, polled: Readiness<E>, cx: &mut Context<'_>) -> Poll<Result<(), Error<E>>>

@@ -1,8 +1,6 @@
 //! The future of the filter before a second request.
-ghost use Rattle.std.specs.Prelude.{◌≡◌, ⊤, ℕ};
-ghost use Rattle.futures.specs.Poll.{OnPending, IfReady};
+ghost use Rattle.std.specs.Prelude.{◌≡◌};
 ghost use Rattle.futures.specs.declared.future.made.pending.Pending.{Pending};
-ghost use Rattle.futures.specs.Task.{Covers, Keeps};
 ghost use Rattle.tower_base.specs.Gives.{IsStep, MayGive};
 ghost use Rattle.tower_retry.specs.HedgeCheck.{CanPoll, CheckStepped, Needs};
 ghost use Rattle.tower_retry.specs.declared.hedge.check.CheckState.{CheckState};

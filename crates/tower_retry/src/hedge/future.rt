@@ -1,7 +1,5 @@
 //! The future of a `Hedge`.
 ghost use Rattle.std.specs.Prelude.{◌≡◌};
-ghost use Rattle.futures.specs.Poll.{OnPending, IfReady};
-ghost use Rattle.futures.specs.Task.{Covers, Keeps};
 ghost use Rattle.tower_base.specs.Answers.{answered};
 ghost use Rattle.tower_base.specs.Gives.{IsStep, MayGive};
 ghost use Rattle.tower_retry.specs.Hedge.{Stepped, flat};

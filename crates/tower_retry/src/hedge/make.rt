@@ -1,5 +1,5 @@
 //! The constructors of `Hedge`.
-ghost use Rattle.std.specs.Prelude.{◌≡◌, ◌≢◌, IfOk, []};
+ghost use Rattle.std.specs.Prelude.{◌≢◌, IfOk, []};
 ghost use Rattle.tower_retry.specs.HedgeMade.{Made, NewAt, NewFrom};
 
 use crate::hedge::Hedge;
@@ -23,10 +23,10 @@ where
     R: Wait + Copy,
     C: Clock,
 {
-    /// Creates a `Hedge`. A second request is made if at least `min_data_points` latencies are known,
-    /// after the quantile `percentile` of them. They are the latencies of one `period`, which is in
-    /// nanoseconds. Requires that `period` is positive, which `RotatingHistogram::fits` tests. Reads the
-    /// clock once.
+    /// Creates a `Hedge`. If the policy allows it, a request is made again after the quantile `percentile`
+    /// of the latencies of the `period` (in nanoseconds) before the present one, if these are at least
+    /// `min_data_points`. Requires that `period` is positive, which `RotatingHistogram::fits` tests. Reads
+    /// the clock once.
     ///
     /// Returns an error and drops its arguments if allocation fails.
     pub fn new(
@@ -52,7 +52,7 @@ where
     }
 
     /// Creates a `Hedge` as `new` does, with latencies in milliseconds that are known in the first
-    /// period. Reads the clock once, and then once for each latency.
+    /// period; one without memory is left out. Reads the clock once, and then once for each latency.
     pub fn new_with_mock_latencies(
         rt: R,
         alloc: Global,

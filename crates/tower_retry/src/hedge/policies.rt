@@ -93,9 +93,7 @@ where
     /// Returns the copy that its own policy makes, or `None` if too few latencies are known. Doesn't read
     /// the clock if there is no copy.
     fn clone_request(&mut self, request: &Request) -> Option<Request> {
-        let Some(copy) = self.policy.clone_request(request) else {
-            return None;
-        };
+        let copy = self.policy.clone_request(request)?;
         if self.histogram.points() < self.min_data_points {
             return None;
         }

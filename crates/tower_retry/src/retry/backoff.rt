@@ -13,7 +13,8 @@ mod invalid;
 
 pub use invalid::InvalidBackoff;
 
-/// A maker of backoffs, one for each request that may be retried.
+/// A maker of backoffs, one for each request that may be retried: the Rust's
+/// `tower::retry::backoff::MakeBackoff`.
 pub trait MakeBackoff: Drop {
     /// The backoff that it creates.
     type Backoff: Backoff;
@@ -33,7 +34,7 @@ pub trait MakeBackoff: Drop {
         ensures sound { sound self.new };
 }
 
-/// A sequence of waits.
+/// A sequence of waits: the Rust's `tower::retry::backoff::Backoff`.
 pub trait Backoff: Drop {
     /// A wait.
     type Future: Steps<Output = ()>;

@@ -9,10 +9,11 @@ pub mod tps_budget;
 
 pub use budget_core::BudgetCore;
 pub use laws::law;
-pub use steps::{Amount, BudgetReply, BudgetStep, Terms};
+pub use steps::{BudgetReply, BudgetStep, Terms};
 pub use tps_budget::TpsBudget;
 
-/// A budget from which retries are paid. (The Rust's methods take `&self`; here a clock is read.)
+/// A budget from which retries are paid: the Rust's `tower::retry::budget::Budget`. (Its methods take
+/// `&self`; here a clock is read.)
 pub trait Budget: Drop {
     // A deposit may leave the second value. If left out, it isn't known what is kept of it.
     ghost deposited: { Self → Self → Type 0 } = { λ _ _. ⊤ };

@@ -1,6 +1,6 @@
 //! The future of a `Retry`.
 ghost use Rattle.std.specs.Prelude.{◌≡◌, Some, None, Option, IfSome, IsSome};
-ghost use Rattle.futures.specs.Poll.{IfReady, OnPending};
+ghost use Rattle.futures.specs.Poll.{OnPending};
 ghost use Rattle.futures.specs.Task.{Covers, Keeps};
 ghost use Rattle.futures.specs.declared.task.Poll.TheVariants.{Pending, Ready};
 ghost use Rattle.tower_base.specs.Gives.{IsStep, MayGive};
@@ -18,7 +18,8 @@ use std::marker::Model;
 use tower_base::iterations::TURNS;
 use tower_base::service::{Service, Steps};
 
-/// The future of a `Retry`, which resolves to a response after as many calls as the policy requires.
+/// The future of a `Retry`, with as many calls as the policy requires: the Rust's
+/// `tower::retry::future::ResponseFuture`.
 ///
 /// A result, the end of a wait and a call take one iteration each. A poll makes at most `TURNS` iterations; then it is
 /// pending and has woken its own task.

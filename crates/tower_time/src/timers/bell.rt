@@ -1,5 +1,5 @@
 //! What wakes the thread of the timers.
-ghost use Rattle.std.specs.Prelude.{◌≡◌, true, false};
+ghost use Rattle.std.specs.Prelude.{◌≡◌, false};
 
 use std::sync::{Condvar, Wait};
 use std::time::Duration;

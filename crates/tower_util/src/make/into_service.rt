@@ -3,12 +3,13 @@ ghost use Rattle.std.specs.Prelude.{◌≡◌};
 ghost use Rattle.tower_base.specs.ProjectionLemmas.{composed_once, forwards};
 
 use futures::task::{Context, Poll};
+use std::alloc::AllocError;
 use std::marker::{Model, PhantomData};
 use tower_base::run::Contains;
 use tower_base::service::Service;
 
 /// A maker as a service. It is the Rust's `tower::make::IntoService`.
-#[derive(Clone, Drop)]
+#[derive(Drop)]
 pub struct IntoService<M, Request> {
     make: M,
     request: PhantomData<Request>,
@@ -28,6 +29,16 @@ impl<M, Request> IntoService<M, Request> {
             make,
             request: PhantomData,
         }
+    }
+}
+
+impl<M: Clone, Request> Clone for IntoService<M, Request> {
+    ghost is_clone = { M.is_clone };
+
+    ghost is_infallible = { M.is_infallible };
+
+    fn clone(&self) -> Result<IntoService<M, Request>, AllocError> {
+        Ok(IntoService::new(self.make.clone()?))
     }
 }
 

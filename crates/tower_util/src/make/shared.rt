@@ -1,5 +1,5 @@
 //! A maker that returns clones of one service.
-ghost use Rattle.std.specs.Prelude.{◌≡◌, Option, Some, None, IsSome, Ok, Result};
+ghost use Rattle.std.specs.Prelude.{◌≡◌, Option, Some, IsSome, Ok, Result};
 ghost use Rattle.futures.specs.declared.task.Poll.TheVariants.{Ready};
 ghost use Rattle.tower_base.specs.Gives.{IsStep, MayGive};
 ghost use Rattle.tower_base.specs.Projection.{Never, Projects};

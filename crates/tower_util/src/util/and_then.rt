@@ -163,6 +163,7 @@ where
         if let Chain::First(first, f) = &mut self.state {
             let result = ready!(first.step(cx));
             let f = *f;
+            // The first future is dropped before the closure is called.
             self.state = Chain::Done;
             match result {
                 Ok(response) => self.state = Chain::Second(f(response)),

@@ -85,7 +85,7 @@ impl<T: Service<Request>, Request: Drop> Steps for ReadyOneshot<T, Request> {
 }
 
 /// A future that waits until a borrowed service is ready, and returns the borrow. It is the Rust's
-/// `tower::util::Ready`. After an error, nothing is known of the service through this future.
+/// `tower::util::Ready`. After an error it keeps the borrow, of a service that is still sound.
 #[derive(Drop)]
 pub struct Ready<'a, T, Request> {
     service: Option<&'a mut T>,

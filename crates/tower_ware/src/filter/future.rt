@@ -1,5 +1,5 @@
 //! The futures of the filters.
-ghost use Rattle.std.specs.Prelude.{◌≡◌, ⊤, Ok, Err};
+ghost use Rattle.std.specs.Prelude.{◌≡◌, Ok, Err};
 ghost use Rattle.tower_base.specs.Gives.{IsStep, MayGive};
 ghost use Rattle.tower_ware.specs.Filter.{AsyncResponseFutureCanPoll, AsyncResponseFutureStepped, ResponseFutureCanPoll, ResponseFutureStepped, async_response_future_needs, response_future_needs};
 ghost use Rattle.tower_ware.specs.declared.filter.state.State.{State};
@@ -16,7 +16,8 @@ use std::marker::Model;
 use std::mem;
 use tower_base::service::{Service, Steps};
 
-/// The future of a `Filter`, which resolves to the inner response or to the predicate's error.
+/// The future of a `Filter`, which resolves to the inner response or to the predicate's error: the Rust's
+/// `tower::filter::future::ResponseFuture`.
 ///
 /// The inner future is dropped once it is ready.
 #[derive(Drop)]
@@ -82,9 +83,10 @@ impl<A, E, P: Drop, F: Steps<Output = Result<A, E>>> Steps for ResponseFuture<F,
     }
 }
 
-/// The future of an `AsyncFilter`, which resolves to the inner response or to the predicate's error.
+/// The future of an `AsyncFilter`, which resolves to the inner response, a rejection or `Memory`: the
+/// Rust's `tower::filter::future::AsyncResponseFuture`.
 ///
-/// It holds the service that was polled, and calls it once the check returns `Ok`.
+/// Unless cloning failed, it holds the service that was polled, and calls it once the check returns `Ok`.
 #[derive(Drop)]
 pub struct AsyncResponseFuture<C, S, F> {
     state: AsyncState<C, S, F>,

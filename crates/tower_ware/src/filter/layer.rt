@@ -7,7 +7,8 @@ use std::alloc::AllocError;
 use std::marker::Model;
 use tower_base::layer::Layer;
 
-/// A layer that wraps a service in a `Filter` with a clone of the predicate.
+/// A layer that wraps a service in a `Filter` with a clone of the predicate: the Rust's
+/// `tower::filter::FilterLayer`.
 #[derive(Drop)]
 pub struct FilterLayer<U> {
     predicate: U,
@@ -51,7 +52,8 @@ impl<U: Clone> Clone for FilterLayer<U> {
     }
 }
 
-/// A layer that wraps a service in an `AsyncFilter` with a clone of the predicate.
+/// A layer that wraps a service in an `AsyncFilter` with a clone of the predicate: the Rust's
+/// `tower::filter::AsyncFilterLayer`.
 #[derive(Drop)]
 pub struct AsyncFilterLayer<U> {
     predicate: U,

@@ -4,7 +4,8 @@ ghost use Rattle.std.specs.Prelude.{◌≡◌, ⊤, Result};
 use std::marker::Model;
 use tower_base::service::Steps;
 
-/// A predicate, which checks a request and may turn it into another one.
+/// A predicate, which checks a request and may turn it into another one: the Rust's
+/// `tower::filter::Predicate`.
 pub trait Predicate<Request>: Drop {
     type Request;
 
@@ -25,7 +26,7 @@ pub trait Predicate<Request>: Drop {
         ensures sound { sound self.new };
 }
 
-/// A predicate that checks a request with a future.
+/// A predicate that checks a request with a future: the Rust's `tower::filter::AsyncPredicate`.
 pub trait AsyncPredicate<Request>: Drop {
     type Request;
 

@@ -2,7 +2,8 @@
 
 use std::fmt::Display;
 
-/// The error of a call that is refused because the inner service wasn't ready.
+/// The error of a call that is refused because the inner service wasn't ready: the Rust's
+/// `tower::load_shed::error::Overloaded`.
 #[derive(Clone, Copy, Debug, Default, PartialEq, Eq, thiserror::Error)]
 #[error("service overloaded")]
 pub struct Overloaded;

@@ -6,7 +6,8 @@ use crate::load_shed::LoadShed;
 use std::alloc::AllocError;
 use tower_base::layer::Layer;
 
-/// A layer that wraps a service in a `LoadShed`. It allocates nothing.
+/// A layer that wraps a service in a `LoadShed`: the Rust's `tower::load_shed::LoadShedLayer`. It allocates
+/// nothing.
 #[derive(Clone, Copy, Debug, Default, PartialEq, Eq)]
 pub struct LoadShedLayer;
 

@@ -1,5 +1,5 @@
 //! The future of a `Reconnect`.
-ghost use Rattle.std.specs.Prelude.{◌≡◌, ⊤};
+ghost use Rattle.std.specs.Prelude.{◌≡◌};
 ghost use Rattle.tower_base.specs.Gives.{IsStep, MayGive};
 ghost use Rattle.tower_ware.specs.Reconnect.{CanPoll, Stepped, needs_of};
 ghost use Rattle.tower_ware.specs.declared.reconnect.state.Reply.{Reply};
@@ -12,7 +12,7 @@ use std::marker::Model;
 use tower_base::service::Steps;
 
 /// The future of a `Reconnect`, which resolves to the connection's response or to the error of a connect:
-/// the Rust's `tower::reconnect::future::ResponseFuture`.
+/// the Rust's `tower::reconnect::ResponseFuture`.
 #[derive(Drop)]
 pub struct ResponseFuture<F, E> {
     reply: Reply<F, E>,

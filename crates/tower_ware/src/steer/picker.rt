@@ -1,7 +1,8 @@
 //! The pickers of `Steer`.
 ghost use Rattle.std.specs.Prelude.{◌≡◌, ◌<◌, ⊤, ℕ, List, length};
 
-/// A picker, which chooses a service for a request. The index that it returns is inside the list.
+/// A picker, which chooses a service for a request: the Rust's `tower::steer::Picker`. The index that it
+/// returns is inside the list.
 pub trait Picker<S, Req>: Drop {
     // Holds after construction and is preserved by every pick.
     ghost sound: { Self → Type 0 } = { λ _. ⊤ };

@@ -1,10 +1,10 @@
 //! The errors of a `Timeout`.
 
 use std::fmt::Display;
-use std::{error, fmt};
 
 /// The error of a response that takes too long: the Rust's `tower::timeout::error::Elapsed`.
-#[derive(Clone, Copy, Debug, PartialEq, Eq)]
+#[derive(Clone, Copy, Debug, Default, PartialEq, Eq, thiserror::Error)]
+#[error("request timed out")]
 pub struct Elapsed;
 
 impl Elapsed {
@@ -13,20 +13,6 @@ impl Elapsed {
         Elapsed
     }
 }
-
-impl Default for Elapsed {
-    fn default() -> Elapsed {
-        Elapsed::new()
-    }
-}
-
-impl Display for Elapsed {
-    fn fmt<W: fmt::Write>(&self, f: &mut fmt::Formatter<W>) -> fmt::Result {
-        f.write_str("request timed out")
-    }
-}
-
-impl error::Error for Elapsed {}
 
 /// The error of a `Timeout`, in place of the Rust's boxed one.
 #[derive(Clone, Debug, Drop, PartialEq, Eq, thiserror::Error)]

@@ -20,7 +20,7 @@ pub struct HistoCore {
 }
 
 impl HistoCore {
-    ghost use Rattle.std.specs.Prelude.{◌≡◌, ◌<◌, IsTrue, ◌↔◌};
+    ghost use Rattle.std.specs.Prelude.{◌<◌, IsTrue, ◌↔◌};
     ghost use Rattle.tower_latch.specs.Latch.{FollowsMachine};
     ghost use Rattle.tower_limit.specs.Histogram.{Steps, initial, rotated};
     ghost use Rattle.tower_limit.specs.declared.hedge.rotating_histogram.steps.HistoStep.TheVariants.{Record, Seed, Points, Quantile};

@@ -5,7 +5,7 @@ ghost use Rattle.tower_base.specs.Answers.{answered};
 use futures::task::Poll;
 use std::fmt::Display;
 
-/// The error of a `ConcurrencyLimit`, in place of the Rust's boxed one.
+/// The error of a `ConcurrencyLimit`. The Rust has the inner service's error instead.
 #[derive(Clone, Debug, Drop, PartialEq, Eq, thiserror::Error)]
 #[error_bound(E: Display)]
 pub enum Error<E> {

@@ -1,7 +1,5 @@
 //! The response of a `ConcurrencyLimit`.
 ghost use Rattle.std.specs.Prelude.{◌≡◌};
-ghost use Rattle.futures.specs.Poll.{IfReady, OnPending};
-ghost use Rattle.futures.specs.Task.{Covers, Keeps};
 ghost use Rattle.tower_base.specs.Gives.{IsStep, MayGive};
 ghost use Rattle.tower_limit.specs.Concurrency.{ResponseFutureView, Stepped};
 

@@ -182,8 +182,8 @@ impl Core for LineCore {
     // Who waits without a grant is told to wait.
     ghost stalls = { λ core key. queue_stalls core.queue key };
 
-    /// Makes a step, which reaches at most six entries of the queue. Names the one waiter that may look
-    /// again, if there is one.
+    /// Makes a step, which reaches at most six entries of the queue. Names at most one waiter: one that may
+    /// look again, or one that left.
     #[inline(always)]
     fn step(&mut self, step: LineStep) -> (LineReply, Wakes)
         ensures steps { StepsAs StandsFor LineSteps self.old step result.0 self.new }

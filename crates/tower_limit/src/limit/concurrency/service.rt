@@ -20,7 +20,7 @@ use tower_base::run::Contains;
 use tower_base::service::Service;
 use tower_latch::{Guarded, Latch};
 
-/// A service that makes a call only with a permit of its semaphore.
+/// Makes a call only with a permit of its semaphore: the Rust's `tower::limit::ConcurrencyLimit`.
 ///
 /// `poll_ready` acquires the permit. The call moves it into the response future, which gives it back
 /// when it is dropped. A `ConcurrencyLimit` that is dropped while it waits leaves the line, and so

@@ -2,7 +2,7 @@
 //! beside `Rate` here.
 ghost use Rattle.std.specs.Prelude.{◌≡◌, ◌≢◌, ◌↔◌, IsTrue};
 
-/// A rate of `num` calls in `per` nanoseconds.
+/// A rate of `num` calls in `per` nanoseconds: the Rust's `tower::limit::rate::Rate`.
 #[derive(Clone, Copy, Debug, PartialEq, Eq)]
 pub struct Rate {
     pub num: u64,

@@ -1,5 +1,5 @@
 //! The call moments of a rate limit.
-ghost use Rattle.std.specs.Prelude.{◌≡◌, ◌≢◌, ◌≤◌, ◌<◌, ℕ, true, false, length, nat_eq, nat_le, IfOk, IsErr};
+ghost use Rattle.std.specs.Prelude.{◌≡◌, ◌≤◌, ◌<◌, ℕ, true, false, length, nat_eq, nat_le, IfOk, IsErr};
 ghost use Rattle.tower_limit.specs.Rate.{RateCoreView, Calls, StandsFor, Stands, initial, is_limited, admits, may_call, after_poll, after_call};
 
 use crate::limit::rate::Rate;
@@ -96,7 +96,7 @@ impl RateCore {
         self.admitted
     }
 
-    /// Counts a call. The next one isn't admitted.
+    /// Counts a call. No poll has admitted the next one.
     pub fn call(&mut self, moment: u64)
         requires { Stands self.old (λ plain. may_call plain ≡ true) }
         ensures { (plain : Calls) → StandsFor self.old plain

@@ -36,7 +36,8 @@ impl<Request, S: Service<Request>, C: Clock> Contains<Request, Request, RateLimi
 }
 
 /// Drives a stack that contains a rate limit over a monotonic clock, as `drive` does. The calls that
-/// reach the service below the limit are those that went through the limit, and they keep to its rate.
+/// reach the service below the limit are those that went through the limit. If it had no call before, they
+/// keep to its rate.
 pub fn drive_within_rate<Request, Passed, W, S, C, T, U, O>(
     alloc: Global,
     cx: &mut Context<'_>,

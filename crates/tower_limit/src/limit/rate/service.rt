@@ -12,9 +12,9 @@ use std::alloc::{AllocError, Global};
 use std::marker::Model;
 use tower_base::service::{Clock, Service};
 
-/// Accepts at most `num` calls in any half-open interval of length `per`: the Rust's
-/// `tower::limit::RateLimit`, but its windows slide. If a poll is pending because of the limit itself,
-/// the clock has the task polled again once the limit lets a poll admit a call (`Clock::wake_at`).
+/// Accepts at most `num` calls in any half-open interval of length `per`, unless the clock goes back: the
+/// Rust's `tower::limit::RateLimit`, but with windows that slide. If a poll is pending because of the limit
+/// itself, the clock has the task polled again once the limit lets a poll admit a call (`Clock::wake_at`).
 ///
 /// The clock is passed in. A poll after `num` or more calls reads it once, and a call reads it once,
 /// before the inner poll or call. Neither allocates: `new` allocates the room for the last `num` call

@@ -22,8 +22,8 @@ use tower_latch::{Guarded, Latch};
 /// A service whose load is the number of its pending requests: the Rust's
 /// `tower::load::pending_requests::PendingRequests`.
 ///
-/// A request is pending from its call until the handle that is passed to its completion is dropped, or,
-/// after an error, until its future is dropped.
+/// A request is pending from its call until the handle that is passed to its completion is dropped, or, if
+/// it gets no response, until its future is dropped.
 #[derive(Drop)]
 pub struct PendingRequests<S, L, C = CompleteOnResponse> {
     service: S,

@@ -1,5 +1,5 @@
 //! The parts of a balancer's poll that concern only its endpoints.
-ghost use Rattle.std.specs.Prelude.{◌≡◌, ◌<◌, OnOk, length};
+ghost use Rattle.std.specs.Prelude.{◌<◌, OnOk, length};
 ghost use Rattle.futures.specs.Task.{Keeps};
 ghost use Rattle.tower_pool.specs.Balance.{IsLighter, Picked, Promotes};
 ghost use Rattle.tower_pool.specs.ReadyCache.{At, HeardFrom, Sound};

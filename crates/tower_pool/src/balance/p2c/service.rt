@@ -192,16 +192,12 @@ where
             (self.new.is_over ≡ false → (s : ℕ) → D.needs self.new.discover s → Hears cx.new s) }
         ensures kept { Keeps cx.old cx.new }
     {
-        match self.change.take() {
-            None => self.read_all(cx),
-            Some((key, service)) => match self.services.push(key, service) {
-                Ok(()) => self.read_all(cx),
-                Err(back) => {
-                    self.change = Some(back);
-                    Err(Error::Memory)
-                }
-            },
+        if let Some((key, service)) = self.change.take() {
+            if let Some(answer) = self.insert(key, service) {
+                return answer;
+            }
         }
+        self.read_all(cx)
     }
 }
 

@@ -1,6 +1,6 @@
 //! The future of a `Delay`.
-ghost use Rattle.std.specs.Prelude.{◌≡◌, ⊤, Option, IfSome};
-ghost use Rattle.futures.specs.Poll.{OnPending, IfReady};
+ghost use Rattle.std.specs.Prelude.{◌≡◌};
+ghost use Rattle.futures.specs.Poll.{OnPending};
 ghost use Rattle.futures.specs.Task.{Covers, Keeps};
 ghost use Rattle.tower_base.specs.Gives.{IsStep, MayGive};
 ghost use Rattle.tower_base.specs.Sleep.{SleepView};

@@ -1,7 +1,5 @@
 //! The future of a `Latency`.
 ghost use Rattle.std.specs.Prelude.{◌≡◌, Option, IfSome};
-ghost use Rattle.futures.specs.Poll.{OnPending, IfReady};
-ghost use Rattle.futures.specs.Task.{Covers, Keeps};
 ghost use Rattle.tower_base.specs.Gives.{IsStep, MayGive};
 ghost use Rattle.tower_retry.specs.Latency.{ResponseFutureView, Stepped};
 

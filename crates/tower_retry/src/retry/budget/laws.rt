@@ -17,8 +17,8 @@ ghost use Rattle.tower_retry.specs.BudgetWindows.{CountsForTenWindows};
 ///
 /// While readings never go back, a deposit counts at every moment up to ten windows after it, and at none
 /// from eleven windows on. So whenever a retry is allowed, it and the retries of the ten windows before it
-/// cost at most the reserve and what the successes of the last eleven windows brought: over every run, at
-/// each latch with these terms, and in the history of a log.
+/// cost at most the reserve and what the successes of the last eleven windows brought: over every run of
+/// small amounts in fewer than 2^80 steps, at each latch with these terms, and in the history of a log.
 pub fn law()
     ensures follows { IsRun StandsFor Steps }
     ensures sums { SumsKept }

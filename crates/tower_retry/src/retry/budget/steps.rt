@@ -17,13 +17,6 @@ pub enum BudgetReply {
     Allowed(bool),
 }
 
-/// An amount that was added in one generation, or taken if it is below 0.
-#[derive(Clone, Copy, Debug, PartialEq, Eq)]
-pub struct Amount {
-    pub generation: u64,
-    pub amount: i128,
-}
-
 /// The terms of a budget: the amounts of a deposit and of a withdrawal, the reserve, which is always
 /// there, and the length of a generation in nanoseconds.
 #[derive(Clone, Copy, Debug, PartialEq, Eq)]

@@ -27,9 +27,9 @@ impl<L: Latch<BudgetCore>, C> Model for TpsBudget<L, C> {
 
 impl<R: Wait + Copy, C: Clock> TpsBudget<Guarded<BudgetCore, R>, C> {
     /// Creates a budget. A deposit counts for ten windows at least and less than eleven, each a tenth
-    /// of `ttl` nanoseconds, rounded down. The reserve covers `min_per_sec` retries for each second of
-    /// `ttl`; besides it the fraction `retries` of the successes is allowed. Requires what `fits` tests.
-    /// Reads the clock once.
+    /// of `ttl` nanoseconds, rounded down. The reserve covers `min_per_sec` retries for each whole second of
+    /// `ttl`; besides it a success pays for `retries` retries, but the price of a retry is rounded down
+    /// (2/3 is as 1/1). Requires what `fits` tests. Reads the clock once.
     ///
     /// Returns an error and drops the clock if allocating the core fails.
     pub fn new(

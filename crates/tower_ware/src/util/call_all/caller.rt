@@ -1,7 +1,7 @@
 //! What both streams of calls have in common.
-ghost use Rattle.std.specs.Prelude.{◌≡◌, IsSomeAnd, IfSome, OnSome, false};
+ghost use Rattle.std.specs.Prelude.{◌≡◌, IsSomeAnd, IfSome, false};
 ghost use Rattle.futures.specs.Task.{IsArmed, Keeps};
-ghost use Rattle.futures.specs.Poll.{IfReady, OnPending};
+ghost use Rattle.futures.specs.Poll.{OnPending};
 ghost use Rattle.tower_ware.specs.CallAll.{Called, Flowed, GoesOn, Iteration, view_of};
 ghost use Rattle.tower_base.specs.LastIteration.{AnsweredOrWoken};
 

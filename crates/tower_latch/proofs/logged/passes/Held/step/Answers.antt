@@ -11,7 +11,7 @@ invariant_of-self-2 g c =
     let i = c.self.invariant in
     let t = c.stamp.ensures in
     let old = c.self.inside.history.items in
-    let now : c.push_in_room.new.items.items ≡ old ++ (c.args.step, c.step-reply.result.0) ∷ [] = c.push_in_room.ensures ∙ ap (λ l. l ++ (c.args.step, c.step-reply.result.0) ∷ []) c.in_ok-reserve.ensures.items in (
+    let now : c.push_reserved.new.self.items ≡ old ++ (c.args.step, c.step-reply.result.0) ∷ [] = c.push_reserved.ensures.items ∙ ap (λ l. l ++ (c.args.step, c.step-reply.result.0) ∷ []) c.in_ok-reserve.ensures.items in (
       subst (λ h. LeadsTo g.C.Core.opens g.C.Core.steps g.K.Log.opening h c.step-reply.new.self) (sym now) (legal_on _ _ _ _ _ _ _ _ i.0 c.step-reply.ensures.steps),
       c.add.ensures.total ∙ length_on old (c.args.step, c.step-reply.result.0) _ i.1 ∙ ap length (sym now),
       t.same.0 ∙ i.2,
@@ -28,7 +28,7 @@ invariant_of-pass-2 g c =
     let old = c.pass.inside.receipts.items in
     let place : c.len-place.result ≡ length c.self.inside.history.items = c.len-place.ensures ∙ c.in_ok-reserve.ensures.len ∙ c.self.inside.history.ok.0 in
     let entry : ℕ × g.row.C-Step.Denot × g.row.C-Reply.Denot = (c.len-place.result, c.args.step, c.step-reply.result.0) in
-    let now : c.push_in_room-2.new.items.items ≡ old ++ entry ∷ [] = c.push_in_room-2.ensures ∙ ap (λ l. l ++ entry ∷ []) c.in_ok-reserve-2.ensures.items in
+    let now : c.push_reserved-2.new.self.items ≡ old ++ entry ∷ [] = c.push_reserved-2.ensures.items ∙ ap (λ l. l ++ entry ∷ []) c.in_ok-reserve-2.ensures.items in
     let all = ap (λ (v : View g.row.C-Step.Denot g.row.C-Reply.Denot). v.all) i.3 in
     let claims = ap (λ (v : View g.row.C-Step.Denot g.row.C-Reply.Denot). v.claims) j.3 in
     let stand : Stand c.self.inside.history.items old = subst (λ l. Stand l old) all (subst (Stand (cell_view c.self.inside.keeper).all) claims t.stand) in (
