@@ -18,6 +18,7 @@ EDIT = "edit: {0}\nfunction: {0}\nfile: src/lib.rt\nold:     of_{0}\nnew:     0\
 ONE, TWO, ANY, GONE = map(EDIT.format, ("one", "two", "any", "gone"))
 SAME, OWN, ODD = ONE.replace("one\n", "same\n", 1), TWO.replace("two\n", "own alone\n", 1), TWO.replace("func", "odd")
 LAW, PROVED = ONE.replace("function: one", "function: two\nproved: one"), "fn one: proved\nfn two: no proof\nonly="
+LEMMA = f"specs/A.antt:9:5: error: 1 declaration that depends on `b`, which was rejected, was not checked: c\n{PROVED}"
 UNREAD = "src/lib.rt:9:5: error: `nothing` is not in scope\nfn one: no proof\nfn two: no proof\nonly="
 CALLS = "fn tiny::one: not proved; it calls `tiny::two`\nfn tiny::two: no proof\nonly="
 # Edits; what the first checks say, if not what the stand-in says anyway; the answers; and the functions of each check.
@@ -32,6 +33,7 @@ CASES = {
     "could not tell": (ONE, ["fn one: could not tell\nonly="], "one: NOT REFUSED", "one"),
     "cut off twice": (ONE, ["", ""], "one: BAD EDIT", "one/one"),
     "a law": (LAW, [PROVED], "one: refused", "two one"),
+    "a law whose lemma is rejected": (LAW, [LEMMA], "one: refused", "two one"),
     "a law of a body that is not proved": (LAW, [], "one: BAD EDIT", "two one"),
 }
 
