@@ -32,16 +32,6 @@ impl<M, Request> IntoService<M, Request> {
     }
 }
 
-impl<M: Clone, Request> Clone for IntoService<M, Request> {
-    ghost is_clone = { M.is_clone };
-
-    ghost is_infallible = { M.is_infallible };
-
-    fn clone(&self) -> Result<IntoService<M, Request>, AllocError> {
-        Ok(IntoService::new(self.make.clone()?))
-    }
-}
-
 impl<M, S, Target, Request> Service<Target> for IntoService<M, Request>
 where
     M: Service<Target, Response = S>,
@@ -90,4 +80,14 @@ where
     ghost projects = { composed_once _ _ _ (λ m. m) M.inside M.goes
         (forwards _ _ (λ m. m) (λ _ _ answer p. (answer, p)) (λ _ _ _ future c. (future, c.0, c.1)))
         M.projects };
+}
+
+impl<M: Clone, Request> Clone for IntoService<M, Request> {
+    ghost is_clone = { M.is_clone };
+
+    ghost is_infallible = { M.is_infallible };
+
+    fn clone(&self) -> Result<IntoService<M, Request>, AllocError> {
+        Ok(IntoService::new(self.make.clone()?))
+    }
 }
