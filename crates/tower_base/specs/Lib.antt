@@ -17,6 +17,8 @@ pub mod Iterations
 pub mod IterationsLemmas
 pub mod Projection
 pub mod ProjectionLemmas
+pub mod Quiet
+pub mod QuietLemmas
 pub mod Rng
 pub mod ServiceRun
 pub mod Sleep

@@ -1,6 +1,7 @@
 //! Services, the futures and streams that they use, clocks and executors.
 ghost use Rattle.std.specs.Prelude.{◌≡◌, ◌≢◌, ◌⊎◌, ⊤, ℕ, true, Result, Ok, ◌↔◌, IsTrue, IfErr, OnSome, Option};
 ghost use Rattle.futures.specs.Task.{Covers, Hears, Keeps, IsArmed};
+ghost use Rattle.tower_base.specs.Quiet.{Quiet};
 ghost use Rattle.futures.specs.Poll.{OnPending, IfReady};
 ghost use Rattle.futures.specs.declared.task.context.Context.{Context};
 ghost use Rattle.futures.specs.declared.task.Poll.{Poll};
@@ -39,6 +40,10 @@ pub trait Steps: Drop {
     // it returns.
     ghost stepped: { Self → Poll Self.Output → Self → Type 0 } = { λ _ _ _. ⊤ };
 
+    // A poll that led from the first value to the second may have asked for another poll. If this is left
+    // out, it isn't known when.
+    ghost stirs: { Self → Self → Type 0 } = { λ _ _. ⊤ };
+
     /// Polls the future once. `Future::poll` is this call.
     fn step(&mut self, cx: &mut Context<'_>) -> Poll<Self::Output>
         requires { can_poll self.old }
@@ -47,6 +52,8 @@ pub trait Steps: Drop {
         // asked for another poll.
         ensures again { OnPending result (can_poll self.new) }
         ensures registered { OnPending result (Covers cx.new (needs self.new)) }
+        // It asks for another poll only for a cause that it names.
+        ensures quiet { Quiet (stirs self.old self.new) cx.old cx.new }
         ensures kept { Keeps cx.old cx.new };
 }
 
@@ -56,6 +63,10 @@ pub trait Flow: Stream {
     // it returns.
     ghost flowed: { Self → Poll (Option Self.Item) → Self → Type 0 } = { λ _ _ _. ⊤ };
 
+    // A poll that led from the first value to the second may have asked for another poll. If this is left
+    // out, it isn't known when.
+    ghost stirs: { Self → Self → Type 0 } = { λ _ _. ⊤ };
+
     /// Polls the stream once. `Stream::poll_next` is this call.
     fn flow(&mut self, cx: &mut Context<'_>) -> Poll<Option<Self::Item>>
         requires { Self.can_poll self.old }
@@ -63,6 +74,8 @@ pub trait Flow: Stream {
         ensures goes { IfReady result (λ item. OnSome item (Self.can_poll self.new)) }
         ensures again { OnPending result (Self.can_poll self.new) }
         ensures registered { OnPending result (Covers cx.new (Self.needs self.new)) }
+        // It asks for another poll only for a cause that it names.
+        ensures quiet { Quiet (stirs self.old self.new) cx.old cx.new }
         ensures kept { Keeps cx.old cx.new };
 }
 
@@ -91,6 +104,10 @@ pub trait Service<Request>: Drop {
     // known where it waits.
     ghost needs: { Self → ℕ → Type 0 } = { λ _ _. ⊥ };
 
+    // A poll of readiness that led from the first value to the second may have asked for another poll. If
+    // this is left out, it isn't known when.
+    ghost stirs: { Self → Self → Type 0 } = { λ _ _. ⊤ };
+
     // A call with the request may return this future and leave the second value.
     ghost called: { Self → Request → Self.Future → Self → Type 0 } = { λ _ _ _ _. ⊤ };
 
@@ -105,6 +122,8 @@ pub trait Service<Request>: Drop {
         // poll.
         ensures armed { OnPending result (IsArmed cx.new) }
         ensures heard { OnPending result ((s : ℕ) → needs self.new s → Hears cx.new s) }
+        // It asks for another poll only for a cause that it names.
+        ensures quiet { Quiet (stirs self.old self.new) cx.old cx.new }
         ensures kept { Keeps cx.old cx.new };
 
     /// Calls the service with the request, and returns the future of its response.
@@ -139,6 +158,10 @@ pub trait Clock: Drop {
     // known.
     ghost wakes_by: { Self → ℕ → Context → Type 0 } = { λ _ _ _. ⊤ };
 
+    // A call of `wake_at` that left this value may have asked for another poll. If this is left out, it
+    // isn't known when.
+    ghost stirs: { Self → Type 0 } = { λ _. ⊤ };
+
     /// Reads the clock and returns the current moment, in nanoseconds.
     fn now(&mut self) -> u64
         ensures moment { result ≡ reading self.new }
@@ -149,17 +172,14 @@ pub trait Clock: Drop {
         ensures { shared self.now result };
 
     /// Has the task polled again at the deadline (a moment of this clock, in nanoseconds), soon after it, or
-    /// sooner. Doesn't read the clock. If this is left out, the task is polled again at once, and so is busy
-    /// all the while.
-    fn wake_at(&mut self, _deadline: u128, cx: &mut Context<'_>)
+    /// sooner. Doesn't read the clock.
+    fn wake_at(&mut self, deadline: u128, cx: &mut Context<'_>)
         ensures registered { Covers cx.new (hears self.new) }
-        ensures timed { (cx.new.is_woken ≡ true) ⊎ wakes_by self.new _deadline cx.new }
+        ensures timed { (cx.new.is_woken ≡ true) ⊎ wakes_by self.new deadline cx.new }
+        ensures quiet { Quiet (stirs self.new) cx.old cx.new }
         ensures kept { Keeps cx.old cx.new }
         ensures same { reading self.new ≡ reading self.old }
-        ensures unread { (first : Self) → read first self.old → read first self.new }
-    {
-        let _pending: Poll<()> = cx.yield_now();
-    }
+        ensures unread { (first : Self) → read first self.old → read first self.new };
 }
 
 /// A clock that never goes back: no reading is before the last one.

@@ -7,6 +7,7 @@ ghost use Rattle.tower_latch.specs.Latch.{Came};
 ghost use Rattle.tower_latch.specs.Wakes.{IsNamed, NamesAll};
 ghost use Rattle.tower_latch.specs.CoreTable.{places};
 ghost use Rattle.tower_latch.specs.declared.guarded.token.Token.{Token as TokenValue};
+ghost use Rattle.tower_base.specs.Quiet.{Quiet};
 ghost use Rattle.futures.specs.Task.{Hears, IsArmed, Keeps};
 
 mod guarded;
@@ -153,6 +154,9 @@ pub trait Latch<C: Core>: Sized + Drop {
     // known where it waits.
     ghost source: { Self → ℕ → Type 0 } = { λ _ _. ⊥ };
 
+    // A call of `wait` may ask for another poll. If this is left out, it isn't known when.
+    ghost stirs: { Self → Type 0 } = { λ _. ⊤ };
+
     // The token belongs to the core of this latch.
     ghost its: { Self → TokenValue → Type 0 };
 
@@ -177,6 +181,8 @@ pub trait Latch<C: Core>: Sized + Drop {
         // If the reply waits, the task is registered at each source of the latch, or asked for another poll.
         ensures armed { C.is_wait result.0 ≡ true → IsArmed cx.new }
         ensures heard { C.is_wait result.0 ≡ true → (s : ℕ) → source self.now s → Hears cx.new s }
+        // It asks for another poll only for a cause that it names.
+        ensures quiet { Quiet (stirs self.now) cx.old cx.new }
         ensures kept { Keeps cx.old cx.new };
 
     /// Makes one step of the core, which hands no places out, for the holder of `token`, and returns its

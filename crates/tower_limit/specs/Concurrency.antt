@@ -118,6 +118,14 @@ module _ {L : Type 0} (l : LatchOf L LineCore LineStep LineReply ℕ) where
   abbrev pub Acquired : PollSemaphoreView L → Poll (Result (PermitView L) AllocError) → PollSemaphoreView L → Type 0
   Acquired old answer new = Refused old answer new ⊎ Requested old answer new
 
+  -- Why a poll for a permit may ask for another: the latch's causes, and a core that doesn't know the key. (The line's own core knows it.)
+  abbrev pub StirsLine : (L → Type 0) → PollSemaphoreView L → Type 0
+  StirsLine latch v = latch v.semaphore.latch ⊎ l.gave v.semaphore.latch (step_of v.key) Unknown
+
+  -- Why a poll of readiness may ask for another: those of a poll for a permit, and those of the inner service.
+  abbrev pub Stirs : {S : Type 0} → (L → Type 0) → (S → S → Type 0) → ConcurrencyLimitView S L → ConcurrencyLimitView S L → Type 0
+  Stirs latch inner old new = StirsLine latch new.asking ⊎ inner old.inner new.inner
+
   module _ {S : Type 0} where
     -- what the layer over a semaphore creates: an initial `ConcurrencyLimit` around the service, over a share of the permits
     pub record Made (semaphore : SemaphoreView L) (service : S) (made : ConcurrencyLimitView S L) : Type 0 where

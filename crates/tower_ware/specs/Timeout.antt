@@ -67,6 +67,10 @@ module _ {F C A E : Type 0} (f : StepsOf F (Result A E)) (c : ClockOf C) where
 abbrev pub Needs : {F C : Type 0} → (F → ℕ → Type 0) → (C → ℕ → Type 0) → ResponseFutureView F C → ℕ → Type 0
 Needs needs hears future s = needs future.response s ⊎ hears future.clock s
 
+-- why a poll of the future may ask for another: the response's causes, and the clock's
+abbrev pub Stirs : {F C : Type 0} → (F → F → Type 0) → (C → Type 0) → ResponseFutureView F C → ResponseFutureView F C → Type 0
+Stirs response clock old new = response old.response new.response ⊎ clock new.clock
+
 module _ {S C : Type 0} (c : ClockOf C) where
   -- what the layer returns: a `Timeout` of the service, with the layer's duration and a share of its clock
   pub record Made (layer : TimeoutLayerView C) (service : S) (made : TimeoutView S C) : Type 0 where

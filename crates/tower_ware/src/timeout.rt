@@ -65,6 +65,8 @@ impl<Request, S: Service<Request>, C: Clock> Service<Request> for Timeout<S, C> 
 
     ghost needs = { λ v. S.needs v.inner };
 
+    ghost stirs = { λ old new. S.stirs old.inner new.inner };
+
     ghost called = { Called S.Service C.Clock };
 
     ghost readies = { λ old new p. S.readies old.inner new.inner

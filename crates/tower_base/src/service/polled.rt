@@ -66,6 +66,8 @@ impl<F: Steps> Steps for Polled<F> {
 
     ghost stepped = { F.stepped };
 
+    ghost stirs = { F.stirs };
+
     fn step(&mut self, cx: &mut Context<'_>) -> Poll<F::Output> {
         self.future.step(cx)
     }

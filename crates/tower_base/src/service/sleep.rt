@@ -3,6 +3,7 @@ ghost use Rattle.std.specs.Prelude.{◌≡◌, ◌⊎◌, ⊤, ◌+◌, true};
 ghost use Rattle.futures.specs.Poll.{OnPending};
 ghost use Rattle.futures.specs.Task.{Covers, Keeps};
 ghost use Rattle.tower_base.specs.Gives.{IsStep, MayGive};
+ghost use Rattle.tower_base.specs.Quiet.{Quiet};
 ghost use Rattle.tower_base.specs.Sleep.{SleepView, Stepped};
 
 use crate::service::{Clock, Steps};
@@ -58,12 +59,15 @@ impl<C: Clock> Steps for Sleep<C> {
 
     ghost stepped = { Stepped C.Clock };
 
+    ghost stirs = { λ _ s. C.stirs s.clock };
+
     fn step(&mut self, cx: &mut Context<'_>) -> Poll<()>
         ensures step { Stepped C.Clock self.old result self.new }
         ensures again { OnPending result ⊤ }
         ensures registered { OnPending result (Covers cx.new (C.hears self.new.clock)) }
         ensures timed { OnPending result
             ((cx.new.is_woken ≡ true) ⊎ C.wakes_by self.new.clock self.new.deadline cx.new) }
+        ensures quiet { Quiet (C.stirs self.new.clock) cx.old cx.new }
         ensures kept { Keeps cx.old cx.new }
     {
         let moment = self.clock.now();

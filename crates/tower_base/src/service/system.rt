@@ -4,6 +4,7 @@ ghost use Rattle.std.specs.Duration.{as_nanos};
 ghost use Rattle.tower_base.specs.SystemClock.{SystemClockView, Read};
 
 use crate::service::{Clock, Monotonic};
+use futures::task::{Context, Poll};
 use std::marker::Model;
 use std::time::{Duration, Instant};
 use std::{io, rt};
@@ -58,6 +59,11 @@ impl<R: rt::Clock + Copy> Clock for SystemClock<R> {
             start: self.start,
             last: self.last,
         }
+    }
+
+    // The task is polled again at once, and so is busy all the while.
+    fn wake_at(&mut self, _deadline: u128, cx: &mut Context<'_>) {
+        let _pending: Poll<()> = cx.yield_now();
     }
 }
 

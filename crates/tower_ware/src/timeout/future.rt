@@ -3,7 +3,8 @@ ghost use Rattle.std.specs.Prelude.{◌≡◌, ◌⊎◌, true};
 ghost use Rattle.futures.specs.Poll.{OnPending};
 ghost use Rattle.futures.specs.Task.{Covers, Keeps};
 ghost use Rattle.tower_base.specs.Gives.{IsStep, MayGive};
-ghost use Rattle.tower_ware.specs.Timeout.{Needs, ResponseFutureView, Stepped};
+ghost use Rattle.tower_base.specs.Quiet.{Quiet};
+ghost use Rattle.tower_ware.specs.Timeout.{Needs, ResponseFutureView, Stepped, Stirs};
 
 use crate::timeout::error::Error;
 use futures::future::Future;
@@ -92,6 +93,9 @@ where
 
     ghost stepped = { Stepped F.Steps.own C.Clock };
 
+    // The response's own causes, and the clock's.
+    ghost stirs = { Stirs F.stirs C.stirs };
+
     fn step(&mut self, cx: &mut Context<'_>) -> Poll<Self::Output>
         requires { F.can_poll self.old.response }
         ensures step { Stepped F.Steps.own C.Clock self.old result self.new }
@@ -99,6 +103,7 @@ where
         ensures registered { OnPending result (Covers cx.new (Needs F.needs C.hears self.new)) }
         ensures timed { OnPending result
             ((cx.new.is_woken ≡ true) ⊎ C.wakes_by self.new.clock self.new.deadline cx.new) }
+        ensures quiet { Quiet (Stirs F.stirs C.stirs self.old self.new) cx.old cx.new }
         ensures kept { Keeps cx.old cx.new }
     {
         match self.response.step(cx) {

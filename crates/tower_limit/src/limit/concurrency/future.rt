@@ -94,6 +94,8 @@ where
 
     ghost stepped = { Stepped F.Steps.own };
 
+    ghost stirs = { λ old new. F.stirs old.response new.response };
+
     fn step(&mut self, cx: &mut Context<'_>) -> Poll<Self::Output> {
         outward(self.response.step(cx))
     }

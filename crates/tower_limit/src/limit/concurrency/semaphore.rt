@@ -1,7 +1,8 @@
 //! Semaphores, their permits, and those who wait for permits.
 ghost use Rattle.std.specs.Prelude.{◌≡◌, ◌<◌, ◌≤◌, ℕ, All, IfOk, IfErr, IfSome, None, Err, vec_len};
-ghost use Rattle.tower_limit.specs.Concurrency.{SemaphoreView, PermitView, PollSemaphoreView, SharesPermits, IsOf, Acquired};
+ghost use Rattle.tower_limit.specs.Concurrency.{SemaphoreView, PermitView, PollSemaphoreView, SharesPermits, IsOf, Acquired, StirsLine};
 ghost use Rattle.tower_latch.specs.CoreTable.{places};
+ghost use Rattle.tower_base.specs.Quiet.{Quiet};
 ghost use Rattle.futures.specs.Task.{Hears, IsArmed, Keeps};
 ghost use Rattle.futures.specs.Poll.{OnPending};
 
@@ -199,6 +200,7 @@ impl<L: Latch<LineCore>> PollSemaphore<L> {
         ensures armed { OnPending result (IsArmed cx.new) }
         ensures heard { OnPending result
             ((s : ℕ) → L.source self.new.semaphore.latch s → Hears cx.new s) }
+        ensures quiet { Quiet (StirsLine L.Latch L.stirs self.new) cx.old cx.new }
         ensures kept { Keeps cx.old cx.new }
     {
         let Ok(latch) = self.semaphore.latch.share() else {

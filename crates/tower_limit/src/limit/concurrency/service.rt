@@ -1,6 +1,6 @@
 //! A service with a limit on the calls in flight.
 ghost use Rattle.std.specs.Prelude.{◌≡◌, ◌⊎◌, IfErr, IfOk, IsSome, Err, MatchResult};
-ghost use Rattle.tower_limit.specs.Concurrency.{ConcurrencyLimitView, Needs, Polled, Called, IsClone, New, initial};
+ghost use Rattle.tower_limit.specs.Concurrency.{ConcurrencyLimitView, Needs, Polled, Stirs, Called, IsClone, New, initial};
 ghost use Rattle.tower_limit.specs.ConcurrencyReady.{ready_after};
 ghost use Rattle.tower_base.specs.ServiceRun.{relations};
 ghost use Rattle.tower_base.specs.Projection.{Once, Projects};
@@ -78,6 +78,8 @@ impl<Request, S: Service<Request>, L: Latch<LineCore>> Service<Request> for Conc
     ghost polled = { Polled L.Latch S.Service };
 
     ghost needs = { Needs S.needs L.source };
+
+    ghost stirs = { Stirs L.Latch L.stirs S.stirs };
 
     ghost called = { Called S.Service };
 
