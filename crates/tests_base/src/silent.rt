@@ -57,6 +57,11 @@ impl Clock for Ticks {
     fn share(&self) -> Ticks {
         Ticks { last: self.last }
     }
+
+    // The task is polled again at once.
+    fn wake_at(&mut self, _deadline: u128, cx: &mut Context<'_>) {
+        let _pending: Poll<()> = cx.yield_now();
+    }
 }
 
 #[test]

@@ -2,6 +2,7 @@
 ghost use Rattle.std.specs.Prelude.{⊤};
 
 use crate::log::Log;
+use futures::task::{Context, Poll};
 use std::cell::Cell;
 use tower_base::service::Clock;
 
@@ -50,5 +51,10 @@ impl<'a> Clock for Hand<'a> {
     fn share(&self) -> Hand<'a> {
         self.log.note("clock shared");
         Hand::new(self.log, self.moment)
+    }
+
+    // The task is polled again at once.
+    fn wake_at(&mut self, _deadline: u128, cx: &mut Context<'_>) {
+        let _pending: Poll<()> = cx.yield_now();
     }
 }

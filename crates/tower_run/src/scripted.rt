@@ -179,6 +179,11 @@ impl Clock for ScriptedClock<'_> {
             last: self.last,
         }
     }
+
+    // The task is polled again at once.
+    fn wake_at(&mut self, _deadline: u128, cx: &mut Context<'_>) {
+        let _pending: Poll<()> = cx.yield_now();
+    }
 }
 
 /// The inner service of a script.
