@@ -15,6 +15,8 @@ LINE = re.compile(r"^(\S+ \w+): .+ \| (\S+)$", re.M)
 
 calls = Counter()
 for file in sorted(TOP.glob("crates/tower*/src/**/*.rt")):
+    if "tower_bench" in file.parts:
+        continue
     name = ""
     for function, call in FUNCTION.findall(re.sub("//.*", "", file.read_text(encoding="utf-8"))):
         name = function or name

@@ -1,12 +1,13 @@
 //! The machine's own clock.
 
+use futures::test::MockTask;
 use std::cell::Cell;
 use std::rt::Clock as ReadsClock;
 use std::test::Fail;
 use std::time::Duration;
 use std::{io, thread};
 use tests_support::checks::Checks;
-use tower_base::service::{Clock, SystemClock};
+use tower_base::service::{Clock, Sleep, SystemClock};
 
 #[test]
 fn system_clock_goes_on_from_its_start(rt: HostRuntime) -> Result<(), Fail> {
@@ -83,5 +84,10 @@ fn system_clock_reads_what_the_computer_shows(rt: HostRuntime) -> Result<(), Fai
         checks.same(&clock.now(), &reading);
         checks.same(&clock.share().now(), &reading);
     }
+    // What waits for it is polled again at once.
+    let task = MockTask::new(&rt)?;
+    let mut sleep = Sleep::new(clock, 1);
+    checks.holds(task.poll(&mut sleep).is_pending());
+    checks.holds(task.is_woken());
     checks.verdict()
 }
