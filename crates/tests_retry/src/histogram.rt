@@ -10,7 +10,7 @@ use tests_support::clock::Hand;
 use tests_support::latch::Noting;
 use tests_support::log::Log;
 use tower_base::service::Fraction;
-use tower_latch::{Core, Guarded};
+use tower_latch::{Core, Guarded, Latch};
 use tower_retry::hedge::latency::Record;
 use tower_retry::hedge::rotating_histogram::{HistoCore, HistoReply, HistoStep, RotatingHistogram};
 
@@ -132,22 +132,20 @@ fn many_long_latencies_are_kept(rt: HostRuntime) -> Result<(), Fail> {
     checks.verdict()
 }
 
-// Nanoseconds become milliseconds, rounded up. Each call makes one reading and then one step.
-#[test]
-fn each_call_is_one_reading_and_one_step(rt: HostRuntime) -> Result<(), Fail> {
-    let checks = Checks::new(rt.alloc());
-    let alloc = rt.alloc();
-    let log = Log::new(alloc)?;
-    let moment = Cell::new(23);
-    let shares = Cell::new(u8::MAX);
-    let core = HistoCore::new(alloc, 1000, 20);
-    let latch = Noting::new(&log, &shares, Guarded::new(rt, alloc, core)?);
-    let mut histogram = RotatingHistogram::with_latch(latch, Hand::new(&log, &moment));
+// Asks each call of a histogram over any latch, which was made at 20 and shows its steps. (Over a lock that is named
+// the check takes minutes.)
+fn ask_each<'a, L: Latch<HistoCore>>(
+    checks: &Checks,
+    log: &'a Log,
+    moment: &'a Cell<u64>,
+    latch: L,
+) -> Result<(), Fail> {
+    let mut histogram = RotatingHistogram::with_latch(latch, Hand::new(log, moment));
     for nanos in [0, 1, 1_000_000, 1_000_000_001] {
         histogram.record(nanos);
     }
     checks.told(
-        &log,
+        log,
         "clock read 23;latch stepped Record(23, 0);clock read 23;latch stepped Record(23, 1);\
          clock read 23;latch stepped Record(23, 1);clock read 23;latch stepped Record(23, 1001);",
     );
@@ -161,7 +159,7 @@ fn each_call_is_one_reading_and_one_step(rt: HostRuntime) -> Result<(), Fail> {
     histogram.seed_all(&[5, 6]);
     checks.same(&clone.quantile(Fraction::new(1, 1)), &1001);
     checks.told(
-        &log,
+        log,
         "clock read 1019;latch stepped Points(1019);latch shared;clock shared;\
          clock read 1020;latch stepped Points(1020);\
          clock read 1020;latch stepped Quantile(1020, Fraction { numerator: 3, divisor: 4 });\
@@ -169,21 +167,43 @@ fn each_call_is_one_reading_and_one_step(rt: HostRuntime) -> Result<(), Fail> {
          clock read 1020;latch stepped Seed(1020, 5);clock read 1020;latch stepped Seed(1020, 6);\
          clock read 1020;latch stepped Quantile(1020, Fraction { numerator: 1, divisor: 1 });",
     );
+    Ok(())
+}
+
+// Asks for a clone over any latch, which has no share.
+fn ask_for_a_clone<'a, L: Latch<HistoCore>>(
+    checks: &Checks,
+    log: &'a Log,
+    moment: &'a Cell<u64>,
+    latch: L,
+) {
+    let histogram = RotatingHistogram::with_latch(latch, Hand::new(log, moment));
+    checks.holds(histogram.clone().is_err());
+    checks.told(log, "latch refused;");
+}
+
+// Nanoseconds become milliseconds, rounded up. Each call makes one reading and then one step.
+#[test]
+fn each_call_is_one_reading_and_one_step(rt: HostRuntime) -> Result<(), Fail> {
+    let checks = Checks::new(rt.alloc());
+    let log = Log::new(rt.alloc())?;
+    let moment = Cell::new(23);
+    let shares = Cell::new(u8::MAX);
+    let core = HistoCore::new(rt.alloc(), 1000, 20);
+    let latch = Noting::new(&log, &shares, Guarded::new(rt, rt.alloc(), core)?);
+    ask_each(&checks, &log, &moment, latch)?;
     checks.verdict()
 }
 
 #[test]
 fn clone_without_a_share_is_refused(rt: HostRuntime) -> Result<(), Fail> {
     let checks = Checks::new(rt.alloc());
-    let alloc = rt.alloc();
-    let log = Log::new(alloc)?;
+    let log = Log::new(rt.alloc())?;
     let moment = Cell::new(0);
     let shares = Cell::new(0);
-    let core = HistoCore::new(alloc, 1000, 0);
-    let latch = Noting::new(&log, &shares, Guarded::new(rt, alloc, core)?);
-    let histogram = RotatingHistogram::with_latch(latch, Hand::new(&log, &moment));
-    checks.holds(histogram.clone().is_err());
-    checks.told(&log, "latch refused;");
+    let core = HistoCore::new(rt.alloc(), 1000, 0);
+    let latch = Noting::new(&log, &shares, Guarded::new(rt, rt.alloc(), core)?);
+    ask_for_a_clone(&checks, &log, &moment, latch);
     checks.verdict()
 }
 
