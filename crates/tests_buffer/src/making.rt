@@ -4,7 +4,6 @@ ghost use Rattle.std.specs.Prelude.{◌≡◌, ◌<◌, IfOk};
 use futures::future::Ready;
 use futures::task::Poll;
 use std::alloc::{AllocError, AllocGlobal};
-use std::cell::Cell;
 use std::process::Abort;
 use std::random::RandomSource;
 use std::sync::Wait;
@@ -14,39 +13,11 @@ use tests_support::echo::Echo;
 use tests_support::run::{called, polled, stepped, task};
 use tests_support::task_slot::TaskSlot;
 use tower_base::layer::Layer;
-use tower_base::service::{Executor, Service, Steps};
+use tower_base::service::{Service, Steps};
 use tower_buffer::buffer::error::{Closed, ServiceError};
 use tower_buffer::buffer::{Buffer, BufferLayer, Error, MailCore};
 use tower_latch::Guarded;
 use tower_latch::held::Pollable;
-
-/// Gives the first task back, and keeps the next one.
-#[derive(Drop)]
-pub struct Reluctant<T: Steps> {
-    was_asked: Cell<bool>,
-    slot: TaskSlot<T>,
-}
-
-impl<T: Steps> Reluctant<T> {
-    pub fn new() -> Reluctant<T> {
-        Reluctant {
-            was_asked: Cell::new(false),
-            slot: TaskSlot::new(),
-        }
-    }
-}
-
-impl<T: Steps> Executor<T> for Reluctant<T> {
-    ghost can_spawn = { λ _ task. T.can_poll task };
-
-    fn spawn(&self, task: T) -> Result<(), T> {
-        if !self.was_asked.get() {
-            self.was_asked.set(true);
-            return Err(task);
-        }
-        self.slot.spawn(task)
-    }
-}
 
 type Told = Buffer<
     u8,
@@ -214,11 +185,6 @@ where
     is_open(rt, second)
 }
 
-#[test]
-fn a_layer_spawns_a_worker_once(rt: HostRuntime) -> Result<(), Fail> {
-    reluctantly(rt, BufferLayer::new(rt, rt.alloc(), 1, Reluctant::new()))
-}
-
 fn pair_holds<R>(rt: R, bound: usize) -> Result<(), Fail>
 where
     R: Wait + Abort + RandomSource + AllocGlobal + Copy,
@@ -242,16 +208,27 @@ where
     spawned(rt, slot, first, second, bound)
 }
 
-fn layer_holds<R>(rt: R, bound: usize) -> Result<(), Fail>
+// (One function for both slots: a `Buffer` of a named executor costs the check a minute each time.)
+fn layer_holds<R>(rt: R, bound: usize, is_reluctant: bool) -> Result<(), Fail>
 where
     R: Wait + Abort + RandomSource + AllocGlobal + Copy,
     requires { 0 < bound }
 {
-    layered(
-        rt,
-        BufferLayer::new(rt, rt.alloc(), bound, TaskSlot::new()),
-        bound,
-    )
+    let slot = if is_reluctant {
+        TaskSlot::reluctant()
+    } else {
+        TaskSlot::new()
+    };
+    let layer = BufferLayer::new(rt, rt.alloc(), bound, slot);
+    if is_reluctant {
+        return reluctantly(rt, layer);
+    }
+    layered(rt, layer, bound)
+}
+
+#[test]
+fn a_layer_spawns_a_worker_once(rt: HostRuntime) -> Result<(), Fail> {
+    layer_holds(rt, 1, true)
 }
 
 #[test]
@@ -259,7 +236,7 @@ fn each_constructor_makes_so_many_places_and_one_worker(rt: HostRuntime) -> Resu
     for bound in [1usize, 2, 3, 1500, 4_294_967_296, usize::MAX] {
         pair_holds(rt, bound)?;
         new_holds(rt, bound)?;
-        layer_holds(rt, bound)?;
+        layer_holds(rt, bound, false)?;
     }
     Ok(())
 }

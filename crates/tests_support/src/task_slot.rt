@@ -1,13 +1,14 @@
 //! Executors that do nothing of themselves.
 
 use std::alloc::AllocError;
-use std::cell::RefCell;
+use std::cell::{Cell, RefCell};
 use tower_base::service::{Executor, Steps};
 use tower_latch::held::Pollable;
 
 /// Where an executor keeps its task for the test. A clone is free.
 #[derive(Drop)]
 pub struct TaskSlot<T: Steps> {
+    is_reluctant: Cell<bool>,
     task: RefCell<Option<Pollable<T>>>,
 }
 
@@ -15,6 +16,15 @@ impl<T: Steps> TaskSlot<T> {
     /// It is free.
     pub fn new() -> TaskSlot<T> {
         TaskSlot {
+            is_reluctant: Cell::new(false),
+            task: RefCell::new(None),
+        }
+    }
+
+    /// It gives the first task back, and keeps the next one.
+    pub fn reluctant() -> TaskSlot<T> {
+        TaskSlot {
+            is_reluctant: Cell::new(true),
             task: RefCell::new(None),
         }
     }
@@ -39,6 +49,9 @@ impl<T: Steps> Executor<T> for TaskSlot<T> {
     ghost can_spawn = { λ _ task. T.can_poll task };
 
     fn spawn(&self, task: T) -> Result<(), T> {
+        if self.is_reluctant.replace(false) {
+            return Err(task);
+        }
         let Ok(mut slot) = self.task.try_borrow_mut() else {
             return Err(task);
         };
