@@ -90,6 +90,10 @@ NeedsAt false inner clock = inner
 abbrev pub Needs : {S C : Type 0} → (S → ℕ → Type 0) → (C → ℕ → Type 0) → RateLimitView S C → ℕ → Type 0
 Needs needs hears l s = NeedsAt (is_shut l.core) (needs l.inner s) (hears l.clock s)
 
+-- Why a poll of readiness may ask for another: the clock's causes if the limit is waited for, or else the inner service's.
+abbrev pub Stirs : {S C : Type 0} → (S → S → Type 0) → (C → Type 0) → RateLimitView S C → RateLimitView S C → Type 0
+Stirs inner clock old new = NeedsAt (is_shut new.core) (inner old.inner new.inner) (clock new.clock)
+
 module _ {S C Q A E F : Type 0} (s : ServiceOf S Q A E F) (c : ClockOf C) where
   -- The inner service is polled once, or the result is pending without a poll.
   abbrev pub Asks : Bool → S → Poll (Result (Unit {0}) E) → S → Type 0

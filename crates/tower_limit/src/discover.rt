@@ -1,6 +1,7 @@
 //! Services that come and go: the Rust's `tower::discover`.
 ghost use Rattle.std.specs.Prelude.{⊤, ℕ, Option, Result};
 ghost use Rattle.futures.specs.Task.{Hears, IsArmed, Keeps};
+ghost use Rattle.tower_base.specs.Quiet.{Quiet};
 ghost use Rattle.futures.specs.Poll.{OnPending};
 ghost use Rattle.futures.specs.declared.task.Poll.{Poll};
 ghost use Rattle.tower_limit.specs.declared.discover.Change.{Change};
@@ -39,6 +40,10 @@ pub trait Discover: Drop {
     // waits.
     ghost needs: { Self → ℕ → Type 0 } = { λ _ _. ⊥ };
 
+    // A poll that led from the first value to the second may have asked for another poll. If this is left
+    // out, it isn't known when.
+    ghost stirs: { Self → Self → Type 0 } = { λ _ _. ⊤ };
+
     /// Returns the next change, an error, or the end (`None`). An error isn't the end. After the end it
     /// needn't be polled again.
     fn poll_discover(
@@ -50,5 +55,7 @@ pub trait Discover: Drop {
         ensures sound { sound self.new }
         ensures armed { OnPending result (IsArmed cx.new) }
         ensures heard { OnPending result ((s : ℕ) → needs self.new s → Hears cx.new s) }
+        // It asks for another poll only for a cause that it names.
+        ensures quiet { Quiet (stirs self.old self.new) cx.old cx.new }
         ensures kept { Keeps cx.old cx.new };
 }

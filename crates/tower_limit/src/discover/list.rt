@@ -46,6 +46,9 @@ impl<S: Drop> Discover for ServiceList<S> {
 
     ghost discovered = { Listed };
 
+    // A poll is never pending, and never asks for another.
+    ghost stirs = { λ _ _. ⊥ };
+
     fn poll_discover(
         &mut self,
         _cx: &mut Context<'_>,

@@ -117,6 +117,8 @@ where
 
     ghost stepped = { Stepped C.tracked F.Steps.own };
 
+    ghost stirs = { λ old new. F.stirs old.future new.future };
+
     fn step(&mut self, cx: &mut Context<'_>) -> Poll<Self::Output> {
         match self.future.step(cx) {
             Poll::Ready(Ok(value)) => {

@@ -60,6 +60,8 @@ impl<Request, S: Service<Request>, M: Copy> Service<Request> for Constant<S, M> 
 
     ghost needs = { λ c. S.needs c.inner };
 
+    ghost stirs = { λ old new. S.stirs old.inner new.inner };
+
     ghost called = { Called S.Service };
 
     ghost readies = { λ old new p. S.readies old.inner new.inner p.polled };
@@ -106,6 +108,8 @@ impl<D: Discover, M: Copy> Discover for Constant<D, M> {
     ghost discovered = { Discovered D.discovered };
 
     ghost needs = { λ c. D.needs c.inner };
+
+    ghost stirs = { λ old new. D.stirs old.inner new.inner };
 
     fn poll_discover(
         &mut self,

@@ -2,7 +2,8 @@
 ghost use Rattle.std.specs.Prelude.{◌≡◌, ◌<◌, ℕ, true, IfOk, IsErr};
 ghost use Rattle.futures.specs.Poll.{OnPending};
 ghost use Rattle.futures.specs.Task.{Hears, IsArmed, Keeps};
-ghost use Rattle.tower_limit.specs.Rate.{RateLimitView, Needs, New, Polled, Called, Stands, WokenInTime, may_call};
+ghost use Rattle.tower_base.specs.Quiet.{Quiet};
+ghost use Rattle.tower_limit.specs.Rate.{RateLimitView, Needs, New, Polled, Called, Stands, Stirs, WokenInTime, may_call};
 ghost use Rattle.tower_limit.specs.RateReady.{ready_after};
 
 use crate::limit::rate::{Rate, RateCore};
@@ -59,9 +60,11 @@ impl<Request, S: Service<Request>, C: Clock> Service<Request> for RateLimit<S, C
 
     ghost needs = { Needs S.needs C.hears };
 
+    ghost stirs = { Stirs S.stirs C.stirs };
+
     ghost called = { Called S.Service C.Clock };
 
-    #[tactic(auto, using(crate::proofs::RateNeeds::heard_inner, crate::proofs::RateNeeds::heard_clock))]
+    #[tactic(auto, using(crate::proofs::RateNeeds::heard_inner, crate::proofs::RateNeeds::heard_clock, crate::proofs::RateNeeds::quiet_inner, crate::proofs::RateNeeds::quiet_clock))]
     fn poll_ready(&mut self, cx: &mut Context<'_>) -> Poll<Result<(), S::Error>>
         requires { S.sound self.old.inner }
         ensures polled { Polled S.Service C.Clock self.old result self.new }
@@ -70,6 +73,7 @@ impl<Request, S: Service<Request>, C: Clock> Service<Request> for RateLimit<S, C
         ensures heard { OnPending result
             ((s : ℕ) → Needs S.needs C.hears self.new s → Hears cx.new s) }
         ensures timed { WokenInTime C.Clock self.old self.new cx.new }
+        ensures quiet { Quiet (Stirs S.stirs C.stirs self.old self.new) cx.old cx.new }
         ensures kept { Keeps cx.old cx.new }
     {
         if !self.core.limited() {

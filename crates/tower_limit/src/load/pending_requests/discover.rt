@@ -87,6 +87,8 @@ impl<D: Discover, R: Wait + Copy, C: Copy> Discover for PendingRequestsDiscover<
 
     ghost needs = { λ p. D.needs p.discover };
 
+    ghost stirs = { λ old new. D.stirs old.discover new.discover };
+
     fn poll_discover(
         &mut self,
         cx: &mut Context<'_>,

@@ -100,6 +100,8 @@ where
 
     ghost needs = { λ p. S.needs p.service };
 
+    ghost stirs = { λ old new. S.stirs old.service new.service };
+
     ghost called = { Called L.Latch S.Service };
 
     ghost readies = { λ old new p. S.readies old.service new.service p.polled };
