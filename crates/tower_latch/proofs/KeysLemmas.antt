@@ -199,6 +199,10 @@ one_gone old new gone is key same h =
     let it : gone ≡ key = cc same in
     not_both (has new key) h (ap (λ l. has l key) is ∙ ap (has (without old gone)) (sym it) ∙ has_without_same old gone)
 
+-- the one that was taken out of a list was in it, and isn't any longer
+pub only_gone : (old new : List ℕ) (gone : ℕ) → new ≡ without old gone → has old gone ≡ true → (key : ℕ) → gone ≡ key → (has old key ≡ true) × ¬ (has new key ≡ true)
+only_gone old new gone is had key same = (ap (has old) (sym same) ∙ had, one_gone old new gone is key (ap One same))
+
 -- what is in a list without a key was in it before
 pub was_in : (old new : List ℕ) (key at : ℕ) → new ≡ without old key → has new at ≡ true → has old at ≡ true
 was_in old new key at is holds =

@@ -32,3 +32,7 @@ module _ {C : Type 0} (stalls : C → ℕ → Type 0) where
   -- Whoever is named as the one no longer stalls.
   abbrev pub OneGoesOn : C → Wakes → Type 0
   OneGoesOn new wakes = (key : ℕ) → wakes ≡ One key → ¬ (stalls new key)
+
+  -- Nobody else is named: whoever is named stalled in the old core, and stalls no longer.
+  abbrev pub NamesOnly : C → C → Wakes → Type 0
+  NamesOnly old new wakes = (key : ℕ) → IsNamed wakes key → stalls old key × ¬ (stalls new key)

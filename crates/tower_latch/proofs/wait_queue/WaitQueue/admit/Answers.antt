@@ -1,6 +1,7 @@
-use Rattle.std.proofs.Common.{◌≡◌, ◌+◌, ap, arith, length}
+use Rattle.std.proofs.Common.{◌≡◌, ◌+◌, Some, true, refl, ap, ◌∙◌, arith, length, slice_get}
 use Rattle.slab.specs.Slab.{slab_len}
-use Rattle.tower_latch.proofs.KeysLemmas.{one_gone, still_in, was_in}
+use Rattle.tower_base.specs.Order.{has}
+use Rattle.tower_latch.proofs.KeysLemmas.{has_at, one_gone, only_gone, still_in, was_in}
 use Rattle.tower_latch.proofs.Waiters.{admitted}
 use Rattle.tower_latch.proofs.WaitQueues.{Kept, admits_first, first_is, kept_admitted, kept_apart, kept_count, kept_of, kept_present}
 use Rattle.tower_latch.proofs.wait_queue.WaitQueue.admit.Goals as goal
@@ -35,3 +36,11 @@ returns-clause-one c = one_gone c.args.self.now.waiters.order c.unlink.new.self.
 
 pub returns-clause-fewer : goal.returns-clause-fewer
 returns-clause-fewer c = λ key. was_in c.args.self.now.waiters.order c.unlink.new.self.order c.in-Some.first key c.unlink.ensures.order
+
+pub returns-clause-only : goal.returns-clause-only
+returns-clause-only c =
+    let old = c.args.self.now in
+    let first = first_is old.waiters.order c.in-Some.first c.in-Some.ensures in
+    let at : slice_get old.waiters.order 0 ≡ Some c.in-Some.first = ap (λ l. slice_get l 0) first.1 in
+    let h : has old.waiters.order c.in-Some.first ≡ true = has_at old.waiters.order 0 c.in-Some.first at in
+    only_gone old.waiters.order c.unlink.new.self.order c.in-Some.first c.unlink.ensures.order h

@@ -1,7 +1,7 @@
 use Rattle.std.proofs.Common.{◌≡◌, ◌≤◌, ◌-◌, true, false, None, is_some, ◌∙◌, inl, inr, refl, sym, ap, arith, length}
 use Rattle.slab.specs.Slab.{get, slab_len}
 use Rattle.tower_base.specs.Order.{has}
-use Rattle.tower_latch.proofs.KeysLemmas.{apart_is, length_without, one_gone, still_in, without_lacks}
+use Rattle.tower_latch.proofs.KeysLemmas.{apart_is, length_without, one_gone, only_gone, still_in, without_lacks}
 use Rattle.tower_latch.proofs.WaitQueues.{Kept, absent_lacks, count_some, granted_goes, kept_apart, kept_count, kept_gone, kept_left, kept_of, kept_present, kept_taken, lacks_key, linked_leaves, longer, no_shorter, stays_without}
 use Rattle.tower_latch.proofs.wait_queue.WaitQueue.leave.Goals as goal
 
@@ -101,3 +101,19 @@ returns-clause-names c = (λ at h. still_in c.args.self.now.waiters.order c.args
 
 pub returns-clause-one : goal.returns-clause-one
 returns-clause-one c = one_gone c.args.self.now.waiters.order c.remove.new.self.order c.args.key c.remove.ensures.order
+
+pub returns-in_default-clause-only : goal.returns-in_default-clause-only
+returns-in_default-clause-only c = λ key named. absurd named
+
+pub returns-then-len-waiting-clause-only : goal.returns-then-len-waiting-clause-only
+returns-then-len-waiting-clause-only c = λ at named.
+    let old = c.args.self.now in
+    let lacks : has old.waiters.order c.args.key ≡ false = no_shorter old.waiters.order c.args.key old.apart (omega (arith, c.if-len-waiting.true, c.len.ensures, c.len-waiting.ensures, ap length c.remove.ensures.order)) in
+    let only = c.admit.ensures.only at named in
+    (ap (λ l. has l at) (sym (c.remove.ensures.order ∙ without_lacks old.waiters.order c.args.key lacks)) ∙ only.0, only.1)
+
+pub returns-clause-only : goal.returns-clause-only
+returns-clause-only c =
+    let old = c.args.self.now in
+    let h : has old.waiters.order c.args.key ≡ true = longer old.waiters.order c.args.key (λ same. c.if-len-waiting.false (omega (arith, same, c.len.ensures, c.len-waiting.ensures, ap length c.remove.ensures.order))) in
+    only_gone old.waiters.order c.remove.new.self.order c.args.key c.remove.ensures.order h
