@@ -29,8 +29,8 @@ abbrev pub LoopsRun : {S Q A E F C : Type 0} → ServiceOf S Q A E F → (F → 
 LoopsRun {S} {Q} {C = C} s stepped told = (requests : List Q) (old new : S) (each last : C) → Each s stepped told requests old each new last → Ran s requests old new
 
 -- The calls that reach a rate limit keep to its rate, and any half-open interval of length `per` has at most `num` of them.
-pub record WithinRate {S C Q R A E F : Type 0} (num per : ℕ) (s : ServiceOf S R A E F) (c : ClockOf C) (goes : Q → List R → Type 0) (first : RateLimitView S C) (made : List Q) : Type 0 where
-  pub kept : KeepsRate s c goes first made
+pub record WithinRate {S C Q R A E F : Type 0} (num per : ℕ) (s : ServiceOf S R A E F) (c : ClockOf C) (goes : Q → List R → Type 0) (first : RateLimitView S C) (made : List Q) (last : RateLimitView S C) : Type 0 where
+  pub kept : KeepsRate s c goes first made last
   pub bound : AtMostIn num per (call_moments c kept.transitions)
 
 -- If no call was made of the limit before, its number and its period are `num` and `per`.
@@ -39,4 +39,4 @@ IfNew limit P = (num per : ℕ) → StandsFor limit.core (initial num per) → P
 
 -- Whatever run a stack had, the calls that reach the limit inside it keep to its rate.
 abbrev pub RunsWithin : {W S C Q R A E F B D G : Type 0} → ServiceOf W Q B D G → ServiceOf S R A E F → ClockOf C → (W → RateLimitView S C) → (Q → List R → Type 0) → Type 0
-RunsWithin {W} {Q = Q} w s c inside goes = (requests : List Q) (old new : W) → Ran w requests old new → KeepsRate s c (Through AtMostOnce goes) (inside old) requests
+RunsWithin {W} {Q = Q} w s c inside goes = (requests : List Q) (old new : W) → Ran w requests old new → KeepsRate s c (Through AtMostOnce goes) (inside old) requests (inside new)

@@ -115,11 +115,10 @@ module _ {S C Q A E F : Type 0} (s : ServiceOf S Q A E F) (c : ClockOf C) where
   rate_limit old (Action.call request future) new takes = one_call (relations s) old.inner new.inner request future takes.1.ready takes.1.called refl
 
   pub keeps_rate : {P : Type 0} (goes : P → List Q → Type 0) (made : List P) (first last : View) → IsMonotonic c.reading c.read
-      → RunInside (rate_of s c) (Each goes made) first last → KeepsRate s c goes first made
+      → RunInside (rate_of s c) (Each goes made) first last → KeepsRate s c goes first made last
   keeps_rate goes made first last never here =
       let there = projected (rate_of s c) (relations s) (λ l. l.inner) Once rate_limit first last here.transitions here.run in
       record {
-        last = last;
         transitions = here.transitions;
         run = here.run;
         goes_in = here.has;

@@ -51,10 +51,9 @@ abbrev pub RunsForward : {S C Q A E F : Type 0} → ServiceOf S Q A E F → Cloc
 RunsForward {S} {C} {Q} {A} {E} {F} s c = IsMonotonic c.reading c.read → (first last : RateLimitView S C) (transitions : List (Transition (RateLimitView S C) Q E F))
     → ServiceRun (rate_of s c) first transitions last → Forward c 0 transitions
 
--- The limit has a run from this value on. Its requests are those that `goes` relates to the requests that were made, and the inner service gets
--- exactly its requests. If no call was made of the limit before, an interval of length per has at most num of the calls.
-pub record KeepsRate {S C Q R A E F : Type 0} (s : ServiceOf S R A E F) (c : ClockOf C) (goes : Q → List R → Type 0) (first : RateLimitView S C) (made : List Q) : Type 0 where
-  pub last : RateLimitView S C
+-- The limit has a run from the first of these values to the last. Its requests are those that `goes` relates to the requests that were made, and
+-- the inner service gets exactly its requests. If no call was made of the limit before, an interval of length per has at most num of the calls.
+pub record KeepsRate {S C Q R A E F : Type 0} (s : ServiceOf S R A E F) (c : ClockOf C) (goes : Q → List R → Type 0) (first : RateLimitView S C) (made : List Q) (last : RateLimitView S C) : Type 0 where
   pub transitions : List (Transition (RateLimitView S C) R E F)
   pub run : ServiceRun (rate_of s c) first transitions last
   pub goes_in : Each goes made (requests transitions)

@@ -35,7 +35,8 @@ where
     requires stack { W.sound stack.old.inner }
     requires map { N.IsAlwaysCallable stack.old.f }
     requires callable { F.IsAlwaysCallable each }
-    ensures { IfOk result (λ _. KeepsRate S.Service C.Clock (Through AtMostOnce W.goes) (W.inside stack.old.inner) requests.items) }
+    ensures { IfOk result (λ _. KeepsRate S.Service C.Clock (Through AtMostOnce W.goes) (W.inside stack.old.inner) requests.items
+        (W.inside stack.new.inner)) }
 {
     projection::map_response::<W, N, u32, T>();
     runs::within_rate_through::<u32, u32, MapResponse<W, N>, W, S, C>();
@@ -53,7 +54,8 @@ where
     C: Monotonic,
     R: Wait + RandomSource + AllocGlobal,
     requires { W.sound stack.old }
-    ensures { IfOk result (λ _. (made : _) × KeepsRate S.Service C.Clock (Through AtMostOnce W.goes) (W.inside stack.old) made) }
+    ensures { IfOk result (λ _. (made : _) × KeepsRate S.Service C.Clock (Through AtMostOnce W.goes) (W.inside stack.old) made
+        (W.inside stack.new)) }
 {
     runs::within_rate::<u32, u32, W, S, C>();
     let mut answered: u32 = 0;

@@ -49,8 +49,8 @@ where
     L: Latch<LineCore>,
     requires server { S.sound stack.inner.inner.inner.inner }
     requires predicate { U.sound stack.inner.predicate }
-    ensures { IfOk result (λ transcript. KeepsRate S.Service C.Clock (Through (MappedOrNone (LetsThrough U.Predicate)) Once)
-        stack.inner.inner.inner (made events.items transcript.entries.items)) }
+    ensures { IfOk result (λ transcript. (last : _) × KeepsRate S.Service C.Clock (Through (MappedOrNone (LetsThrough U.Predicate)) Once)
+        stack.inner.inner.inner (made events.items transcript.entries.items) last) }
 {
     let transcript = drive_within_rate(alloc, cx, stack, events, |_: ()| {})?;
     Ok(transcript)
@@ -78,7 +78,7 @@ where
     requires callable { F.IsAlwaysCallable each }
     requires new { StandsFor stack.old.inner.inner.inner.core (initial 20 1000000000) }
     ensures { IfOk result (λ _. WithinRate 20 1000000000 S.Service C.Clock (Through AtMostOnce (Through (MappedOrNone (LetsThrough U.Predicate)) Once))
-        stack.old.inner.inner.inner requests.items) }
+        stack.old.inner.inner.inner requests.items stack.new.inner.inner.inner) }
 {
     block_on_each_within_rate(stack, rt, requests, each)?;
     Ok(())

@@ -76,9 +76,10 @@ where
     ensures told { IfOk result (λ _. (last : F)
         × Each W.Service W.Future.stepped F.step requests.items stack.old each stack.new last) }
     ensures rate { IfOk result (λ _. KeepsRate S.Service C.Clock (Through AtMostOnce W.goes)
-        (W.inside stack.old) requests.items) }
+        (W.inside stack.old) requests.items (W.inside stack.new)) }
     ensures bound { IfOk result (λ _. IfNew (W.inside stack.old) (λ num per. WithinRate num per
-        S.Service C.Clock (Through AtMostOnce W.goes) (W.inside stack.old) requests.items)) }
+        S.Service C.Clock (Through AtMostOnce W.goes) (W.inside stack.old) requests.items
+        (W.inside stack.new))) }
 {
     loops::<Request, W, F>();
     within_rate::<Request, Passed, W, S, C>();

@@ -58,8 +58,11 @@ where
     ensures run { IfOk result (λ transcript. (last : _)
         × Run W.Service W.Future.stepped O.step (initial stack outside)
         events.items transcript.entries.items last) }
-    ensures rate { IfOk result (λ transcript. KeepsRate S.Service C.Clock W.goes (W.inside stack)
-        (made events.items transcript.entries.items)) }
+    ensures rate { IfOk result (λ transcript. (last : _)
+        × Run W.Service W.Future.stepped O.step (initial stack outside)
+        events.items transcript.entries.items last
+        × KeepsRate S.Service C.Clock W.goes (W.inside stack)
+        (made events.items transcript.entries.items) (W.inside last.service)) }
     ensures kept { Keeps cx.old cx.new }
 {
     run::inside::<Request, Passed, RateLimit<S, C>, W, T, U, O>();
