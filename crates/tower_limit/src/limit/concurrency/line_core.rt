@@ -52,7 +52,7 @@ pub struct LineCore {
 
 impl LineCore {
     ghost use Rattle.std.specs.Prelude.{false, true};
-    ghost use Rattle.tower_latch.specs.Wakes.{NamesAll, OneGoesOn};
+    ghost use Rattle.tower_latch.specs.Wakes.{NamesAll, NamesOnly, OneGoesOn};
     ghost use Rattle.tower_latch.specs.WaitQueue.{stalls};
     ghost use Rattle.tower_limit.specs.Line.{initial, is_waiting, key_of};
     ghost use Rattle.tower_limit.specs.LineCore.{Follows, StandsFor};
@@ -74,6 +74,7 @@ impl LineCore {
         ensures waits { is_waiting result.0 ≡ true → result.1 ≡ Wakes.Wait (key_of result.0) }
         ensures names { NamesAll stalls self.old.queue self.new.queue result.1 }
         ensures one { OneGoesOn stalls self.new.queue result.1 }
+        ensures only { NamesOnly stalls self.old.queue self.new.queue result.1 }
     {
         if self.held + self.queue.granted() < self.max {
             self.held += 1;
@@ -91,6 +92,7 @@ impl LineCore {
         ensures waits { is_waiting result.0 ≡ true → result.1 ≡ Wakes.Wait (key_of result.0) }
         ensures names { NamesAll stalls self.old.queue self.new.queue result.1 }
         ensures one { OneGoesOn stalls self.new.queue result.1 }
+        ensures only { NamesOnly stalls self.old.queue self.new.queue result.1 }
         ensures told { stalls self.old.queue key → is_waiting result.0 ≡ true }
     {
         match self.queue.look(key) {
@@ -109,6 +111,7 @@ impl LineCore {
         ensures answers { is_waiting result.0 ≡ false }
         ensures names { NamesAll stalls self.old.queue self.new.queue result.1 }
         ensures one { OneGoesOn stalls self.new.queue result.1 }
+        ensures only { NamesOnly stalls self.old.queue self.new.queue result.1 }
     {
         let (has_left, wakes) = self.queue.leave(key);
         if has_left {
@@ -123,6 +126,7 @@ impl LineCore {
         ensures answers { is_waiting result.0 ≡ false }
         ensures names { NamesAll stalls self.old.queue self.new.queue result.1 }
         ensures one { OneGoesOn stalls self.new.queue result.1 }
+        ensures only { NamesOnly stalls self.old.queue self.new.queue result.1 }
     {
         if self.held == 0 {
             return (LineReply::Unknown, Wakes::Nobody);
@@ -147,7 +151,7 @@ impl Core for LineCore {
 
     ghost use Rattle.std.specs.Prelude.{ℕ, true};
     ghost use Rattle.tower_latch.specs.Latch.{StepsAs};
-    ghost use Rattle.tower_latch.specs.Wakes.{NamesAll, OneGoesOn};
+    ghost use Rattle.tower_latch.specs.Wakes.{NamesAll, NamesOnly, OneGoesOn};
     ghost use Rattle.tower_limit.specs.Line.{Asks, LineSteps, is_waiting, key_of};
     ghost use Rattle.tower_latch.specs.WaitQueue.{stalls as queue_stalls};
     ghost use Rattle.tower_limit.specs.LineCore.{Opens, StandsFor, touches};
@@ -183,13 +187,15 @@ impl Core for LineCore {
     ghost stalls = { λ core key. queue_stalls core.queue key };
 
     /// Makes a step, which reaches at most six entries of the queue. Names at most one waiter: one that may
-    /// look again, or one that left.
+    /// look again, or one that left. Each step names only whoever waited without a grant before it, and
+    /// doesn't after it.
     #[inline(always)]
     fn step(&mut self, step: LineStep) -> (LineReply, Wakes)
         ensures steps { StepsAs StandsFor LineSteps self.old step result.0 self.new }
         ensures waits { is_waiting result.0 ≡ true → result.1 ≡ Wakes.Wait (key_of result.0) }
         ensures names { NamesAll queue_stalls self.old.queue self.new.queue result.1 }
         ensures one { OneGoesOn queue_stalls self.new.queue result.1 }
+        ensures only { NamesOnly queue_stalls self.old.queue self.new.queue result.1 }
         ensures told { (key : ℕ) → Asks step key → queue_stalls self.old.queue key
             → is_waiting result.0 ≡ true }
         ensures touches { touches self.new ≤ touches self.old + 6 }
