@@ -26,6 +26,8 @@ pub enum Command<'a> {
 pub enum Directive<'a> {
     /// From now on parts that are pending wake nobody, and it is noted if a poll that is pending wakes its task.
     Quiet,
+    /// From now on each poll of a part wakes its task, whatever it returns.
+    Stirs,
     At(u64),
     Clones(Side, u8),
     Answer(Side, usize, Result<u8, u8>),
@@ -100,6 +102,7 @@ pub(crate) fn command_of(text: &str) -> Option<Command<'_>> {
         "end" if rest.is_empty() => Some(Command::End),
         "count" => Some(Command::Count(rest)),
         "quiet" if rest.is_empty() => Some(Command::Directive(Directive::Quiet)),
+        "stirs" if rest.is_empty() => Some(Command::Directive(Directive::Stirs)),
         "at" => Some(Command::Directive(Directive::At(rest.parse().ok()?))),
         "others" => Some(Command::Directive(change_of(Side::Others, rest)?)),
         "clones" | "answer" | "readiness" | "replies" => Some(Command::Directive(change_of(

@@ -50,6 +50,7 @@ pub(crate) fn turn(
 ) -> Result<Turned, AllocError> {
     match turn {
         Directive::Quiet => stage.log.hush(),
+        Directive::Stirs => stage.log.stir(),
         Directive::At(moment) => stage.moment.set(moment),
         Directive::Clones(side, clones) => plan_of(stage, side).clones(clones),
         Directive::Answer(side, call, answer) => {

@@ -109,6 +109,7 @@ impl<'a, T: Drop> Steps for After<'a, T> {
     fn step(&mut self, cx: &mut Context<'_>) -> Poll<T> {
         if matches!(self.when, When::Polls(0)) {
             self.log.note(format_args!("{} ready", self.name));
+            self.log.ready(cx);
             return Poll::Ready(self.answer.take().unwrap());
         }
         self.when.pending(self.log, self.name, cx)
@@ -191,6 +192,7 @@ impl<'a> Steps for Response<'a> {
     fn step(&mut self, cx: &mut Context<'_>) -> Poll<Result<u8, u8>> {
         if let Some(answer) = self.answer() {
             self.log.note(format_args!("{} ready", self.name));
+            self.log.ready(cx);
             return Poll::Ready(answer);
         }
         self.when.pending(self.log, self.name, cx)

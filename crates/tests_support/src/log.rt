@@ -12,12 +12,13 @@ use std::fmt::{self, Display, Write};
 const ROOM: usize = 8192;
 
 /// What happened to all parts of a test, in order, each as a few words before a semicolon. Parts that are pending wake their task, unless the
-/// log is quiet.
+/// log is quiet. If it is stirred, each poll of a part wakes its task.
 #[derive(Drop)]
 pub struct Log {
     text: RefCell<String>,
     copies: Cell<u8>,
     is_quiet: Cell<bool>,
+    is_stirred: Cell<bool>,
     idle: RefCell<Pending<()>>,
 }
 
@@ -28,6 +29,7 @@ impl Log {
             text: RefCell::new(String::with_capacity(alloc, ROOM)?),
             copies: Cell::new(0),
             is_quiet: Cell::new(false),
+            is_stirred: Cell::new(false),
             idle: RefCell::new(pending()),
         })
     }
@@ -42,6 +44,20 @@ impl Log {
         self.is_quiet.get()
     }
 
+    /// From now on each poll of a part wakes its task, whatever it returns.
+    pub fn stir(&self) {
+        self.is_stirred.set(true);
+    }
+
+    /// A poll that is ready. Its task is woken if the log is stirred.
+    pub fn ready(&self, cx: &mut Context<'_>)
+        ensures { Keeps cx.old cx.new }
+    {
+        if self.is_stirred.get() {
+            let _: Poll<()> = cx.yield_now();
+        }
+    }
+
     /// A poll that is pending. Its task is woken, unless the log is quiet.
     pub fn pending<T>(&self, cx: &mut Context<'_>) -> Poll<T>
         ensures pending { result ≡ Poll.Pending }
@@ -54,13 +70,14 @@ impl Log {
         cx.yield_now()
     }
 
-    /// A poll that is pending. Nothing wakes its task.
+    /// A poll that is pending. Nothing wakes its task, unless the log is stirred.
     pub fn wait<T>(&self, cx: &mut Context<'_>) -> Poll<T>
         ensures pending { result ≡ Poll.Pending }
         ensures armed { IsArmed cx.new }
         ensures kept { Keeps cx.old cx.new }
     {
         match self.idle.try_borrow_mut() {
+            Ok(_) if self.is_stirred.get() => cx.yield_now(),
             Ok(mut idle) => {
                 let _: Poll<()> = idle.poll(cx);
                 Poll::Pending

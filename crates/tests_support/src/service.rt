@@ -38,6 +38,7 @@ fn told_readiness(script: &Script<'_>, name: Name, cx: &mut Context<'_>) -> Poll
     match script.next_readiness() {
         Readiness::Ready => {
             script.log.note(format_args!("{name} ready"));
+            script.log.ready(cx);
             Poll::Ready(Ok(()))
         }
         Readiness::Pending => {
@@ -46,6 +47,7 @@ fn told_readiness(script: &Script<'_>, name: Name, cx: &mut Context<'_>) -> Poll
         }
         Readiness::Error(error) => {
             script.log.note(format_args!("{name} error {error}"));
+            script.log.ready(cx);
             Poll::Ready(Err(error))
         }
     }
