@@ -1,6 +1,6 @@
 -- The machines of `Then` and `AndThen`: the inner future, then the future that the closure returned, and nothing once there is an output.
 -- The second future is first polled in the poll in which the inner one returned its output.
-use Rattle.std.specs.Prelude.{◌≡◌, Result, Ok, Err}
+use Rattle.std.specs.Prelude.{◌≡◌, ◌⊎◌, Result, Ok, Err}
 use Rattle.futures.specs.declared.task.Poll.{Poll}
 use Rattle.futures.specs.declared.task.Poll.TheVariants.{Ready, Pending}
 use Rattle.tower_util.specs.Maps.{MapView}
@@ -49,3 +49,15 @@ module _ {F1 F2 N A E T U : Type 0} (first : F1 → Poll (Result A E) → F1 →
 
   abbrev pub AndThenStepped : Chain F1 F2 N → Poll (Result T U) → Chain F1 F2 N → Type 0
   AndThenStepped = Stepped first second GoesOn
+
+-- Why a poll of a chain may ask for another: the causes of the futures that it polls. In the poll in which the inner future returned its output
+-- these are the inner future's, and those of the second future, be it kept or dropped with its output.
+module _ {F1 F2 N : Type 0} (first : F1 → F1 → Type 0) (second : F2 → F2 → Type 0) where
+  abbrev pub Stirs : Chain F1 F2 N → Chain F1 F2 N → Type 0
+  Stirs (First old f) (First new g) = first old new
+  Stirs (First old f) (Second new) = ((left : F1) × first old left) ⊎ ((made : F2) × second made new)
+  Stirs (First old f) Done = ((left : F1) × first old left) ⊎ ((made : F2) × (left : F2) × second made left)
+  Stirs (Second old) (First new g) = ⊥
+  Stirs (Second old) (Second new) = second old new
+  Stirs (Second old) Done = (left : F2) × second old left
+  Stirs Done new = ⊥

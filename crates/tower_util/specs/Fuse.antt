@@ -18,3 +18,9 @@ module _ {F A : Type 0} (stepped : F → Poll A → F → Type 0) where
   abbrev pub Stepped : Option F → Poll A → Option F → Type 0
   Stepped (Some old) answer new = (left : F) × stepped old answer left × (new ≡ elim answer [ Ready x ↦ None | Pending ↦ Some left ])
   Stepped None answer new = ⊥
+
+-- Why a poll of a `Fuse` may ask for another: the future's causes, be the future kept or dropped with its output.
+abbrev pub Stirs : {F : Type 0} → (F → F → Type 0) → Option F → Option F → Type 0
+Stirs stirs (Some old) (Some new) = stirs old new
+Stirs {F = F} stirs (Some old) None = (left : F) × stirs old left
+Stirs stirs None new = ⊥

@@ -1,8 +1,9 @@
 -- The machine of `FutureService`: the future is polled until it returns the service, and from then on the service is used.
-use Rattle.std.specs.Prelude.{◌≡◌, Result, Ok, Err}
+use Rattle.std.specs.Prelude.{◌≡◌, ◌⊎◌, Result, Ok, Err}
 use Rattle.futures.specs.declared.task.Poll.{Poll}
 use Rattle.futures.specs.declared.task.Poll.TheVariants.{Ready, Pending}
 use Rattle.tower_base.specs.Answers.{answered}
+use Rattle.tower_base.specs.declared.service.Steps.{Ghosts as StepsOf}
 use Rattle.tower_util.specs.declared.util.error.future_service.Error.{Error}
 use Rattle.tower_util.specs.declared.util.error.future_service.Error.TheVariants.{Inner, Gone}
 use Rattle.tower_util.specs.declared.util.from_future.State.{State}
@@ -42,3 +43,15 @@ module _ {G A E : Type 0} (stepped : G → Poll (Result A E) → G → Type 0) w
   -- A poll of the response, whose error is wrapped in `Inner`.
   abbrev pub Stepped : G → Poll (Result A (Error E)) → G → Type 0
   Stepped old answer new = (inner : Poll (Result A E)) × stepped old inner new × (answer ≡ answered Inner inner)
+
+-- Why a poll of readiness may ask for another: the causes of what it polls. In the poll in which the future returned the service these are the
+-- future's and the service's.
+module _ {F S E : Type 0} (f : StepsOf F (Result S E)) (stirs : S → S → Type 0) where
+  abbrev pub Stirs : State F S → State F S → Type 0
+  Stirs (Coming old) (Coming new) = f.stirs old new
+  Stirs (Coming old) (There new) = (left : F) × (service : S) × f.stepped old (Ready (Ok service)) left × (f.stirs old left ⊎ stirs service new)
+  Stirs (Coming old) Lost = (left : F) × f.stirs old left
+  Stirs (There old) (There new) = stirs old new
+  Stirs (There old) (Coming new) = ⊥
+  Stirs (There old) Lost = ⊥
+  Stirs Lost new = ⊥

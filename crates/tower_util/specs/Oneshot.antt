@@ -1,6 +1,6 @@
 -- The machine of `Oneshot`: the service is polled until it is ready, and then called at once. From then on the response is polled. An error of
 -- readiness keeps the service and the request, and an error of the response keeps the response.
-use Rattle.std.specs.Prelude.{◌≡◌, Result, Ok, Err}
+use Rattle.std.specs.Prelude.{◌≡◌, ◌⊎◌, Result, Ok, Err}
 use Rattle.futures.specs.declared.task.Poll.{Poll}
 use Rattle.futures.specs.declared.task.Poll.TheVariants.{Ready, Pending}
 use Rattle.tower_base.specs.declared.service.Service.{Ghosts as ServiceOf}
@@ -31,3 +31,24 @@ module _ {S Q A E F : Type 0} (s : ServiceOf S Q A E F) (stepped : F → Poll (R
       × s.polled service readiness left × ReadinessPolled left request readiness answer new
   Stepped (InFlight future) answer new = ResponseStepped future answer new
   Stepped Done answer new = ⊥
+
+-- Why a poll of the response may ask for another: the response's causes, be it kept or dropped with its output.
+abbrev pub ResponseStirs : {S Q F : Type 0} → (F → F → Type 0) → F → State S Q F → Type 0
+ResponseStirs stirs old (NotReady service request) = ⊥
+ResponseStirs stirs old (InFlight new) = stirs old new
+ResponseStirs {F = F} stirs old Done = (left : F) × stirs old left
+
+-- Why a poll of the `Oneshot` may ask for another: the causes of what it polls. In the poll in which the service was ready these are the service's,
+-- and those of the response that its call returned.
+module _ {S Q A E F : Type 0} (s : ServiceOf S Q A E F) (stirs : F → F → Type 0) where
+  -- the causes of a poll that called the service, and left this state
+  abbrev pub CallStirs : S → Q → State S Q F → Type 0
+  CallStirs old request new = ((left : S) × s.stirs old left)
+      ⊎ ((ready : S) × (future : F) × (left : S) × s.called ready request future left × ResponseStirs stirs future new)
+
+  abbrev pub Stirs : State S Q F → State S Q F → Type 0
+  Stirs (NotReady old request) (NotReady new same) = s.stirs old new
+  Stirs (NotReady old request) (InFlight new) = CallStirs old request (InFlight new)
+  Stirs (NotReady old request) Done = CallStirs old request Done
+  Stirs (InFlight old) new = ResponseStirs stirs old new
+  Stirs Done new = ⊥

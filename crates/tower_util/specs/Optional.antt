@@ -24,3 +24,9 @@ module _ {F A E : Type 0} (stepped : F → Poll (Result A E) → F → Type 0) w
   abbrev pub Stepped : Option F → Poll (Result A (Error E)) → Option F → Type 0
   Stepped (Some old) answer new = (inner : Poll (Result A E)) × (left : F) × stepped old inner left × (answer ≡ answered Inner inner) × (new ≡ Some left)
   Stepped None answer new = (answer ≡ Ready (Err Missing)) × (new ≡ None)
+
+-- Why a poll of readiness or of the response may ask for another: the causes of the service, or of its response. Without one nothing is polled.
+abbrev pub Stirs : {T : Type 0} → (T → T → Type 0) → Option T → Option T → Type 0
+Stirs stirs (Some old) (Some new) = stirs old new
+Stirs stirs (Some old) None = ⊥
+Stirs stirs None new = ⊥

@@ -47,3 +47,14 @@ module _ {S E : Type 0} (sound ready : S → Type 0) (polled : S → Poll (Resul
     IsReadyOneshotStep old (Ready out) new before after = ReadyOneshotStepped sound ready polled old (Ready out) new × MayGiveBack old out × Keeps before after
     IsReadyOneshotStep old Pending new before after = ReadyOneshotStepped sound ready polled old Pending new × IsSomeAnd new sound
         × ((out : Result S E) → MayGiveBack new out → MayGiveBack old out) × Covers after (needs_of needs new) × Keeps before after
+
+-- Why a poll of a `ReadyOneshot` or of a `Ready` may ask for another: the causes of the service, be it kept or returned.
+abbrev pub ReadyOneshotStirs : {S : Type 0} → (S → S → Type 0) → Option S → Option S → Type 0
+ReadyOneshotStirs stirs (Some old) (Some new) = stirs old new
+ReadyOneshotStirs {S = S} stirs (Some old) None = (left : S) × stirs old left
+ReadyOneshotStirs stirs None new = ⊥
+
+abbrev pub ReadyStirs : {S : Type 0} → (S → S → Type 0) → Option (MutBor S) → Option (MutBor S) → Type 0
+ReadyStirs stirs (Some old) (Some new) = stirs old.now new.now
+ReadyStirs {S = S} stirs (Some old) None = (left : S) × stirs old.now left
+ReadyStirs stirs None new = ⊥

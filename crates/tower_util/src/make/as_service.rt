@@ -47,6 +47,8 @@ where
 
     ghost needs = { λ v. M.needs v.make.now };
 
+    ghost stirs = { λ old new. M.stirs old.make.now new.make.now };
+
     ghost called = { λ old target future new. M.ready old.make.now × M.called old.make.now target
         future new.make.now × (new.make.ghost_name ≡ old.make.ghost_name) };
 

@@ -52,6 +52,8 @@ where
 
     ghost needs = { M.needs };
 
+    ghost stirs = { M.stirs };
+
     ghost called = { λ old target future new. M.ready old × M.called old target future new };
 
     ghost readies = { M.readies };

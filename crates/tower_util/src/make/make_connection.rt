@@ -4,6 +4,7 @@ ghost use Rattle.futures.specs.Poll.{OnPending};
 ghost use Rattle.futures.specs.Task.{IsArmed, Keeps};
 ghost use Rattle.futures.specs.declared.task.Poll.{Poll};
 ghost use Rattle.futures.specs.declared.task.Poll.TheVariants.{Ready};
+ghost use Rattle.tower_base.specs.Quiet.{Quiet};
 
 use futures::task::{Context, Poll};
 use tower_base::service::{Service, Steps};
@@ -24,6 +25,8 @@ pub trait MakeConnection<Target>: Drop {
 
     ghost polled: { Self → Poll (Result (Unit {0}) Self.Error) → Self → Type 0 };
 
+    ghost stirs: { Self → Self → Type 0 } = { λ _ _. ⊤ };
+
     ghost called: { Self → Target → Self.Future → Self → Type 0 };
 
     /// Polls the readiness to make a connection.
@@ -32,6 +35,7 @@ pub trait MakeConnection<Target>: Drop {
         ensures polled { polled self.old result self.new }
         ensures sound { sound self.new }
         ensures armed { OnPending result (IsArmed cx.new) }
+        ensures quiet { Quiet (stirs self.old self.new) cx.old cx.new }
         ensures kept { Keeps cx.old cx.new };
 
     /// Makes a connection to the target, and returns its future.
@@ -61,6 +65,8 @@ where
     ghost ready = { C.ready };
 
     ghost polled = { C.polled };
+
+    ghost stirs = { C.stirs };
 
     ghost called = { λ old target future new. C.ready old × C.called old target future new };
 

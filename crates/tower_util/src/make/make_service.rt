@@ -4,6 +4,7 @@ ghost use Rattle.futures.specs.Poll.{OnPending};
 ghost use Rattle.futures.specs.Task.{Hears, IsArmed, Keeps};
 ghost use Rattle.futures.specs.declared.task.Poll.{Poll};
 ghost use Rattle.futures.specs.declared.task.Poll.TheVariants.{Ready};
+ghost use Rattle.tower_base.specs.Quiet.{Quiet};
 
 use crate::make::{AsService, IntoService};
 use futures::task::{Context, Poll};
@@ -31,6 +32,8 @@ pub trait MakeService<Target, Request>: Drop {
 
     ghost needs: { Self → ℕ → Type 0 } = { λ _ _. ⊥ };
 
+    ghost stirs: { Self → Self → Type 0 } = { λ _ _. ⊤ };
+
     ghost called: { Self → Target → Self.Future → Self → Type 0 };
 
     /// Polls the maker's readiness to make a service.
@@ -40,6 +43,7 @@ pub trait MakeService<Target, Request>: Drop {
         ensures sound { sound self.new }
         ensures armed { OnPending result (IsArmed cx.new) }
         ensures heard { OnPending result ((s : ℕ) → needs self.new s → Hears cx.new s) }
+        ensures quiet { Quiet (stirs self.old self.new) cx.old cx.new }
         ensures kept { Keeps cx.old cx.new };
 
     /// Makes a service for the target, and returns its future.
@@ -95,6 +99,8 @@ where
     ghost polled = { M.polled };
 
     ghost needs = { M.needs };
+
+    ghost stirs = { M.stirs };
 
     ghost called = { λ old target future new. M.ready old × M.called old target future new };
 

@@ -54,6 +54,9 @@ impl<S: Clone + Drop, T: Drop> Service<T> for Shared<S> {
 
     ghost polled = { λ old answer new. (answer ≡ Ready (Ok tt)) × (new ≡ old) };
 
+    // It polls nothing.
+    ghost stirs = { λ _ _. ⊥ };
+
     ghost called = { Called S.Clone };
 
     ghost readies = { λ _ _ _. tt };
@@ -116,6 +119,9 @@ impl<S: Drop> Steps for SharedFuture<S> {
     type Output = Result<S, Error>;
 
     ghost can_poll = { λ t. IsSome t };
+
+    // It polls nothing.
+    ghost stirs = { λ _ _. ⊥ };
 
     ghost stepped = { Stepped };
 

@@ -51,6 +51,9 @@ where
 
     ghost polled = { λ old answer new. (answer ≡ Ready (Ok tt)) × (new ≡ old) };
 
+    // It polls nothing.
+    ghost stirs = { λ _ _. ⊥ };
+
     ghost called = { λ old request future new. T.step old.f request future new.f };
 
     ghost readies = { λ _ _ _. tt };

@@ -2,7 +2,7 @@
 ghost use Rattle.std.specs.Prelude.{◌≡◌};
 ghost use Rattle.std.proofs.Common.{rules};
 ghost use Rattle.tower_base.specs.Gives.{IsStep, MayGive};
-ghost use Rattle.tower_util.specs.Either.{Stepped};
+ghost use Rattle.tower_util.specs.Either.{ResponseStirs, Stepped, Stirs};
 ghost use Rattle.tower_util.specs.Projections.{EitherGoes, either as either_projects};
 ghost use Rattle.tower_util.specs.declared.util.either.Either.TheVariants.{Left, Right};
 ghost use Rattle.tower_util.specs.declared.util.either.EitherResponseFuture.TheVariants.{First, Second};
@@ -39,6 +39,8 @@ where
     ghost ready = { elim [ Left a ↦ A.ready a | Right b ↦ B.ready b ] };
 
     ghost needs = { elim [ Left a ↦ A.needs a | Right b ↦ B.needs b ] };
+
+    ghost stirs = { Stirs A.stirs B.stirs };
 
     // A poll polls the side that is present.
     ghost polled = { λ old answer new. elim old [
@@ -154,6 +156,8 @@ impl<A: Steps, B: Steps<Output = A::Output>> Steps for EitherResponseFuture<A, B
     ghost can_poll = { elim [ First a ↦ A.can_poll a | Second b ↦ B.can_poll b ] };
 
     ghost needs = { elim [ First a ↦ A.needs a | Second b ↦ B.needs b ] };
+
+    ghost stirs = { ResponseStirs A.stirs B.stirs };
 
     ghost stepped = { Stepped A.stepped B.stepped };
 

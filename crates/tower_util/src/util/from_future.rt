@@ -5,7 +5,8 @@ ghost use Rattle.futures.specs.Poll.{OnPending};
 ghost use Rattle.futures.specs.Task.{Hears, IsArmed, Keeps};
 ghost use Rattle.tower_base.specs.Gives.{IsStep, MayGive};
 ghost use Rattle.tower_base.specs.Answers.{answered};
-ghost use Rattle.tower_util.specs.FutureService.{Polled, Called, Stepped, IsThere};
+ghost use Rattle.tower_base.specs.Quiet.{Quiet};
+ghost use Rattle.tower_util.specs.FutureService.{Polled, Called, Stepped, Stirs, IsThere};
 ghost use Rattle.tower_util.specs.FutureServiceReady.{polled_ready};
 ghost use Rattle.tower_util.specs.declared.util.error.future_service.Error.TheVariants.{Inner};
 ghost use Rattle.tower_util.specs.declared.util.from_future.State.{State as FutureServiceState};
@@ -91,6 +92,8 @@ where
       | Lost ↦ λ _. ⊥
     ] };
 
+    ghost stirs = { Stirs F.Steps.own S.stirs };
+
     ghost called = { Called S.ready S.called };
 
     ghost readies = { polled_ready F.stepped S.polled S.ready S.readies };
@@ -136,6 +139,7 @@ fn serve<R, S: Service<R>>(
         × (result ≡ answered Inner inner) }
     ensures armed { OnPending result (IsArmed cx.new) }
     ensures heard { OnPending result ((s : ℕ) → S.needs service.new s → Hears cx.new s) }
+    ensures quiet { Quiet (S.stirs service.old service.new) cx.old cx.new }
     ensures kept { Keeps cx.old cx.new }
 {
     match ready!(service.poll_ready(cx)) {
@@ -181,6 +185,8 @@ impl<N: Steps<Output = Result<A, E>>, A, E> Steps for FutureServiceFuture<N> {
     ghost can_poll = { N.can_poll };
 
     ghost needs = { N.needs };
+
+    ghost stirs = { N.stirs };
 
     ghost stepped = { Stepped N.stepped };
 

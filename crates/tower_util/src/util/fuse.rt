@@ -1,6 +1,6 @@
 //! A future that is dropped when it returns its output.
 ghost use Rattle.std.specs.Prelude.{◌≡◌, Option, Some};
-ghost use Rattle.tower_util.specs.Fuse.{CanPoll, Stepped, needs_of};
+ghost use Rattle.tower_util.specs.Fuse.{CanPoll, Stepped, Stirs, needs_of};
 
 use futures::task::{Context, Poll};
 use std::marker::Model;
@@ -36,6 +36,8 @@ impl<F: Steps> Steps for Fuse<F> {
     ghost can_poll = { CanPoll F.can_poll };
 
     ghost needs = { needs_of F.needs };
+
+    ghost stirs = { Stirs F.stirs };
 
     ghost stepped = { Stepped F.stepped };
 

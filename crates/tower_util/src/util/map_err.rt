@@ -1,7 +1,7 @@
 //! A service that changes the errors of another by a closure, including errors of readiness.
 ghost use Rattle.std.specs.Prelude.{◌≡◌, Option};
 ghost use Rattle.tower_base.specs.Gives.{IsStep, MayGive};
-ghost use Rattle.tower_util.specs.Fuse.{CanPoll, needs_of};
+ghost use Rattle.tower_util.specs.Fuse.{CanPoll, Stirs, needs_of};
 ghost use Rattle.tower_util.specs.Maps.{MapView, MapLayerView, Polled, Called, MapErrStepped};
 ghost use Rattle.tower_util.specs.MapsReady.{polled_ready};
 
@@ -64,6 +64,8 @@ where
 
     ghost needs = { λ m. S.needs m.inner };
 
+    ghost stirs = { λ old new. S.stirs old.inner new.inner };
+
     ghost called = { Called S.ready S.called };
 
     ghost readies = { polled_ready S.polled F.post S.ready S.readies };
@@ -121,6 +123,8 @@ impl<F: Steps<Output = Result<A, E>>, N: Fn(E) -> U + Copy, A, E, U> Steps for M
     ghost can_poll = { λ t. CanPoll F.can_poll t.inner × N.IsAlwaysCallable t.f };
 
     ghost needs = { λ t. needs_of F.needs t.inner };
+
+    ghost stirs = { λ old new. Stirs F.stirs old.inner new.inner };
 
     ghost stepped = { MapErrStepped F.stepped N.post };
 

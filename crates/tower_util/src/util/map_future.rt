@@ -65,6 +65,8 @@ where
 
     ghost needs = { λ m. S.needs m.inner };
 
+    ghost stirs = { λ old new. S.stirs old.inner new.inner };
+
     // A call calls the inner service once, and the closure once with the future that this returned.
     ghost called = { λ old request future new. (inner : _) × S.ready old.inner
         × S.called old.inner request inner new.inner × F.step old.f inner future new.f };

@@ -52,6 +52,8 @@ impl<S: Service<R2>, F: FnMut(R1) -> R2 + Drop, R1, R2> Service<R1> for MapReque
 
     ghost needs = { λ m. S.needs m.inner };
 
+    ghost stirs = { λ old new. S.stirs old.inner new.inner };
+
     // A call calls the closure once, and the inner service once with the request that the closure returned.
     ghost called = { λ old request future new. (inner : _) × F.step old.f request inner new.f
         × S.ready old.inner × S.called old.inner inner future new.inner };

@@ -1,7 +1,7 @@
 //! A service that changes the responses of another by a closure.
 ghost use Rattle.std.specs.Prelude.{◌≡◌, Option};
 ghost use Rattle.tower_base.specs.Gives.{IsStep, MayGive};
-ghost use Rattle.tower_util.specs.Fuse.{CanPoll, needs_of};
+ghost use Rattle.tower_util.specs.Fuse.{CanPoll, Stirs, needs_of};
 ghost use Rattle.tower_util.specs.Maps.{MapView, MapLayerView, Called, MapResponseStepped};
 
 use crate::util::fuse::Fuse;
@@ -62,6 +62,8 @@ where
 
     ghost needs = { λ m. S.needs m.inner };
 
+    ghost stirs = { λ old new. S.stirs old.inner new.inner };
+
     ghost called = { Called S.ready S.called };
 
     ghost readies = { λ old new polled. S.readies old.inner new.inner polled.0 };
@@ -119,6 +121,8 @@ impl<F: Steps<Output = Result<A, E>>, N: Fn(A) -> B + Copy, A, B, E> Steps
     ghost can_poll = { λ t. CanPoll F.can_poll t.inner × N.IsAlwaysCallable t.f };
 
     ghost needs = { λ t. needs_of F.needs t.inner };
+
+    ghost stirs = { λ old new. Stirs F.stirs old.inner new.inner };
 
     ghost stepped = { MapResponseStepped F.stepped N.post };
 

@@ -1,7 +1,7 @@
 //! A service that changes the results of another by a closure.
 ghost use Rattle.std.specs.Prelude.{◌≡◌, Option};
 ghost use Rattle.tower_base.specs.Gives.{IsStep, MayGive};
-ghost use Rattle.tower_util.specs.Fuse.{CanPoll, needs_of};
+ghost use Rattle.tower_util.specs.Fuse.{CanPoll, Stirs, needs_of};
 ghost use Rattle.tower_util.specs.Maps.{MapView, MapLayerView, Polled, Called, MapResultStepped};
 ghost use Rattle.tower_util.specs.MapsReady.{polled_ready};
 
@@ -64,6 +64,8 @@ where
     ghost polled = { Polled S.polled (λ _. U.from_gives) };
 
     ghost needs = { λ m. S.needs m.inner };
+
+    ghost stirs = { λ old new. S.stirs old.inner new.inner };
 
     ghost called = { Called S.ready S.called };
 
@@ -131,6 +133,8 @@ where
     ghost can_poll = { λ t. CanPoll F.can_poll t.inner × N.IsAlwaysCallable t.f };
 
     ghost needs = { λ t. needs_of F.needs t.inner };
+
+    ghost stirs = { λ old new. Stirs F.stirs old.inner new.inner };
 
     ghost stepped = { MapResultStepped F.stepped N.post };
 

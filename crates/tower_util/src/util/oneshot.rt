@@ -3,7 +3,8 @@ ghost use Rattle.std.specs.Prelude.{◌≡◌};
 ghost use Rattle.futures.specs.Poll.{OnPending};
 ghost use Rattle.futures.specs.Task.{Covers, Keeps};
 ghost use Rattle.tower_base.specs.Gives.{IsStep, MayGive};
-ghost use Rattle.tower_util.specs.Oneshot.{Stepped, ResponseStepped};
+ghost use Rattle.tower_base.specs.Quiet.{Quiet};
+ghost use Rattle.tower_util.specs.Oneshot.{Stepped, Stirs, ResponseStepped, ResponseStirs};
 ghost use Rattle.tower_util.specs.declared.util.oneshot.State.TheVariants.{NotReady, InFlight, Done};
 
 use futures::future::Future;
@@ -89,6 +90,8 @@ impl<S: Service<Request>, Request: Drop> Steps for Oneshot<S, Request> {
       | Done ↦ λ _. ⊥
     ] };
 
+    ghost stirs = { λ old new. Stirs S.Service S.Future.stirs old.state new.state };
+
     ghost stepped = { λ old answer new. Stepped S.Service S.Future.stepped old.state answer
         new.state };
 
@@ -128,6 +131,7 @@ impl<S: Service<Request>, Request: Drop> Oneshot<S, Request> {
         ensures again { OnPending result (⟦<Oneshot<S, Request> as Steps>⟧.can_poll self.new) }
         ensures registered { OnPending result
             (Covers cx.new (⟦<Oneshot<S, Request> as Steps>⟧.needs self.new)) }
+        ensures quiet { Quiet (ResponseStirs S.Future.stirs response self.new.state) cx.old cx.new }
         ensures kept { Keeps cx.old cx.new }
     {
         let answer = response.step(cx);

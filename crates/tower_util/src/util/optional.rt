@@ -1,7 +1,7 @@
 //! A service that may be absent.
 ghost use Rattle.std.specs.Prelude.{◌≡◌, Option, IfSome};
 ghost use Rattle.tower_util.specs.Fuse.{needs_of};
-ghost use Rattle.tower_util.specs.Optional.{Polled, Called};
+ghost use Rattle.tower_util.specs.Optional.{Polled, Called, Stirs};
 ghost use Rattle.tower_util.specs.OptionalReady.{polled_ready};
 
 pub mod error;
@@ -50,6 +50,8 @@ impl<T: Service<Request>, Request: Drop> Service<Request> for Optional<T> {
     ghost polled = { Polled T.polled };
 
     ghost needs = { needs_of T.needs };
+
+    ghost stirs = { Stirs T.stirs };
 
     ghost called = { Called T.ready T.called };
 

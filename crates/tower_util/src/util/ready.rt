@@ -4,7 +4,7 @@ ghost use Rattle.futures.specs.Poll.{IfReady, OnPending};
 ghost use Rattle.futures.specs.Task.{Covers, Keeps};
 ghost use Rattle.tower_base.specs.Gives.{MayGive};
 ghost use Rattle.tower_util.specs.Fuse.{needs_of};
-ghost use Rattle.tower_util.specs.Ready.{ReadyStepped, ReadyOneshotStepped, HandsBack, IsReadyOneshotStep, MayGiveBack};
+ghost use Rattle.tower_util.specs.Ready.{ReadyStepped, ReadyStirs, ReadyOneshotStepped, ReadyOneshotStirs, HandsBack, IsReadyOneshotStep, MayGiveBack};
 
 use futures::future::Future;
 use futures::task::{Context, Poll};
@@ -63,6 +63,8 @@ impl<T: Service<Request>, Request: Drop> Steps for ReadyOneshot<T, Request> {
     ghost can_poll = { λ r. IsSomeAnd r T.sound };
 
     ghost needs = { needs_of T.needs };
+
+    ghost stirs = { ReadyOneshotStirs T.stirs };
 
     ghost stepped = { ReadyOneshotStepped T.sound T.ready T.polled };
 
@@ -139,6 +141,8 @@ impl<'a, T: Service<Request>, Request: Drop> Steps for Ready<'a, T, Request> {
     ghost can_poll = { λ r. IsSomeAnd r.service (λ lent. T.sound lent.now) };
 
     ghost needs = { λ r source. IsSomeAnd r.service (λ lent. T.needs lent.now source) };
+
+    ghost stirs = { λ old new. ReadyStirs T.stirs old.service new.service };
 
     ghost stepped = { λ old answer new. ReadyStepped T.sound T.ready T.polled old.service answer
         new.service };

@@ -72,6 +72,8 @@ impl<S: Service<Request>, Request> Service<Request> for Sealed<S, Request> {
 
     ghost needs = { S.needs };
 
+    ghost stirs = { S.stirs };
+
     ghost called = { S.called };
 
     ghost readies = { S.readies };

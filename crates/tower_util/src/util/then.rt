@@ -1,7 +1,7 @@
 //! A service that continues with a second future after each result.
 ghost use Rattle.std.specs.Prelude.{◌≡◌, Result};
 ghost use Rattle.tower_base.specs.Gives.{IsStep, MayGive};
-ghost use Rattle.tower_util.specs.Chain.{Called, ThenStepped};
+ghost use Rattle.tower_util.specs.Chain.{Called, Stirs, ThenStepped};
 ghost use Rattle.tower_util.specs.Maps.{MapView, MapLayerView, Polled};
 ghost use Rattle.tower_util.specs.MapsReady.{polled_ready};
 ghost use Rattle.tower_util.specs.declared.util.chain.Chain.{Chain as Stages};
@@ -69,6 +69,8 @@ where
     ghost polled = { Polled S.polled (λ _. U.from_gives) };
 
     ghost needs = { λ m. S.needs m.inner };
+
+    ghost stirs = { λ old new. S.stirs old.inner new.inner };
 
     ghost called = { Called S.ready S.called };
 
@@ -154,6 +156,8 @@ where
       | Second inner ↦ F2.needs inner
       | Done ↦ λ _. ⊥
     ] };
+
+    ghost stirs = { Stirs F1.stirs F2.stirs };
 
     ghost stepped = { ThenStepped F1.stepped N.post F2.stepped };
 

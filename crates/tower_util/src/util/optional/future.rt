@@ -1,7 +1,7 @@
 //! The response future of an optional service.
 ghost use Rattle.std.specs.Prelude.{◌≡◌, Option, IfSome, Some, None};
 ghost use Rattle.tower_base.specs.Gives.{IsStep, MayGive};
-ghost use Rattle.tower_util.specs.Optional.{Stepped};
+ghost use Rattle.tower_util.specs.Optional.{Stepped, Stirs};
 
 use crate::util::optional::error::Error;
 use futures::future::Future;
@@ -55,6 +55,8 @@ impl<F: Steps<Output = Result<T, E>>, T, E> Steps for ResponseFuture<F> {
     ghost can_poll = { λ t. IfSome t F.can_poll };
 
     ghost needs = { elim [ Some f ↦ F.needs f | None ↦ λ _. ⊥ ] };
+
+    ghost stirs = { Stirs F.stirs };
 
     ghost stepped = { Stepped F.stepped };
 
