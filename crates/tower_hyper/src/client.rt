@@ -55,6 +55,8 @@ impl<R: Drop, T: Sender<R>> Service<R> for Client<T> {
 
     ghost polled = { Polled T.Sender };
 
+    ghost stirs = { λ old new. T.stirs old.sender new.sender };
+
     ghost called = { Called T.Sender };
 
     ghost readies = { λ _ _ p. p.is_ready };
@@ -86,6 +88,7 @@ impl<F> Model for ResponseFuture<F> {
     ghost view = { λ f. f.response };
 }
 
+// (`Future` doesn't say when a poll asks for another poll. So `stirs` is left out.)
 impl<F: Future> Steps for ResponseFuture<F> {
     type Output = F::Output;
 

@@ -4,6 +4,7 @@ ghost use Rattle.futures.specs.Task.{IsArmed, Keeps};
 ghost use Rattle.futures.specs.Poll.{OnPending};
 ghost use Rattle.futures.specs.declared.task.Poll.{Poll};
 ghost use Rattle.http.specs.Request.{body_of};
+ghost use Rattle.tower_base.specs.Quiet.{Quiet};
 
 use futures::future::Future;
 use futures::task::{Context, Poll};
@@ -26,6 +27,10 @@ pub trait Sender<Request>: Drop {
     // A poll of readiness may return this and leave the second value.
     ghost polled: { Self → Poll (Result (Unit {0}) Self.Error) → Self → Type 0 } = { λ _ _ _. ⊤ };
 
+    // A poll of readiness that led from the first value to the second may have asked for another poll. If
+    // this is left out, it isn't known when.
+    ghost stirs: { Self → Self → Type 0 } = { λ _ _. ⊤ };
+
     // The request was sent once; the future is that of its response, and the second value is left.
     ghost sent: { Self → Request → Self.Future → Self → Type 0 } = { λ _ _ _ _. ⊤ };
 
@@ -33,6 +38,8 @@ pub trait Sender<Request>: Drop {
     fn poll_ready(&mut self, cx: &mut Context<'_>) -> Poll<Result<(), Self::Error>>
         ensures polled { polled self.old result self.new }
         ensures armed { OnPending result (IsArmed cx.new) }
+        // It asks for another poll only for a cause that it names.
+        ensures quiet { Quiet (stirs self.old self.new) cx.old cx.new }
         ensures kept { Keeps cx.old cx.new };
 
     /// Sends the request, and returns the future of its response.
@@ -43,6 +50,7 @@ pub trait Sender<Request>: Drop {
 }
 
 /// Nothing is known of a response, or of when the connection is ready: that is between `hyper` and the peer.
+// (`hyper` doesn't say when its poll asks for another poll. So `stirs` is left out.)
 impl<B: Body, I: Drop> Sender<Request<B>> for SendRequest<B, I> {
     type Response = Response<Incoming<I>>;
 
