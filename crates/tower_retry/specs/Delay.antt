@@ -1,5 +1,5 @@
 -- The machine of `hedge::delay`.
-use Rattle.std.specs.Prelude.{◌≡◌, ℕ, ⊤, ◌+◌, Result, Err}
+use Rattle.std.specs.Prelude.{◌≡◌, ◌⊎◌, ℕ, ⊤, ◌+◌, Result, Err}
 use Rattle.std.specs.declared.clone.Clone.{Ghosts as CloneOf}
 use Rattle.futures.specs.declared.task.Poll.{Poll}
 use Rattle.futures.specs.declared.task.Poll.TheVariants.{Ready, Pending}
@@ -81,3 +81,19 @@ abbrev pub Needs : {S C Q O : Type 0} → (C → ℕ → Type 0) → (O → ℕ 
 Needs hears needs (Delaying sleep service request) = hears sleep.clock
 Needs hears needs (InFlight oneshot) = needs oneshot
 Needs hears needs NoClone = λ source. ⊥
+
+module _ {S C Q A E F : Type 0} (call : Oneshot S Q A E F → Oneshot S Q A E F → Type 0) where
+  -- Why the first poll of a call may ask for another: the causes of the `Oneshot` that begins with the clone and the request.
+  abbrev pub BeginStirs : State (SleepView C) S Q (Oneshot S Q A E F) → State (SleepView C) S Q (Oneshot S Q A E F) → Type 0
+  BeginStirs (Delaying sleep service request) (InFlight new) =
+      (first : Oneshot S Q A E F) × (first.state ≡ NotReady service request) × call first new
+  BeginStirs old new = ⊥
+
+  -- Why a poll of a future may ask for another: during the delay the clock's causes, and then those of the call. The poll that ends the delay has
+  -- those of the clock, and those of the call's first poll.
+  abbrev pub Stirs : (C → Type 0) → State (SleepView C) S Q (Oneshot S Q A E F) → State (SleepView C) S Q (Oneshot S Q A E F) → Type 0
+  Stirs clock (Delaying old service request) (Delaying new kept again) = clock new.clock
+  Stirs clock (Delaying old service request) (InFlight new) =
+      ((left : C) × clock left) ⊎ BeginStirs (Delaying old service request) (InFlight new)
+  Stirs clock (InFlight old) (InFlight new) = call old new
+  Stirs clock old new = ⊥

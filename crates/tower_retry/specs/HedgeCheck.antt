@@ -21,3 +21,8 @@ CanPoll old = ⊤
 abbrev pub Needs : {Q N : Type 0} → (N → ℕ → Type 0) → CheckState Q N → ℕ → Type 0
 Needs needs (Waiting never) = needs never
 Needs needs old = λ source. ⊥
+
+-- Why a poll of a check may ask for another: the causes of the future that is never ready. A poll that returns the request has none.
+abbrev pub Stirs : {Q N : Type 0} → (N → N → Type 0) → CheckState Q N → CheckState Q N → Type 0
+Stirs never (Waiting old) (Waiting new) = never old new
+Stirs never old new = ⊥

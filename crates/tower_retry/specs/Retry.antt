@@ -1,10 +1,10 @@
 -- The machine of `retry`.
-use Rattle.std.specs.Prelude.{◌≡◌, ℕ, ⊤, Option, Some, None, Result, Ok, Err, IsSome}
+use Rattle.std.specs.Prelude.{◌≡◌, ◌⊎◌, ℕ, ⊤, Option, Some, None, Result, Ok, Err, IsSome}
 use Rattle.std.specs.declared.clone.Clone.{Ghosts as CloneOf}
 use Rattle.futures.specs.declared.task.Poll.{Poll}
 use Rattle.futures.specs.declared.task.Poll.TheVariants.{Ready, Pending}
 use Rattle.tower_base.specs.Answers.{answered}
-use Rattle.tower_base.specs.Iterations.{Iterations}
+use Rattle.tower_base.specs.Iterations.{Iterates, Iterations, limit}
 use Rattle.tower_base.specs.declared.service.Service.{Ghosts as ServiceOf}
 use Rattle.tower_retry.specs.declared.retry.error.Error.{Error}
 use Rattle.tower_retry.specs.declared.retry.error.Error.TheVariants.{Inner, Memory}
@@ -92,6 +92,25 @@ module _ {P S Q A E F W : Type 0} (s : ServiceOf S Q A E F) (stepped : F → Pol
   abbrev pub Stepped : ResponseFutureView P S Q F W → Poll (Result A (Error E)) → ResponseFutureView P S Q F W → Type 0
   Stepped (Some old) answer new = (left : Attempts P S Q F W) × (new ≡ Some left) × Iterations Iteration Pending old answer left
   Stepped None answer new = (answer ≡ Ready (Err Memory)) × (new ≡ None)
+
+  module _ (response : F → F → Type 0) (wait : W → W → Type 0) where
+    -- Why an iteration may ask for another poll: the causes of what it polls.
+    abbrev pub StirsAt : State F W → S → Type 0
+    StirsAt (InFlight old) service = (left : F) × response old left
+    StirsAt (Waiting old) service = (left : W) × wait old left
+    StirsAt Retrying service = (left : S) × s.stirs service left
+
+    -- After some iterations without an answer, the next one may ask for another poll.
+    abbrev pub Stirred : Attempts P S Q F W → Type 0
+    Stirred old = (count : ℕ) × (mid : Attempts P S Q F W) × Iterates Iteration count old mid × StirsAt mid.state mid.service
+
+    -- Why a poll of a future may ask for another: 64 iterations in a row gave no answer, or one of its iterations may ask for it.
+    abbrev pub StirsIn : Attempts P S Q F W → Attempts P S Q F W → Type 0
+    StirsIn old new = Iterates Iteration limit old new ⊎ Stirred old
+
+    abbrev pub Stirs : ResponseFutureView P S Q F W → ResponseFutureView P S Q F W → Type 0
+    Stirs (Some old) (Some new) = StirsIn old new
+    Stirs old new = ⊥
 
 module _ {P S Q A E F W : Type 0} (s : ServiceOf S Q A E F) (p : PolicyOf P Q A E W) where
   -- a poll of readiness: one poll of the inner service

@@ -81,3 +81,11 @@ SecondNeeds needs None source = ⊥
 
 abbrev pub Needs : {F H : Type 0} → (F → ℕ → Type 0) → (H → ℕ → Type 0) → ResponseFutureView F H → ℕ → Type 0
 Needs first second future source = first future.a_fut source ⊎ SecondNeeds second future.b_fut source
+
+-- Why a poll of a future may ask for another: the causes of both calls.
+abbrev pub SecondStirs : {H : Type 0} → (H → H → Type 0) → Option H → Option H → Type 0
+SecondStirs stirs (Some old) (Some new) = stirs old new
+SecondStirs stirs old new = ⊥
+
+abbrev pub Stirs : {F H : Type 0} → (F → F → Type 0) → (H → H → Type 0) → ResponseFutureView F H → ResponseFutureView F H → Type 0
+Stirs first second old new = first old.a_fut new.a_fut ⊎ SecondStirs second old.b_fut new.b_fut

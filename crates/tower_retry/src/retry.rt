@@ -71,6 +71,8 @@ where
 
     ghost needs = { λ retry. S.needs retry.service };
 
+    ghost stirs = { λ old new. S.stirs old.service new.service };
+
     ghost called = { Called S.Service P.Policy P.Clone S.Clone };
 
     ghost readies = { λ old new poll. S.readies old.service new.service

@@ -2,7 +2,7 @@
 ghost use Rattle.std.specs.Prelude.{◌≡◌};
 ghost use Rattle.futures.specs.declared.future.made.pending.Pending.{Pending};
 ghost use Rattle.tower_base.specs.Gives.{IsStep, MayGive};
-ghost use Rattle.tower_retry.specs.HedgeCheck.{CanPoll, CheckStepped, Needs};
+ghost use Rattle.tower_retry.specs.HedgeCheck.{CanPoll, CheckStepped, Needs, Stirs};
 ghost use Rattle.tower_retry.specs.declared.hedge.check.CheckState.{CheckState};
 
 use futures::future::{Future, Pending};
@@ -71,6 +71,8 @@ impl<Request: Drop> Steps for CheckFuture<Request> {
     ghost needs = { Needs ⟦<Pending<()> as Future>⟧.needs };
 
     ghost stepped = { CheckStepped };
+
+    ghost stirs = { Stirs ⟦<Pending<()> as Steps>⟧.stirs };
 
     fn step(&mut self, cx: &mut Context<'_>) -> Poll<Self::Output> {
         if let CheckState::Waiting(never) = &mut self.state {

@@ -69,6 +69,9 @@ where
 
     ghost polled = { λ old answer new. (answer ≡ Ready (Ok tt)) × (new ≡ old) };
 
+    // It is always ready, and polls nothing.
+    ghost stirs = { λ _ _. ⊥ };
+
     ghost called = { Called P.Policy S.Clone C.Clock };
 
     ghost readies = { λ _ _ _. tt };

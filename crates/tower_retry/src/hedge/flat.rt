@@ -56,6 +56,8 @@ where
 
     ghost needs = { N.needs };
 
+    ghost stirs = { N.stirs };
+
     ghost called = { N.called };
 
     ghost readies = { λ old new p. N.readies old new

@@ -67,6 +67,8 @@ where
 
     ghost stepped = { Stepped F.Steps.own };
 
+    ghost stirs = { F.stirs };
+
     fn step(&mut self, cx: &mut Context<'_>) -> Poll<Self::Output> {
         outer(self.inner.step(cx))
     }

@@ -66,6 +66,8 @@ where
 
     ghost needs = { λ l. S.needs l.service };
 
+    ghost stirs = { λ old new. S.stirs old.service new.service };
+
     ghost called = { Called S.Service R.Clone C.Clock };
 
     ghost readies = { λ old new p. S.readies old.service new.service p.polled };

@@ -1,5 +1,5 @@
 //! Two calls, of which the first answer counts: the Rust's `tower::hedge::select`.
-ghost use Rattle.std.specs.Prelude.{◌≡◌};
+ghost use Rattle.std.specs.Prelude.{◌≡◌, ◌⊎◌};
 ghost use Rattle.tower_retry.specs.Select.{SelectView, Polled, Called, ServiceNeeds};
 ghost use Rattle.tower_retry.specs.SelectReady.{both_ready};
 
@@ -60,6 +60,8 @@ where
     ghost polled = { Polled A.Service B.Service };
 
     ghost needs = { ServiceNeeds A.ready A.needs B.ready B.needs };
+
+    ghost stirs = { λ old new. A.stirs old.a new.a ⊎ B.stirs old.b new.b };
 
     ghost called = { Called P.Policy A.Service B.Service };
 

@@ -7,7 +7,8 @@ ghost use Rattle.tower_base.specs.Gives.{IsStep, MayGive};
 ghost use Rattle.tower_base.specs.Iterations.{Iterations};
 ghost use Rattle.tower_base.specs.Answers.{answered};
 ghost use Rattle.tower_base.specs.LastIteration.{AnsweredOrWoken};
-ghost use Rattle.tower_retry.specs.Retry.{AfterResult, Again, Needs, NeedsAt, Iteration, ResponseFutureView, Sound, Stepped, Unanswered};
+ghost use Rattle.tower_base.specs.Quiet.{Quiet};
+ghost use Rattle.tower_retry.specs.Retry.{AfterResult, Again, Needs, NeedsAt, Iteration, ResponseFutureView, Sound, Stepped, Stirs, StirsAt, StirsIn, Unanswered};
 ghost use Rattle.tower_retry.specs.declared.retry.error.Error.TheVariants.{Inner};
 
 use crate::retry::state::{Attempts, State};
@@ -92,6 +93,9 @@ where
 
     ghost stepped = { Stepped S.Service S.Future.stepped P.Policy P.Future.stepped };
 
+    ghost stirs = { Stirs S.Service S.Future.stepped P.Policy P.Future.stepped
+        S.Future.stirs P.Future.stirs };
+
     #[inline(always)]
     fn step(&mut self, cx: &mut Context<'_>) -> Poll<Self::Output>
         requires { IfSome self.old (Sound P.sound S.sound S.Future.can_poll P.Future.can_poll) }
@@ -104,6 +108,8 @@ where
             (IfSome self.new (Sound P.sound S.sound S.Future.can_poll P.Future.can_poll)) }
         ensures registered { OnPending result
             (Covers cx.new (Needs S.Future.needs P.Future.needs S.needs self.new)) }
+        ensures quiet { Quiet (Stirs S.Service S.Future.stepped P.Policy P.Future.stepped
+            S.Future.stirs P.Future.stirs self.old self.new) cx.old cx.new }
         ensures kept { Keeps cx.old cx.new }
     {
         let Some(attempts) = &mut self.attempts else {
@@ -131,6 +137,8 @@ where
         (Sound P.sound S.sound S.Future.can_poll P.Future.can_poll attempts.new) }
     ensures registered { OnPending result (Covers cx.new
         (NeedsAt S.Future.needs P.Future.needs (S.needs attempts.new.service) attempts.new.state)) }
+    ensures quiet { Quiet (StirsIn S.Service S.Future.stepped P.Policy P.Future.stepped
+        S.Future.stirs P.Future.stirs attempts.old attempts.new) cx.old cx.new }
     ensures kept { Keeps cx.old cx.new }
 {
     for _iteration in 0..TURNS {
@@ -157,6 +165,8 @@ where
         (Sound P.sound S.sound S.Future.can_poll P.Future.can_poll attempts.new) }
     ensures registered { result ≡ Some Pending → Covers cx.new
         (NeedsAt S.Future.needs P.Future.needs (S.needs attempts.new.service) attempts.new.state) }
+    ensures quiet { Quiet (StirsAt S.Service S.Future.stepped P.Policy P.Future.stepped
+        S.Future.stirs P.Future.stirs attempts.old.state attempts.old.service) cx.old cx.new }
     ensures kept { Keeps cx.old cx.new }
 {
     match &mut attempts.state {

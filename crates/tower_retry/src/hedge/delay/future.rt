@@ -3,8 +3,9 @@ ghost use Rattle.std.specs.Prelude.{◌≡◌};
 ghost use Rattle.futures.specs.Poll.{OnPending};
 ghost use Rattle.futures.specs.Task.{Covers, Keeps};
 ghost use Rattle.tower_base.specs.Gives.{IsStep, MayGive};
+ghost use Rattle.tower_base.specs.Quiet.{Quiet};
 ghost use Rattle.tower_base.specs.Sleep.{SleepView};
-ghost use Rattle.tower_retry.specs.Delay.{Begun, CanPoll, Needs, Stepped, Waits};
+ghost use Rattle.tower_retry.specs.Delay.{BeginStirs, Begun, CanPoll, Needs, Stepped, Stirs, Waits};
 ghost use Rattle.tower_retry.specs.declared.hedge.delay.state.State.{State};
 ghost use Rattle.tower_base.specs.Answers.{answered};
 ghost use Rattle.tower_retry.specs.declared.hedge.delay.error.Error.TheVariants.{Inner};
@@ -81,6 +82,8 @@ where
 
     ghost stepped = { Stepped S.Service S.Future.stepped C.Clock };
 
+    ghost stirs = { Stirs ⟦<Oneshot<S, Request> as Steps>⟧.stirs C.stirs };
+
     fn step(&mut self, cx: &mut Context<'_>) -> Poll<Self::Output> {
         match &mut self.state {
             State::Delaying(sleep, _, _) => match sleep.step(cx) {
@@ -107,6 +110,8 @@ where
             (CanPoll S.sound ⟦<Oneshot<S, Request> as Future>⟧.can_poll self.new) }
         ensures registered { OnPending result
             (Covers cx.new (Needs C.hears ⟦<Oneshot<S, Request> as Future>⟧.needs self.new)) }
+        ensures quiet { Quiet (BeginStirs ⟦<Oneshot<S, Request> as Steps>⟧.stirs self.old self.new)
+            cx.old cx.new }
         ensures kept { Keeps cx.old cx.new }
     {
         let State::Delaying(_, service, request) = mem::replace(&mut self.state, State::NoClone)

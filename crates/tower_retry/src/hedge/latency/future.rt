@@ -78,6 +78,8 @@ where
 
     ghost stepped = { Stepped F.Steps.own R.Record C.Clock };
 
+    ghost stirs = { λ old new. F.stirs old.inner new.inner };
+
     fn step(&mut self, cx: &mut Context<'_>) -> Poll<Self::Output> {
         match self.inner.step(cx) {
             Poll::Ready(Ok(response)) => {

@@ -1,7 +1,7 @@
 //! The future of a `Select`.
 ghost use Rattle.std.specs.Prelude.{◌≡◌, Option, IfSome};
 ghost use Rattle.tower_base.specs.Gives.{IsStep, MayGive};
-ghost use Rattle.tower_retry.specs.Select.{ResponseFutureView, Stepped, Needs};
+ghost use Rattle.tower_retry.specs.Select.{ResponseFutureView, Stepped, Stirs, Needs};
 
 use crate::hedge::select::error::Error;
 use futures::future::Future;
@@ -69,6 +69,8 @@ where
     ghost needs = { Needs AF.needs BF.needs };
 
     ghost stepped = { Stepped AF.Steps.own BF.Steps.own };
+
+    ghost stirs = { Stirs AF.stirs BF.stirs };
 
     fn step(&mut self, cx: &mut Context<'_>) -> Poll<Self::Output> {
         match self.a_fut.step(cx) {
