@@ -56,3 +56,9 @@ module _ {F A E : Type 0} (f : StepsOf F (Result A E)) where
   Stepped (Some old) answer (Some new) = (inner : Poll (Result A E)) × f.stepped old inner new × (answer ≡ answered Inner inner)
   Stepped (Some old) answer None = ⊥
   Stepped None answer new = (answer ≡ Ready (Err Overloaded)) × (new ≡ None)
+
+-- why a poll of the future may ask for another: the response's causes
+abbrev pub Stirs : {F : Type 0} → (F → F → Type 0) → Option F → Option F → Type 0
+Stirs response (Some old) (Some new) = response old new
+Stirs response (Some old) None = ⊥
+Stirs response None new = ⊥

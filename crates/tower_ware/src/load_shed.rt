@@ -64,6 +64,9 @@ impl<S: Service<Request>, Request: Drop> Service<Request> for LoadShed<S> {
 
     ghost polled = { Polled S.Service };
 
+    // The inner service may ask for another poll even if the `LoadShed` returns `Ok` in place of pending.
+    ghost stirs = { λ old new. S.stirs old.inner new.inner };
+
     ghost called = { Called S.Service };
 
     ghost readies = { λ old new p. ready_after S.readies old _ new p };

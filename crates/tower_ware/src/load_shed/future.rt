@@ -1,7 +1,7 @@
 //! The future of `LoadShed`.
 ghost use Rattle.std.specs.Prelude.{◌≡◌, Option, Some, None, IfSome, IsSomeAnd};
 ghost use Rattle.tower_base.specs.Gives.{IsStep, MayGive};
-ghost use Rattle.tower_ware.specs.LoadShed.{Stepped};
+ghost use Rattle.tower_ware.specs.LoadShed.{Stepped, Stirs};
 
 use crate::load_shed::error::Error;
 use futures::future::Future;
@@ -74,6 +74,8 @@ impl<T, E, F: Steps<Output = Result<T, E>>> Steps for ResponseFuture<F> {
     ghost needs = { λ f source. IsSomeAnd f (λ response. F.needs response source) };
 
     ghost stepped = { Stepped F.Steps.own };
+
+    ghost stirs = { Stirs F.stirs };
 
     fn step(&mut self, cx: &mut Context<'_>) -> Poll<Result<T, Error<E>>> {
         let Some(response) = &mut self.response else {
