@@ -1,5 +1,5 @@
 -- The machine of `filter`, for both kinds.
-use Rattle.std.specs.Prelude.{◌≡◌, ⊤, ℕ, Result, Ok, Err}
+use Rattle.std.specs.Prelude.{◌≡◌, ⊤, ◌⊎◌, ℕ, Result, Ok, Err}
 use Rattle.std.specs.declared.clone.Clone.{Ghosts as CloneOf}
 use Rattle.futures.specs.declared.task.Poll.{Poll}
 use Rattle.futures.specs.declared.task.Poll.TheVariants.{Ready, Pending}
@@ -44,6 +44,26 @@ abbrev pub async_response_future_needs : {S C F : Type 0} → (C → ℕ → Typ
 async_response_future_needs check response (Check c service) source = check c source
 async_response_future_needs check response (InFlight f) source = response f source
 async_response_future_needs check response NoClone source = ⊥
+
+-- why a poll of it may ask for another: the response's causes, also if this was the response's last poll
+abbrev pub response_future_stirs : {F P : Type 0} → (F → F → Type 0) → State F P → State F P → Type 0
+response_future_stirs stirs (Response old) (Response new) = stirs old new
+response_future_stirs {F} stirs (Response old) Answered = (left : F) × stirs old left
+response_future_stirs stirs (Response old) (Refusal p) = ⊥
+response_future_stirs stirs (Refusal p) new = ⊥
+response_future_stirs stirs Answered new = ⊥
+
+-- Why a poll of it may ask for another: the causes of its check or of its response. If the check accepted in this poll, the response was made and
+-- polled in it, too.
+abbrev pub async_response_future_stirs : {S C F : Type 0} → (C → C → Type 0) → (F → F → Type 0) → AsyncState C S F → AsyncState C S F → Type 0
+async_response_future_stirs check response (Check old service) (Check new other) = check old new
+async_response_future_stirs {C = C} {F = F} check response (Check old service) (InFlight new) =
+    ((left : C) × check old left) ⊎ ((made : F) × response made new)
+async_response_future_stirs check response (InFlight old) (InFlight new) = response old new
+async_response_future_stirs check response (Check old service) NoClone = ⊥
+async_response_future_stirs check response (InFlight old) (Check new service) = ⊥
+async_response_future_stirs check response (InFlight old) NoClone = ⊥
+async_response_future_stirs check response NoClone new = ⊥
 
 -- a poll of readiness: one poll of the inner service
 pub record Polled {S Q A E F U P : Type 0} (s : ServiceOf S Q A E F)

@@ -78,6 +78,8 @@ where
 
     ghost needs = { λ f. S.needs f.inner };
 
+    ghost stirs = { λ old new. S.stirs old.inner new.inner };
+
     ghost called = { FilterCalled S.Service U.Predicate };
 
     ghost readies = { λ old new p. S.readies old.inner new.inner
@@ -230,6 +232,8 @@ where
     ghost polled = { Polled S.Service };
 
     ghost needs = { λ f. S.needs f.inner };
+
+    ghost stirs = { λ old new. S.stirs old.inner new.inner };
 
     ghost called = { AsyncFilterCalled S.Service S.Clone U.AsyncPredicate };
 

@@ -1,7 +1,7 @@
 //! The futures of the filters.
 ghost use Rattle.std.specs.Prelude.{◌≡◌, Ok, Err};
 ghost use Rattle.tower_base.specs.Gives.{IsStep, MayGive};
-ghost use Rattle.tower_ware.specs.Filter.{AsyncResponseFutureCanPoll, AsyncResponseFutureStepped, ResponseFutureCanPoll, ResponseFutureStepped, async_response_future_needs, response_future_needs};
+ghost use Rattle.tower_ware.specs.Filter.{AsyncResponseFutureCanPoll, AsyncResponseFutureStepped, ResponseFutureCanPoll, ResponseFutureStepped, async_response_future_needs, async_response_future_stirs, response_future_needs, response_future_stirs};
 ghost use Rattle.tower_ware.specs.declared.filter.state.State.{State};
 ghost use Rattle.tower_ware.specs.declared.filter.state.State.TheVariants.{Response, Refusal, Answered};
 ghost use Rattle.tower_ware.specs.declared.filter.state.AsyncState.{AsyncState};
@@ -66,6 +66,8 @@ impl<A, E, P: Drop, F: Steps<Output = Result<A, E>>> Steps for ResponseFuture<F,
     ghost needs = { response_future_needs F.needs };
 
     ghost stepped = { ResponseFutureStepped F.Steps.own };
+
+    ghost stirs = { response_future_stirs F.stirs };
 
     fn step(&mut self, cx: &mut Context<'_>) -> Poll<Result<A, Error<E, P>>> {
         if let State::Response(response) = &mut self.state {
@@ -146,6 +148,8 @@ where
     ghost needs = { async_response_future_needs C.needs F.needs };
 
     ghost stepped = { AsyncResponseFutureStepped S.Service F.Steps.own C.Steps.own };
+
+    ghost stirs = { async_response_future_stirs C.stirs F.stirs };
 
     fn step(&mut self, cx: &mut Context<'_>) -> Poll<Result<S::Response, Error<S::Error, P>>> {
         if let AsyncState::Check(check, service) = &mut self.state {
