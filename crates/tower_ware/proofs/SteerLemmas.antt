@@ -4,7 +4,12 @@ use Rattle.std.proofs.lemmas.List.{get_or-set_other}
 use Rattle.std.proofs.lemmas.Grind.{get_or-set_at}
 use Rattle.std.proofs.lemmas.Bool.Decides.{eqb_tells}
 use Rattle.std.proofs.lemmas.List.Elements.{All-drop}
-use Rattle.tower_ware.specs.Steer.{Listed, NeedsFront, Rested}
+use Rattle.std.specs.Prelude.{Result, Ok}
+use Rattle.futures.specs.declared.task.Poll.{Poll}
+use Rattle.futures.specs.declared.task.Poll.TheVariants.{Ready}
+use Rattle.futures.specs.declared.task.context.Context.{Context}
+use Rattle.tower_base.specs.Quiet.{Quiet}
+use Rattle.tower_ware.specs.Steer.{EachStirs, Listed, NeedsFront, Rested}
 
 module _ {S : Type 0} (ready : S → Type 0) where
   -- what stood elsewhere stands there after a write
@@ -64,3 +69,43 @@ pub heard_front : {S : Type 0} (needs : S → ℕ → Type 0) (ss : List S) (is 
 heard_front needs ss [] i left heard front inside told source n = absurd n
 heard_front needs ss (k ∷ is) i left heard front inside told source n =
     told source (subst (λ service. needs service source) (sym n.1 ∙ get_or-set_at ss i k left n.0 front inside) n.2)
+
+module _ {S E : Type 0} (polled : S → Poll (Result (Unit {0}) E) → S → Type 0) (stirs : S → S → Type 0) (listed : List ℕ) (services : List S) (before : Context) where
+  abbrev pub Cause : Type 0
+  Cause = EachStirs polled stirs listed services
+
+  -- The polls so far asked for another poll only for a cause. A cause of the polls of what is still listed is one, too.
+  unfoldable pub QuietSoFar : List ℕ → List S → Context → Type 0
+  QuietSoFar is ss after = (EachStirs polled stirs is ss → Cause) × Quiet Cause before after
+
+  -- No service was polled yet.
+  pub quiet_start : QuietSoFar listed services before
+  unfolding QuietSoFar
+  quiet_start = (λ h. h, λ woken. inl woken)
+
+  -- No service is polled any more.
+  pub quiet_end : (is : List ℕ) (ss : List S) (after : Context) → QuietSoFar is ss after → Quiet Cause before after
+  unfolding QuietSoFar
+  quiet_end is ss after h = h.1
+
+  module _ (i : ℕ) (ss : List S) (v w : S) (inner : Poll (Result (Unit {0}) E)) (there : slice_index_or ss i v ≡ v) (poll : polled v inner w) where
+    stirs_front : (is : List ℕ) → slice_index_or is 0 i ≡ i → 0 < length is → stirs v w → EachStirs polled stirs is ss
+    stirs_front [] front some h = absurd (omega arith)
+    stirs_front (k ∷ is) front some h = subst (λ x. EachStirs polled stirs (x ∷ is) ss) (sym front) (v, w, inner, there, poll, inl h)
+
+    stirs_rest : (is : List ℕ) → slice_index_or is 0 i ≡ i → 0 < length is → inner ≡ Ready (Ok tt)
+        → EachStirs polled stirs (drop 1 is) (slice_set ss i w) → EachStirs polled stirs is ss
+    stirs_rest [] front some ok h = absurd (omega arith)
+    stirs_rest (k ∷ is) front some ok h = subst (λ x. EachStirs polled stirs (x ∷ is) ss) (sym front) (v, w, inner, there, poll, inr (rw ok h))
+
+    -- The service at the index in front was polled.
+    pub quiet_polled : (is : List ℕ) (mid after : Context) → slice_index_or is 0 i ≡ i → 0 < length is → QuietSoFar is ss mid → Quiet (stirs v w) mid after
+        → Quiet Cause before after
+    unfolding QuietSoFar
+    quiet_polled is mid after front some h quiet = λ woken. ⊎_elim h.1 (λ s. inr (h.0 (stirs_front is front some s))) (quiet woken)
+
+    -- It was ready, and leaves the list.
+    pub quiet_next : (is : List ℕ) (mid after : Context) → slice_index_or is 0 i ≡ i → 0 < length is → inner ≡ Ready (Ok tt) → QuietSoFar is ss mid
+        → Quiet (stirs v w) mid after → QuietSoFar (drop 1 is) (slice_set ss i w) after
+    unfolding QuietSoFar
+    quiet_next is mid after front some ok h quiet = (λ s. h.0 (stirs_rest is front some ok s), quiet_polled is mid after front some h quiet)

@@ -70,6 +70,17 @@ module _ {S E : Type 0} (polled : S → Poll (Result (Unit {0}) E) → S → Typ
       × polled service inner left × OnOk (EachPolled is (slice_set old i left) answer rest new)
       (λ stop. (answer ≡ stop) × (rest ≡ i ∷ is) × (new ≡ slice_set old i left)) inner
 
+module _ {S E : Type 0} (polled : S → Poll (Result (Unit {0}) E) → S → Type 0) (stirs : S → S → Type 0) where
+  -- Of the polls of the listed services, one after another as in `EachPolled`, one may ask for another poll.
+  abbrev pub EachStirs : List ℕ → List S → Type 0
+  EachStirs [] old = ⊥
+  EachStirs (i ∷ is) old = (service left : S) × (inner : Poll (Result (Unit {0}) E)) × (slice_index_or old i service ≡ service)
+      × polled service inner left × (stirs service left ⊎ OnOk (EachStirs is (slice_set old i left)) (λ stop. ⊥) inner)
+
+  -- why a poll of readiness may ask for another: the causes of the services that are polled
+  abbrev pub Stirs : {F : Type 0} → SteerView S F → SteerView S F → Type 0
+  Stirs old new = EachStirs old.listed old.services
+
 module _ {S F Q A E G : Type 0} (s : ServiceOf S Q A E G) where
   -- a poll of readiness: polls of the listed services
   pub record Polled (old : SteerView S F) (answer : Poll (Result (Unit {0}) E)) (new : SteerView S F) : Type 0 where

@@ -1,7 +1,7 @@
 //! A service that chooses one of many services for each request: the Rust's `tower::steer`.
 ghost use Rattle.std.specs.Prelude.{◌≡◌, ◌<◌, ◌≤◌, [], All, IfOk, length};
 ghost use Rattle.std.specs.VecDeque.{deque_capacity};
-ghost use Rattle.tower_ware.specs.Steer.{Called, Fits, IsClone, Needs, Polled, Sound, SteerView, upto};
+ghost use Rattle.tower_ware.specs.Steer.{Called, Fits, IsClone, Needs, Polled, Sound, SteerView, Stirs, upto};
 ghost use Rattle.tower_ware.specs.SteerReady.{polled_ok};
 ghost use Rattle.tower_ware.specs.Projections.{service_at};
 ghost use Rattle.tower_base.specs.ServiceRun.{relations};
@@ -78,6 +78,8 @@ impl<S: Service<Req>, F: Picker<S, Req>, Req> Service<Req> for Steer<S, F, Req> 
     ghost polled = { Polled S.Service };
 
     ghost needs = { Needs S.needs };
+
+    ghost stirs = { Stirs S.polled S.stirs };
 
     ghost called = { Called S.Service F.Picker };
 

@@ -2,6 +2,7 @@ use Rattle.std.proofs.Common.{All, ◌≡◌, ◌<◌, ℕ, List, length}
 use Rattle.std.specs.VecDeque.{deque_capacity}
 use Rattle.futures.specs.Task.{Keeps}
 use Rattle.tower_ware.specs.Steer.{EachPolled, Rested}
+use Rattle.tower_ware.proofs.SteerLemmas.{QuietSoFar}
 use Rattle.tower_ware.proofs.steer.SteerService.poll_ready.Given as goal
 
 abbrev pub invariant-loop-front : goal.invariant-loop-front
@@ -16,6 +17,8 @@ invariant-loop-front g l = record {
   rested : Rested g.S.Service.ready l.self-inside.services.items l.self-inside.listed.items;
   room : deque_capacity l.self-inside.listed ≡ l.fn.self.room;
   fits : 0 < l.fn.self.room;
+  quiet : QuietSoFar g.S.Service.polled g.S.Service.stirs l.fn.self.listed l.fn.self.services l.fn.cx
+      l.self-inside.listed.items l.self-inside.services.items l.cx;
   kept : Keeps l.fn.cx l.cx;
 }
 
