@@ -12,6 +12,7 @@ pub mod LimitedLemmas
 pub mod LoadShed
 pub mod PendingRequests
 pub mod ReadyCache
+pub mod Quiet
 pub mod Reconnect
 pub mod Responses
 pub mod Retry

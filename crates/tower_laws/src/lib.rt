@@ -14,6 +14,7 @@ pub mod limited;
 pub mod load_shed;
 pub mod pending_requests;
 pub mod ready_cache;
+pub mod quiet;
 pub mod reconnect;
 pub mod retry;
 pub mod select;
