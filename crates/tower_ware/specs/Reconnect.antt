@@ -8,6 +8,7 @@ use Rattle.tower_base.specs.Gives.{MayGive}
 use Rattle.tower_base.specs.Iterations.{Iterations}
 use Rattle.tower_base.specs.declared.service.Service.{Ghosts as ServiceOf}
 use Rattle.tower_base.specs.declared.service.Steps.{Ghosts as StepsOf}
+use Rattle.tower_ware.specs.IterationsQuiet.{StirsOrTires}
 use Rattle.tower_ware.specs.declared.reconnect.Reconnect.{Reconnect}
 use Rattle.tower_ware.specs.declared.reconnect.error.Error.{Error}
 use Rattle.tower_ware.specs.declared.reconnect.error.Error.TheVariants.{Inner, Make, Memory}
@@ -95,6 +96,19 @@ module _ {M T S F ME Q A E G : Type 0} (m : ServiceOf M T S ME F) (connect : Ste
   pub record Polled (old : ReconnectView M F S ME T) (answer : Poll (Result (Unit {0}) (Error E ME))) (new : ReconnectView M F S ME T) : Type 0 where
     pub iterations : Iterations Iteration Pending old answer new
 
+  -- Why an iteration may ask for another poll: the causes of what it polls, the maker, its connect or the connection.
+  abbrev pub StirsAt : State F S → M → Type 0
+  StirsAt Idle maker = (left : M) × m.stirs maker left
+  StirsAt (Connecting f) maker = (left : F) × connect.stirs f left
+  StirsAt (Connected service) maker = (left : S) × s.stirs service left
+
+  abbrev pub StirsOnce : ReconnectView M F S ME T → Type 0
+  StirsOnce v = StirsAt v.state v.maker
+
+  -- why a poll of readiness may ask for another: the causes of one of its iterations, or 64 iterations without an answer
+  abbrev pub Stirs : ReconnectView M F S ME T → ReconnectView M F S ME T → Type 0
+  Stirs = StirsOrTires Iteration StirsOnce
+
 module _ {S F ME Q A E G : Type 0} (s : ServiceOf S Q A E G) where
   -- An error is kept, or the connection is ready.
   abbrev pub ReadyAt : State F S → Option ME → Type 0
@@ -136,3 +150,9 @@ module _ {G A E ME : Type 0} (f : StepsOf G (Result A E)) where
 abbrev pub needs_of : {G ME : Type 0} → (G → ℕ → Type 0) → Reply G ME → ℕ → Type 0
 needs_of needs (InFlight f) source = needs f source
 needs_of needs (Failed e) source = ⊥
+
+-- why a poll of the future may ask for another: the response's causes
+abbrev pub stirs_of : {G ME : Type 0} → (G → G → Type 0) → Reply G ME → Reply G ME → Type 0
+stirs_of stirs (InFlight old) (InFlight new) = stirs old new
+stirs_of stirs (InFlight old) (Failed e) = ⊥
+stirs_of stirs (Failed e) new = ⊥

@@ -3,7 +3,8 @@ ghost use Rattle.std.specs.Prelude.{◌≡◌, ℕ, Some, None, IfSome};
 ghost use Rattle.futures.specs.Task.{Hears, IsArmed, Keeps};
 ghost use Rattle.futures.specs.Poll.{OnPending};
 ghost use Rattle.tower_base.specs.LastIteration.{AnsweredOrWoken};
-ghost use Rattle.tower_ware.specs.Reconnect.{Called, IsReady, Needs, Iteration, Polled, Sound, view_of};
+ghost use Rattle.tower_base.specs.Quiet.{Quiet};
+ghost use Rattle.tower_ware.specs.Reconnect.{Called, IsReady, Needs, Iteration, Polled, Sound, Stirs, StirsOnce, view_of};
 ghost use Rattle.tower_ware.specs.ReconnectReady.{polled_ok};
 ghost use Rattle.tower_ware.specs.Projections.{Continues};
 ghost use Rattle.tower_base.specs.ServiceRun.{Takes, relations};
@@ -87,6 +88,9 @@ where
 
     ghost needs = { λ r. Needs M.needs M.Future.needs S.needs (view_of r) };
 
+    ghost stirs = { λ old new. Stirs M.Service M.Future.Steps.own S.Service Target.Clone
+        (view_of old) (view_of new) };
+
     ghost called = { λ old request future new. Called S.Service (view_of old)
         request future (view_of new) };
 
@@ -103,6 +107,8 @@ where
         ensures armed { OnPending result (IsArmed cx.new) }
         ensures heard { OnPending result
             ((s : ℕ) → Needs M.needs M.Future.needs S.needs (view_of self.new) s → Hears cx.new s) }
+        ensures quiet { Quiet (Stirs M.Service M.Future.Steps.own S.Service Target.Clone
+            (view_of self.old) (view_of self.new)) cx.old cx.new }
         ensures kept { Keeps cx.old cx.new }
     {
         for _iteration in 0..TURNS {
@@ -161,6 +167,8 @@ where
     ensures armed { IfSome result (λ answer. OnPending answer (IsArmed cx.new)) }
     ensures heard { IfSome result (λ answer. OnPending answer ((s : ℕ)
         → Needs M.needs M.Future.needs S.needs (view_of reconnect.new) s → Hears cx.new s)) }
+    ensures quiet { Quiet (StirsOnce M.Service M.Future.Steps.own S.Service Target.Clone
+        (view_of reconnect.old)) cx.old cx.new }
     ensures kept { Keeps cx.old cx.new }
 {
     match &mut reconnect.state {

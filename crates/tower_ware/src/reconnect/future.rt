@@ -1,7 +1,7 @@
 //! The future of a `Reconnect`.
 ghost use Rattle.std.specs.Prelude.{◌≡◌};
 ghost use Rattle.tower_base.specs.Gives.{IsStep, MayGive};
-ghost use Rattle.tower_ware.specs.Reconnect.{CanPoll, Stepped, needs_of};
+ghost use Rattle.tower_ware.specs.Reconnect.{CanPoll, Stepped, needs_of, stirs_of};
 ghost use Rattle.tower_ware.specs.declared.reconnect.state.Reply.{Reply};
 
 use crate::reconnect::error::Error;
@@ -59,6 +59,8 @@ impl<T, E, M: Drop, F: Steps<Output = Result<T, E>>> Steps for ResponseFuture<F,
     ghost needs = { needs_of F.needs };
 
     ghost stepped = { Stepped F.Steps.own };
+
+    ghost stirs = { stirs_of F.stirs };
 
     fn step(&mut self, cx: &mut Context<'_>) -> Poll<Self::Output> {
         match &mut self.reply {
