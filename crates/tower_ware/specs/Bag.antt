@@ -3,7 +3,7 @@ use Rattle.std.specs.Prelude.{◌≡◌, All, List, [], ◌∷◌, Option, Some,
 use Rattle.futures.specs.declared.task.Poll.{Poll}
 use Rattle.futures.specs.declared.task.Poll.TheVariants.{Ready, Pending}
 use Rattle.tower_base.specs.declared.service.Steps.{Ghosts as StepsOf}
-use Rattle.tower_ware.specs.Queue.{Queue, Empty, Grown, HasRoom, Pushed}
+use Rattle.tower_ware.specs.Queue.{Queue, Empty, Grown, HasRoom, Pushed, SomeCall}
 use Rattle.tower_ware.specs.declared.util.call_all.call_queue.CallQueue.{Ghosts as CallQueueOf}
 
 -- the answer of a queue of these futures, from that of the first that is ready, if one is
@@ -29,6 +29,10 @@ module _ {F T : Type 0} (f : StepsOf F T) where
   BagPolled old answer new =
       (first : Option T) × EachPolled old.calls first new.calls × (answer ≡ answer_of old.calls first) × (new.room ≡ old.room)
 
+-- why a poll of such a queue may ask for another: the causes of one of its futures
+abbrev pub BagStirs : {F : Type 0} → (F → F → Type 0) → List F → Type 0
+BagStirs stirs = SomeCall (λ future. (left : _) × stirs future left)
+
 -- the relations of a `Bag` of such futures
 abbrev pub bag : {F T : Type 0} → StepsOf F T → (F → Type 0) → CallQueueOf (Queue F) T F
 bag f can_poll = record {
@@ -38,4 +42,5 @@ bag f can_poll = record {
   polled = BagPolled f;
   grown = Grown;
   pushed = Pushed (λ future. future);
+  stirs = λ q. BagStirs f.stirs q.calls;
 }

@@ -7,6 +7,7 @@ use Rattle.tower_base.specs.declared.service.Flow.{Ghosts as FlowOf}
 use Rattle.tower_base.specs.declared.service.Service.{Ghosts as ServiceOf}
 use Rattle.tower_base.specs.declared.service.Steps.{Ghosts as StepsOf}
 use Rattle.tower_ware.specs.Bag.{bag}
+use Rattle.tower_ware.specs.IterationsQuiet.{StirsOrTires}
 use Rattle.tower_ware.specs.OrderedCalls.{MayAsk, line}
 use Rattle.tower_ware.specs.Queue.{Queue, Empty}
 use Rattle.tower_ware.specs.declared.util.call_all.caller.Caller.{Caller}
@@ -103,6 +104,25 @@ module _ {S Q D R A E F : Type 0} (s : ServiceOf S R A E F) (q : FlowOf Q R) (d 
   Iteration old answer new = (first : Poll (Option (Result A E))) × (queue : D) × d.polled old.queue first queue
       × AfterAsk (record old { queue = queue }) first answer new
 
+  -- why a poll of the service's readiness may ask for another
+  abbrev pub ServiceStirs : Option S → Type 0
+  ServiceStirs service = IsSomeAnd service (λ polled. (left : S) × s.stirs polled left)
+
+  -- Why going on may ask for another poll: the causes of the requests, unless one is kept, and those of the service. After the end of the
+  -- requests, neither is polled.
+  abbrev pub GoingOnStirs : Bool → Option R → CallerView S Q D R → Type 0
+  GoingOnStirs true kept v = ⊥
+  GoingOnStirs false (Some request) v = ServiceStirs v.service
+  GoingOnStirs false None v = ((left : Q) × q.stirs v.requests left) ⊎ ServiceStirs v.service
+
+  -- why an iteration may: the causes of the queue, and those of going on
+  abbrev pub StirsOnce : CallerView S Q D R → Type 0
+  StirsOnce v = d.stirs v.queue ⊎ GoingOnStirs v.ended v.kept v
+
+  -- why a poll may: the causes of one of its iterations, or 64 iterations without an answer
+  abbrev pub Stirs : CallerView S Q D R → CallerView S Q D R → Type 0
+  Stirs = StirsOrTires Iteration StirsOnce
+
   -- a poll: iterations up to an answer, or 64 without one, and then it is pending
   pub record Flowed (old : CallerView S Q D R) (answer : Poll (Option (Result A (Error E)))) (new : CallerView S Q D R) : Type 0 where
     pub iterations : Iterations Iteration Pending old answer new
@@ -116,3 +136,11 @@ module _ {S Q R A E F : Type 0} (s : ServiceOf S R A E F) (q : FlowOf Q R) (f : 
   -- a poll of a `CallAllUnordered`
   abbrev pub CallAllUnorderedFlowed : CallerView S Q (Queue F) R → Poll (Option (Result A (Error E))) → CallerView S Q (Queue F) R → Type 0
   CallAllUnorderedFlowed = Flowed s q (bag f can_poll)
+
+  -- why a poll of a `CallAll` may ask for another
+  abbrev pub CallAllStirs : CallerView S Q (Queue (Slot F (Result A E))) R → CallerView S Q (Queue (Slot F (Result A E))) R → Type 0
+  CallAllStirs = Stirs s q (line f can_poll)
+
+  -- why a poll of a `CallAllUnordered` may ask for another
+  abbrev pub CallAllUnorderedStirs : CallerView S Q (Queue F) R → CallerView S Q (Queue F) R → Type 0
+  CallAllUnorderedStirs = Stirs s q (bag f can_poll)

@@ -3,7 +3,7 @@ use Rattle.std.specs.Prelude.{⊤, ◌≡◌, All, List, [], ◌∷◌, Option, 
 use Rattle.futures.specs.declared.task.Poll.{Poll}
 use Rattle.futures.specs.declared.task.Poll.TheVariants.{Ready, Pending}
 use Rattle.tower_base.specs.declared.service.Steps.{Ghosts as StepsOf}
-use Rattle.tower_ware.specs.Queue.{Queue, Empty, Grown, HasRoom, Pushed}
+use Rattle.tower_ware.specs.Queue.{Queue, Empty, Grown, HasRoom, Pushed, SomeCall}
 use Rattle.tower_ware.specs.declared.util.call_all.call_queue.CallQueue.{Ghosts as CallQueueOf}
 use Rattle.tower_ware.specs.declared.util.call_all.slot.Slot.{Slot}
 use Rattle.tower_ware.specs.declared.util.call_all.slot.Slot.TheVariants.{Waiting, Answered}
@@ -53,6 +53,15 @@ module _ {F T : Type 0} (f : StepsOf F T) where
   abbrev pub LinePolled : Queue (Slot F T) → Poll (Option T) → Queue (Slot F T) → Type 0
   LinePolled old answer new = SlotsAsked old.calls answer new.calls × (new.room ≡ old.room)
 
+-- why a poll of a call may ask for another: the causes of its future, unless its answer is there
+abbrev pub SlotStirs : {F T : Type 0} → (F → F → Type 0) → Slot F T → Type 0
+SlotStirs {F} stirs (Waiting future) = (left : F) × stirs future left
+SlotStirs stirs (Answered x) = ⊥
+
+-- why a poll of such a queue may: the causes of one of its calls
+abbrev pub LineStirs : {F T : Type 0} → (F → F → Type 0) → List (Slot F T) → Type 0
+LineStirs stirs = SomeCall (SlotStirs stirs)
+
 -- the relations of a `Line` of such futures
 abbrev pub line : {F T : Type 0} → StepsOf F T → (F → Type 0) → CallQueueOf (Queue (Slot F T)) T F
 line f can_poll = record {
@@ -62,4 +71,5 @@ line f can_poll = record {
   polled = LinePolled f;
   grown = Grown;
   pushed = Pushed Waiting;
+  stirs = λ q. LineStirs f.stirs q.calls;
 }

@@ -2,7 +2,8 @@
 ghost use Rattle.std.specs.Prelude.{◌≡◌, [], All, MatchOption};
 ghost use Rattle.std.specs.Vec.{vec_capacity};
 ghost use Rattle.futures.specs.Task.{IsArmed, Keeps};
-ghost use Rattle.tower_ware.specs.Bag.{BagPolled, EachPolled};
+ghost use Rattle.tower_base.specs.Quiet.{Quiet};
+ghost use Rattle.tower_ware.specs.Bag.{BagPolled, BagStirs, EachPolled};
 ghost use Rattle.tower_ware.specs.Queue.{Empty, Grown, HasRoom, Pushed, Queue};
 
 use crate::util::call_all::call_queue::CallQueue;
@@ -41,6 +42,7 @@ fn ask_each<T: Drop, F: Steps<Output = T>>(futures: &mut Vec<F>, cx: &mut Contex
     ensures room { vec_capacity futures.new ≡ vec_capacity futures.old }
     ensures armed { MatchOption result (¬ (futures.old.items ≡ []) → IsArmed cx.new)
         (λ _. Unit {0}) }
+    ensures quiet { Quiet (BagStirs F.stirs futures.old.items) cx.old cx.new }
     ensures kept { Keeps cx.old cx.new }
 {
     for i in 0..futures.len() {
@@ -64,6 +66,8 @@ impl<T: Drop, F: Steps<Output = T>> CallQueue<T, F> for Bag<F> {
     ghost grown = { Grown };
 
     ghost pushed = { Pushed (λ future. future) };
+
+    ghost stirs = { λ b. BagStirs F.stirs b.calls };
 
     fn poll(&mut self, cx: &mut Context<'_>) -> Poll<Option<T>> {
         let is_empty = self.futures.is_empty();

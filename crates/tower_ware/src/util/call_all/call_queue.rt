@@ -2,6 +2,7 @@
 ghost use Rattle.std.specs.Prelude.{◌≡◌, IsTrue, ◌↔◌, None, OnErr, OnOk, Option};
 ghost use Rattle.futures.specs.Poll.{OnPending};
 ghost use Rattle.futures.specs.Task.{IsArmed, Keeps};
+ghost use Rattle.tower_base.specs.Quiet.{Quiet};
 ghost use Rattle.futures.specs.declared.task.Poll.{Poll};
 ghost use Rattle.futures.specs.declared.task.Poll.TheVariants.{Ready};
 
@@ -29,12 +30,16 @@ pub trait CallQueue<T, F: Steps<Output = T>>: Drop {
     // The second value also has the future, as its last call.
     ghost pushed: { Self → F → Self → Type 0 };
 
+    // A poll of this queue may ask for another poll of the task.
+    ghost stirs: { Self → Type 0 };
+
     fn poll(&mut self, cx: &mut Context<'_>) -> Poll<Option<T>>
         requires { sound self.old }
         ensures polled { polled self.old result self.new }
         ensures sound { sound self.new }
         ensures none { result ≡ Ready None → empty self.new }
         ensures armed { OnPending result (IsArmed cx.new) }
+        ensures quiet { Quiet (stirs self.old) cx.old cx.new }
         ensures kept { Keeps cx.old cx.new };
 
     fn is_empty(&self) -> bool

@@ -2,7 +2,8 @@
 ghost use Rattle.std.specs.Prelude.{◌≡◌, IsSomeAnd, IfSome, false};
 ghost use Rattle.futures.specs.Task.{IsArmed, Keeps};
 ghost use Rattle.futures.specs.Poll.{OnPending};
-ghost use Rattle.tower_ware.specs.CallAll.{Called, Flowed, GoesOn, Iteration, view_of};
+ghost use Rattle.tower_base.specs.Quiet.{Quiet};
+ghost use Rattle.tower_ware.specs.CallAll.{Called, Flowed, GoesOn, GoingOnStirs, Iteration, ServiceStirs, Stirs, StirsOnce, view_of};
 ghost use Rattle.tower_base.specs.LastIteration.{AnsweredOrWoken};
 
 use crate::util::call_all::call_queue::CallQueue;
@@ -67,6 +68,8 @@ where
         ensures queue { Q.sound self.new.queue }
         ensures flow { S.can_poll self.new.requests }
         ensures armed { IfSome result (λ answer. OnPending answer (IsArmed cx.new)) }
+        ensures quiet { Quiet (ServiceStirs Svc.Service S.Flow.own Q.CallQueue self.old.service)
+            cx.old cx.new }
         ensures kept { Keeps cx.old cx.new }
     {
         let Some(service) = &mut self.service else {
@@ -106,6 +109,8 @@ where
         ensures queue { Q.sound self.new.queue }
         ensures flow { self.new.ended ≡ false → S.can_poll self.new.requests }
         ensures armed { IfSome result (λ answer. OnPending answer (IsArmed cx.new)) }
+        ensures quiet { Quiet (GoingOnStirs Svc.Service S.Flow.own Q.CallQueue self.old.ended
+            self.old.kept (view_of self.old)) cx.old cx.new }
         ensures kept { Keeps cx.old cx.new }
     {
         if self.ended {
@@ -138,6 +143,8 @@ where
         ensures queue { Q.sound self.new.queue }
         ensures flow { self.new.ended ≡ false → S.can_poll self.new.requests }
         ensures armed { IfSome result (λ answer. OnPending answer (IsArmed cx.new)) }
+        ensures quiet { Quiet (StirsOnce Svc.Service S.Flow.own Q.CallQueue (view_of self.old))
+            cx.old cx.new }
         ensures kept { Keeps cx.old cx.new }
     {
         match self.queue.poll(cx) {
@@ -161,6 +168,8 @@ where
         ensures queue { Q.sound self.new.queue }
         ensures flow { self.new.ended ≡ false → S.can_poll self.new.requests }
         ensures armed { OnPending result (IsArmed cx.new) }
+        ensures quiet { Quiet (Stirs Svc.Service S.Flow.own Q.CallQueue (view_of self.old)
+            (view_of self.new)) cx.old cx.new }
         ensures kept { Keeps cx.old cx.new }
     {
         for _iteration in 0..TURNS {

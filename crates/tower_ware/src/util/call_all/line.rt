@@ -1,8 +1,9 @@
 //! The queue of an ordered stream.
-ghost use Rattle.std.specs.Prelude.{◌≡◌, All, IsTrue, ◌↔◌};
+ghost use Rattle.std.specs.Prelude.{◌≡◌, All, IsTrue, ◌↔◌, drop};
 ghost use Rattle.std.specs.VecDeque.{deque_capacity};
 ghost use Rattle.futures.specs.Task.{Keeps};
-ghost use Rattle.tower_ware.specs.OrderedCalls.{LinePolled, MayAsk, OthersPolled};
+ghost use Rattle.tower_base.specs.Quiet.{Quiet};
+ghost use Rattle.tower_ware.specs.OrderedCalls.{LinePolled, LineStirs, MayAsk, OthersPolled};
 ghost use Rattle.tower_ware.specs.Queue.{Empty, Grown, HasRoom, Pushed, Queue};
 ghost use Rattle.tower_ware.specs.declared.util.call_all.slot.Slot.{Slot};
 ghost use Rattle.tower_ware.specs.declared.util.call_all.slot.Slot.TheVariants.{Waiting};
@@ -53,6 +54,7 @@ fn ask_others<T: Drop, F: Steps<Output = T>>(slots: &mut VecDeque<Slot<F, T>>, c
     ensures polled { OthersPolled F.Steps.own slots.old.items slots.new.items }
     ensures again { All (MayAsk F.can_poll) slots.new.items }
     ensures room { deque_capacity slots.new ≡ deque_capacity slots.old }
+    ensures quiet { Quiet (LineStirs F.stirs (drop 1 slots.old.items)) cx.old cx.new }
     ensures kept { Keeps cx.old cx.new }
 {
     for i in 1..slots.len() {
@@ -72,6 +74,8 @@ impl<T: Drop, F: Steps<Output = T>> CallQueue<T, F> for Line<F, T> {
     ghost grown = { Grown };
 
     ghost pushed = { Pushed Waiting };
+
+    ghost stirs = { λ l. LineStirs F.stirs l.calls };
 
     fn poll(&mut self, cx: &mut Context<'_>) -> Poll<Option<T>> {
         let Some(front) = self.slots.front_mut() else {

@@ -1,7 +1,7 @@
 //! A stream of calls that yields the answers in the order of the requests.
 ghost use Rattle.std.specs.Prelude.{◌≡◌, IsSome, IsTrue, ◌↔◌, None, Some, false};
 ghost use Rattle.tower_base.specs.Gives.{IsFlow, MayYield};
-ghost use Rattle.tower_ware.specs.CallAll.{CallAllCanFlow, CallAllFlowed, CallerView, New, view_of};
+ghost use Rattle.tower_ware.specs.CallAll.{CallAllCanFlow, CallAllFlowed, CallAllStirs, CallerView, New, view_of};
 ghost use Rattle.tower_ware.specs.declared.util.call_all.slot.Slot.{Slot};
 ghost use Rattle.tower_ware.specs.Queue.{Empty, Queue};
 
@@ -140,6 +140,9 @@ where
     S::Item: Drop,
 {
     ghost flowed = { CallAllFlowed Svc.Service S.Flow.own Svc.Future.Steps.own
+        Svc.Future.can_poll };
+
+    ghost stirs = { CallAllStirs Svc.Service S.Flow.own Svc.Future.Steps.own
         Svc.Future.can_poll };
 
     fn flow(&mut self, cx: &mut Context<'_>) -> Poll<Option<Self::Item>> {

@@ -1,6 +1,7 @@
 //! A call whose answer wasn't yielded yet.
 ghost use Rattle.futures.specs.Task.{IsArmed, Keeps};
-ghost use Rattle.tower_ware.specs.OrderedCalls.{MayAsk, OnWaiting, SlotPolled};
+ghost use Rattle.tower_base.specs.Quiet.{Quiet};
+ghost use Rattle.tower_ware.specs.OrderedCalls.{MayAsk, OnWaiting, SlotPolled, SlotStirs};
 
 use futures::task::{Context, Poll};
 use tower_base::service::Steps;
@@ -21,6 +22,7 @@ impl<T: Drop, F: Steps<Output = T>> Slot<F, T> {
         ensures polled { SlotPolled F.Steps.own self.old self.new }
         ensures again { MayAsk F.can_poll self.new }
         ensures armed { OnWaiting self.new (IsArmed cx.new) }
+        ensures quiet { Quiet (SlotStirs F.stirs self.old) cx.old cx.new }
         ensures kept { Keeps cx.old cx.new }
     {
         if let Slot::Waiting(future) = self {

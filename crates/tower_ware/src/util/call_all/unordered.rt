@@ -1,7 +1,7 @@
 //! A stream of calls that yields the answers as they come.
 ghost use Rattle.std.specs.Prelude.{◌≡◌, IsSome, IsTrue, ◌↔◌, None, Some, false};
 ghost use Rattle.tower_base.specs.Gives.{IsFlow, MayYield};
-ghost use Rattle.tower_ware.specs.CallAll.{CallAllUnorderedCanFlow, CallAllUnorderedFlowed, CallerView, New, view_of};
+ghost use Rattle.tower_ware.specs.CallAll.{CallAllUnorderedCanFlow, CallAllUnorderedFlowed, CallAllUnorderedStirs, CallerView, New, view_of};
 ghost use Rattle.tower_ware.specs.Queue.{Queue};
 
 use crate::util::call_all::bag::Bag;
@@ -126,6 +126,9 @@ where
     S::Item: Drop,
 {
     ghost flowed = { CallAllUnorderedFlowed Svc.Service S.Flow.own Svc.Future.Steps.own
+        Svc.Future.can_poll };
+
+    ghost stirs = { CallAllUnorderedStirs Svc.Service S.Flow.own Svc.Future.Steps.own
         Svc.Future.can_poll };
 
     fn flow(&mut self, cx: &mut Context<'_>) -> Poll<Option<Self::Item>> {

@@ -1,7 +1,8 @@
-use Rattle.std.proofs.Common.{◌≡◌, All, ◌<◌, ◌≤◌, ℕ, length, slice_index_or}
+use Rattle.std.proofs.Common.{◌≡◌, All, ◌<◌, ◌≤◌, ℕ, drop, length, slice_index_or}
 use Rattle.std.specs.VecDeque.{deque_capacity, deque_len}
 use Rattle.futures.specs.Task.{Keeps}
-use Rattle.tower_ware.specs.OrderedCalls.{MayAsk, SlotPolled}
+use Rattle.tower_base.specs.Quiet.{Quiet}
+use Rattle.tower_ware.specs.OrderedCalls.{LineStirs, MayAsk, SlotPolled}
 use Rattle.tower_ware.proofs.util.call_all.line.ask_others.Given as goal
 
 abbrev pub invariant-loop-i : goal.invariant-loop-i
@@ -15,5 +16,6 @@ invariant-loop-i g l = record {
   todo : (k : ℕ) (d : _) → l.i ≤ k → slice_index_or l.slots.items k d ≡ slice_index_or l.fn.slots.items k d;
   again : All (MayAsk g.F.Steps.can_poll) l.slots.items;
   room : deque_capacity l.slots ≡ deque_capacity l.fn.slots;
+  quiet : Quiet (LineStirs g.F.Steps.stirs (drop 1 l.fn.slots.items)) l.fn.cx l.cx;
   kept : Keeps l.fn.cx l.cx;
 }
