@@ -9,3 +9,4 @@ pub mod PendingPlaces
 pub mod PlaceLemmas
 pub mod SlotRuns
 pub mod SpawnReadyLemmas
+pub mod StirsLemmas

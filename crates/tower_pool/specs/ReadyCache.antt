@@ -105,6 +105,10 @@ HeardFrom needs cx n ps = (source : ℕ) → PendingNeeds needs (drop n ps) sour
 abbrev pub At : {X : Type 0} → List X → ℕ → (X → Type 0) → Type 0
 At {X} xs i P = (x : X) × (slice_get xs i ≡ Some x) × P x
 
+-- Why a poll of the ready endpoint at the index may ask for another: the endpoint's causes, be it kept or dropped.
+abbrev pub StirsAt : {K S : Type 0} → (S → S → Type 0) → List (K × S) → ℕ → Type 0
+StirsAt {S = S} stirs ready index = At ready index (λ e. (left : S) × stirs e.1 left)
+
 -- The key has a ready endpoint, and P holds of its index.
 abbrev pub AtKey : {K S : Type 0} → (K → K → Bool) → K → List (K × S) → (ℕ → Type 0) → Type 0
 AtKey eq k es P = (i : ℕ) × (place eq k es ≡ Some i) × P i

@@ -8,8 +8,9 @@ ghost use Rattle.futures.specs.Poll.{OnPending};
 ghost use Rattle.futures.specs.Task.{IsArmed, Keeps};
 ghost use Rattle.futures.specs.declared.task.Poll.TheVariants.{Ready};
 ghost use Rattle.indexmap.specs.IndexMap.{spare, swap_remove_entry};
+ghost use Rattle.tower_base.specs.Quiet.{Ever, Quiet};
 ghost use Rattle.tower_pool.specs.declared.ready_cache.error.Error.TheVariants.{Memory};
-ghost use Rattle.tower_pool.specs.ReadyCache.{is_pending, cancel, place, pending_entry, Apart, MayRefuse, At, AtKey, Called, Checked, CheckedKey, HeardFrom, Sound};
+ghost use Rattle.tower_pool.specs.ReadyCache.{is_pending, cancel, place, pending_entry, Apart, MayRefuse, At, AtKey, Called, Checked, CheckedKey, HeardFrom, Sound, StirsAt};
 ghost use Rattle.tower_pool.specs.ReadyCachePoll.{PolledFirst, PendingPolled};
 ghost use Rattle.tower_pool.specs.Pending.{Holds, cache_of};
 
@@ -191,6 +192,7 @@ impl<K: Eq + Hash + Clone + Drop, S: Service<Req>, Req> ReadyCache<K, S, Req> {
         ensures armed { result ≡ Ok true → IsArmed cx.new }
         ensures heard { OnOk result ((n : ℕ) → HeardFrom S.needs cx.old (suc n) pending.old.items
             → HeardFrom S.needs cx.new n pending.new.items) }
+        ensures quiet { Quiet (Ever S.stirs) cx.old cx.new }
         ensures kept { Keeps cx.old cx.new }
         ensures touches { pending.new.touches ≤ pending.old.touches + 5 }
     {
@@ -235,6 +237,7 @@ impl<K: Eq + Hash + Clone + Drop, S: Service<Req>, Req> ReadyCache<K, S, Req> {
         ensures sound { Sound S.sound (cache_of ready.new.entries pending.new) }
         ensures armed { OnPending result (IsArmed cx.new) }
         ensures heard { OnPending result (HeardFrom S.needs cx.new 0 pending.new.items) }
+        ensures quiet { Quiet (Ever S.stirs) cx.old cx.new }
         ensures kept { Keeps cx.old cx.new }
         ensures touches { pending.new.touches ≤ pending.old.touches + 5 * length pending.old.items }
     {
@@ -275,6 +278,8 @@ impl<K: Eq + Hash + Clone + Drop, S: Service<Req>, Req> ReadyCache<K, S, Req> {
         ensures sound { Sound S.sound self.new.lists }
         ensures armed { OnPending result (IsArmed cx.new) }
         ensures heard { OnPending result (HeardFrom S.needs cx.new 0 self.new.lists.pending) }
+        // It asks for another poll only if the poll of some pending endpoint may.
+        ensures quiet { Quiet (Ever S.stirs) cx.old cx.new }
         ensures kept { Keeps cx.old cx.new }
         ensures touches { self.new.touches ≤ self.old.touches + 5 * length self.old.lists.pending }
     {
@@ -296,6 +301,9 @@ impl<K: Eq + Hash + Clone + Drop, S: Service<Req>, Req> ReadyCache<K, S, Req> {
         ensures sound { Sound S.sound self.new.lists }
         ensures heard { HeardFrom S.needs cx.old 0 self.old.lists.pending
             → HeardFrom S.needs cx.new 0 self.new.lists.pending }
+        // It asks for another poll only if the poll of that endpoint may.
+        ensures quiet { Quiet (AtKey K.eq key.now self.old.lists.ready
+            (StirsAt S.stirs self.old.lists.ready)) cx.old cx.new }
         ensures kept { Keeps cx.old cx.new }
         ensures touches { self.new.touches ≤ self.old.touches + 2 }
     {
@@ -321,8 +329,13 @@ impl<K: Eq + Hash + Clone + Drop, S: Service<Req>, Req> ReadyCache<K, S, Req> {
         ensures sound { Sound S.sound self.new.lists }
         ensures armed { IfOk result
             (λ is_ready. is_ready ≡ false → index < length self.old.lists.ready → IsArmed cx.new) }
+        // If the poll was armed for the pending endpoints, it still is.
+        ensures waits { (0 < length self.old.lists.pending → IsArmed cx.old)
+            → 0 < length self.new.lists.pending → IsArmed cx.new }
         ensures heard { HeardFrom S.needs cx.old 0 self.old.lists.pending
             → HeardFrom S.needs cx.new 0 self.new.lists.pending }
+        // It asks for another poll only if the poll of that endpoint may.
+        ensures quiet { Quiet (StirsAt S.stirs self.old.lists.ready index) cx.old cx.new }
         ensures kept { Keeps cx.old cx.new }
         ensures touches { self.new.touches ≤ self.old.touches + 2 }
     {

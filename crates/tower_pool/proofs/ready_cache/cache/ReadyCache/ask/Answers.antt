@@ -9,6 +9,7 @@ use Rattle.tower_pool.specs.Pending.{cache_of, entry_of, knows}
 use Rattle.tower_pool.proofs.AskLemmas.{asked_by, sound_first, sound_gone, sound_last, sound_ready, when_ok}
 use Rattle.tower_pool.proofs.CacheLemmas.{same_view}
 use Rattle.tower_pool.proofs.NeedsLemmas.{heard_gone, heard_waits}
+use Rattle.tower_pool.proofs.StirsLemmas.{quiet_ever}
 use Rattle.tower_pool.proofs.KeptLemmas.{kept_dropped, kept_failed, kept_inserted, kept_last}
 use Rattle.tower_pool.proofs.ready_cache.cache.ReadyCache.ask.Goals as goal
 
@@ -158,3 +159,12 @@ returns-in-Ready-Ok-clause-heard g c =
     let mid = c.take_first.new.self.items in
     let take = c.take_first.ensures.items ∙ ap (λ r. option_map_or (λ e. entry_of e ∷ c.take_first.new.self.items) r []) c.unwrap-key.ensures in
     λ n. heard_gone g.S.Service.needs _ _ c.poll_ready.ensures.kept n _ q mid take
+
+pub returns-in-Pending-clause-quiet : goal.returns-in-Pending-clause-quiet
+returns-in-Pending-clause-quiet g c = quiet_ever g.S.Service.stirs _ _ c.poll_ready.ensures.quiet
+
+pub returns-in-Ready-Ok-clause-quiet : goal.returns-in-Ready-Ok-clause-quiet
+returns-in-Ready-Ok-clause-quiet g c = quiet_ever g.S.Service.stirs _ _ c.poll_ready.ensures.quiet
+
+pub returns-in-Ready-Err-clause-quiet : goal.returns-in-Ready-Err-clause-quiet
+returns-in-Ready-Err-clause-quiet g c = quiet_ever g.S.Service.stirs _ _ c.poll_ready.ensures.quiet

@@ -1,4 +1,4 @@
-use Rattle.std.proofs.Common.{rules, suc, ◌≡◌, ◌<◌, ◌-◌, ◌∙◌, Ok, Err, true, false, true≢false, ap, sym, subst, refl, arith}
+use Rattle.std.proofs.Common.{rules, suc, ◌≡◌, ◌<◌, ◌-◌, ◌∙◌, Ok, Err, true, false, true≢false, inl, ap, sym, subst, refl, arith}
 use Rattle.tower_pool.specs.declared.ready_cache.error.Error.TheVariants.{Memory}
 use Rattle.tower_pool.specs.ReadyCachePoll.{PolledFirst}
 use Rattle.tower_pool.specs.Pending.{cache_of}
@@ -6,6 +6,7 @@ use Rattle.tower_pool.proofs.KeptLemmas.{kept_rotated}
 use Rattle.tower_pool.specs.ReadyCache.{HeardFrom}
 use Rattle.tower_pool.proofs.AskLemmas.{Asking, asking_begins, asking_left, asking_stops, asking_waits, sound_rotated, when_ok}
 use Rattle.tower_pool.proofs.NeedsLemmas.{heard_none}
+use Rattle.tower_pool.proofs.StirsLemmas.{quiet_then}
 use Rattle.tower_pool.proofs.ready_cache.cache.ReadyCache.ask_each.Goals as goal
 
 pub loop-left-init : goal.loop-left-init
@@ -17,6 +18,7 @@ loop-left-init g c =
       sound = c.requires.sound;
       armed = λ e. absurd (true≢false (sym e));
       heard = λ source need. absurd (heard_none g.S.Service.needs _ c.len-left.result (omega (arith, c.len-left.ensures.len)) source need);
+      quiet = inl;
       kept = λ fact h. h;
       used = omega (arith, c.len-left.ensures.len);
       touches = omega (arith, c.len-left.ensures.len);
@@ -39,6 +41,7 @@ loop-left-preserved-in-Ok-true g c =
       sound = c.ask.ensures.sound;
       armed = λ _. c.ask.ensures.armed is;
       heard = when_ok c.ask.result true _ is c.ask.ensures.heard n (subst (λ m. HeardFrom g.S.Service.needs c.loop-left.cx m c.loop-left.pending.items) e c.loop-left.invariant.heard);
+      quiet = quiet_then (λ h. h) (λ h. h) c.loop-left.invariant.quiet c.ask.ensures.quiet;
       kept = λ fact h. c.ask.ensures.kept fact (c.loop-left.invariant.kept fact h);
       used = omega (arith, c.ask.ensures.used, c.loop-left.invariant.used, e);
       touches = omega (arith, c.ask.ensures.touches, c.loop-left.invariant.touches, e);
@@ -61,6 +64,7 @@ loop-left-preserved g c =
       sound = c.ask.ensures.sound;
       armed = λ w. c.ask.ensures.kept _ (c.loop-left.invariant.armed w);
       heard = when_ok c.ask.result false _ is c.ask.ensures.heard n (subst (λ m. HeardFrom g.S.Service.needs c.loop-left.cx m c.loop-left.pending.items) e c.loop-left.invariant.heard);
+      quiet = quiet_then (λ h. h) (λ h. h) c.loop-left.invariant.quiet c.ask.ensures.quiet;
       kept = λ fact h. c.ask.ensures.kept fact (c.loop-left.invariant.kept fact h);
       used = omega (arith, c.ask.ensures.used, c.loop-left.invariant.used, e);
       touches = omega (arith, c.ask.ensures.touches, c.loop-left.invariant.touches, e);
@@ -96,3 +100,6 @@ returns-in-Err-clause-full g c = λ is.
     let memory : c.in-Err.error ≡ Memory = cc is in
     let full = c.ask.ensures.full (c.in-Err.is ∙ ap Err memory) in
     omega (arith, some, full, c.loop-left.invariant.used)
+
+pub returns-in-Err-clause-quiet : goal.returns-in-Err-clause-quiet
+returns-in-Err-clause-quiet g c = quiet_then (λ h. h) (λ h. h) c.loop-left.invariant.quiet c.ask.ensures.quiet

@@ -1,6 +1,7 @@
 use Rattle.std.proofs.Common.{◌≡◌, ◌≤◌, ◌+◌, ◌*◌, true, length}
 use Rattle.futures.specs.Task.{IsArmed, Keeps}
 use Rattle.indexmap.specs.IndexMap.{spare}
+use Rattle.tower_base.specs.Quiet.{Ever, Quiet}
 use Rattle.tower_pool.specs.ReadyCache.{HeardFrom, Sound}
 use Rattle.tower_pool.specs.Pending.{Holds, cache_of}
 use Rattle.tower_pool.proofs.AskLemmas.{Asking}
@@ -13,6 +14,7 @@ invariant-loop-left g l = record {
   sound : Sound g.S.Service.sound (cache_of l.ready.entries l.pending);
   armed : l.waits ≡ true → IsArmed l.cx;
   heard : HeardFrom g.S.Service.needs l.cx l.left l.pending.items;
+  quiet : Quiet (Ever g.S.Service.stirs) l.fn.cx l.cx;
   kept : Keeps l.fn.cx l.cx;
   used : spare l.fn.ready + l.left ≤ spare l.ready + length l.fn.pending.items;
   touches : l.pending.touches + 5 * l.left ≤ l.fn.pending.touches + 5 * length l.fn.pending.items;

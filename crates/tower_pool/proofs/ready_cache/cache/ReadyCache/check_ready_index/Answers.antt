@@ -9,6 +9,7 @@ use Rattle.tower_pool.proofs.CacheLemmas.{checked_of, same_view}
 use Rattle.tower_pool.proofs.KeptLemmas.{kept_back, kept_left, kept_lent, known_at, known_written}
 use Rattle.tower_pool.proofs.PlaceLemmas.{All-swap_remove, All-written, at_written, for_some, inside, one_less, swap_written, taken, within}
 use Rattle.tower_pool.proofs.PendingLemmas.{All-put_back}
+use Rattle.tower_pool.proofs.StirsLemmas.{quiet_at}
 use Rattle.tower_pool.proofs.ready_cache.cache.ReadyCache.check_ready_index.Goals as goal
 
 pub invariant_of-self : goal.invariant_of-self
@@ -140,3 +141,12 @@ returns-in-Pending-clause-heard g c = λ h.
     (heard_back needs _ _ c.poll_ready.ensures.kept (is_pending g.K.PartialEq.eq u.0 c.self.inside.pending.items) c.self.inside.pending.items (pending_entry u.0 u.1)
     (subst (λ p. (source : ℕ) → needs p.1 source → Hears c.poll_ready.new.cx source) (sym is) c.in-Pending.ensures.heard)
     (subst (λ v. HeardFrom needs c.args.cx.now 0 v.lists.pending) (sym c.self.view_is) h))
+
+pub returns-in-Pending-clause-quiet : goal.returns-in-Pending-clause-quiet
+returns-in-Pending-clause-quiet g c = quiet_at g.S.Service.stirs _ _ (ap (λ v. v.lists) c.self.view_is) c.args.index _ c.poll_ready.new.self c.pair_mut-service.ensures.value c.poll_ready.ensures.quiet
+
+pub returns-in-Ready-Ok-clause-quiet : goal.returns-in-Ready-Ok-clause-quiet
+returns-in-Ready-Ok-clause-quiet g c = quiet_at g.S.Service.stirs _ _ (ap (λ v. v.lists) c.self.view_is) c.args.index _ c.poll_ready.new.self c.pair_mut-service.ensures.value c.poll_ready.ensures.quiet
+
+pub returns-in-Ready-Err-clause-quiet : goal.returns-in-Ready-Err-clause-quiet
+returns-in-Ready-Err-clause-quiet g c = quiet_at g.S.Service.stirs _ _ (ap (λ v. v.lists) c.self.view_is) c.args.index _ c.poll_ready.new.self c.pair_mut-service.ensures.value c.poll_ready.ensures.quiet
