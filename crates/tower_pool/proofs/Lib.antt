@@ -1,5 +1,6 @@
 pub mod AskLemmas
 pub mod BalanceLemmas
+pub mod BalanceStirs
 pub mod CacheLemmas
 pub mod KeptLemmas
 pub mod MakeLemmas

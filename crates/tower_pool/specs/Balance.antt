@@ -10,7 +10,8 @@ use Rattle.futures.specs.declared.task.Poll.TheVariants.{Ready, Pending}
 use Rattle.indexmap.specs.IndexMap.{swap_remove_entry}
 use Rattle.tower_base.specs.Answers.{answered}
 use Rattle.tower_base.specs.Draw.{Drawn}
-use Rattle.tower_base.specs.Iterations.{Iterates, Iterations}
+use Rattle.tower_base.specs.Iterations.{Iterates, Iterations, limit}
+use Rattle.tower_base.specs.Quiet.{Ever}
 use Rattle.tower_base.specs.declared.service.Service.{Ghosts as ServiceOf}
 use Rattle.tower_base.specs.declared.service.Steps.{Ghosts as StepsOf}
 use Rattle.tower_limit.specs.Discover.{Found, MayInsert}
@@ -47,6 +48,11 @@ initial discover rng = record { discover = discover; services = record { ready =
 abbrev pub count_of : {D R K S : Type 0} → BalanceView D R K S → ℕ
 count_of v = length v.services.ready + length v.services.pending
 
+-- The discovery has ended, and there is no endpoint. Then a pending poll waits for nothing but the kit's `pending`, whose poll may ask for another: no
+-- clause of the kit bounds that.
+abbrev pub IsIdle : {D R K S : Type 0} → BalanceView D R K S → Type 0
+IsIdle v = (v.is_over ≡ true) × (count_of v ≡ 0)
+
 -- A `Balance` is sound, as the constructors ensure, if the discovery, each endpoint and whatever the discovery may insert are sound.
 -- (`discovered old found new`: a poll of the discovery may return `found`.)
 pub record Sound {D R K S X : Type 0} (discovers : D → Type 0) (discovered : D → Found K S X → D → Type 0) (sound : S → Type 0) (v : BalanceView D R K S) : Type 0 where
@@ -63,6 +69,11 @@ module _ {K S : Type 0} (eq : K → K → Bool) where
   -- the cache after a push that found room
   abbrev pub pushed : ReadyCacheView K S → K → S → ReadyCacheView K S
   pushed c k s = record c { pending = cancel eq k c.pending ++ pending_entry k s ∷ [] }
+
+  -- the balancer after an insert that was kept is pushed, if there is one
+  abbrev pub push_kept : {D R : Type 0} → Option (K × S) → BalanceView D R K S → BalanceView D R K S
+  push_kept None old = old
+  push_kept (Some e) old = record old { services = pushed old.services e.0 e.1; change = None }
 
   -- the cache after an eviction
   abbrev pub evicted : ReadyCacheView K S → K → ReadyCacheView K S
@@ -99,6 +110,14 @@ module _ {D R K S X : Type 0} (discovered : D → Found K S X → D → Type 0) 
   -- the changes of a poll
   abbrev pub Changed : BalanceView D R K S → Result (Unit {0}) (Error E X) → BalanceView D R K S → Type 0
   Changed old answer new = ChangedAt old.change old answer new
+
+-- The reading of a discovery that hasn't ended reaches the limit: 64 iterations in a row give no answer.
+abbrev pub ReadsToLimit : {D R K S X : Type 0} → (D → Found K S X → D → Type 0) → (K → K → Bool) → (E : Type 0) → BalanceView D R K S → BalanceView D R K S → Type 0
+ReadsToLimit discovered eq E old new = (old.is_over ≡ false) × Iterates (Reads discovered eq {E = E}) limit old new
+
+-- Why the reading may ask for another poll: the causes of the discovery, unless it has ended, or the limit.
+abbrev pub ReadStirs : {D R K S X E : Type 0} → (D → Found K S X → D → Type 0) → (K → K → Bool) → (D → D → Type 0) → BalanceView D R K S → Result (Unit {0}) (Error E X) → BalanceView D R K S → Type 0
+ReadStirs {E = E} discovered eq stirs old answer new = ((old.is_over ≡ false) × Ever stirs) ⊎ ((answer ≡ Ok tt) × ReadsToLimit discovered eq E old new)
 
 -- the ready endpoint that an iteration polls, if there is one: the endpoint at the kept index
 abbrev pub polled_at : {K S : Type 0} → Option ℕ → List (K × S) → List (K × S)
@@ -202,6 +221,13 @@ module _ {D R K S Q A E G X M : Type 0} (eq : K → K → Bool) (s : ServiceOf S
     pub mid : BalanceView D R K S
     pub changed : Changed discovered eq old inner mid
     pub goes : AfterChanges inner mid answer new
+
+  -- Why a poll of readiness may ask for another: the causes of the discovery, unless it has ended, and those of the endpoints; the reading reaches
+  -- the limit, and then comes what follows the changes; or nothing is left that could wake the task (`IsIdle`).
+  abbrev pub Stirs : (D → Found K S X → D → Type 0) → (D → D → Type 0) → BalanceView D R K S → BalanceView D R K S → Type 0
+  Stirs discovered stirs old new = ((old.is_over ≡ false) × Ever stirs) ⊎ Ever s.stirs ⊎ IsIdle new
+      ⊎ ((mid : BalanceView D R K S) × (answer : Poll (Result (Unit {0}) (Error E X))) × ReadsToLimit discovered eq E (push_kept eq old.change old) mid
+      × AfterChanges (Ok tt) mid answer new)
 
 -- an index is kept, and the endpoint there is ready
 abbrev pub IsReady : {D R K S : Type 0} → (S → Type 0) → BalanceView D R K S → Type 0

@@ -54,6 +54,12 @@ module _ {F D E R Q K S X : Type 0} (f : StepsOf F (Result D E)) where
   Stepped (Asked old None) answer new = ⊥
   Stepped Refused answer new = (answer ≡ Ready (Err Memory)) × (new ≡ Refused)
 
+-- why a poll of the future may ask for another: the causes of the maker's future
+abbrev pub Stirs : {F R : Type 0} → (F → F → Type 0) → State F R → State F R → Type 0
+Stirs stirs (Asked f rng) (Asked left rest) = stirs f left
+Stirs stirs (Asked f rng) Refused = ⊥
+Stirs stirs Refused new = ⊥
+
 -- the sources that the future waits for: those of the maker's future
 abbrev pub needs_of : {F R : Type 0} → (F → ℕ → Type 0) → State F R → ℕ → Type 0
 needs_of needs (Asked f rng) source = needs f source

@@ -1,6 +1,7 @@
 //! The parts of a balancer's poll that concern only its endpoints.
-ghost use Rattle.std.specs.Prelude.{◌<◌, OnOk, length};
-ghost use Rattle.futures.specs.Task.{Keeps};
+ghost use Rattle.std.specs.Prelude.{◌≡◌, ◌<◌, None, OnOk, length};
+ghost use Rattle.futures.specs.Task.{IsArmed, Keeps};
+ghost use Rattle.tower_base.specs.Quiet.{Ever, Quiet};
 ghost use Rattle.tower_pool.specs.Balance.{IsLighter, Picked, Promotes};
 ghost use Rattle.tower_pool.specs.ReadyCache.{At, HeardFrom, Sound};
 
@@ -24,7 +25,9 @@ where
     requires { Sound S.sound services.old.lists }
     ensures promoted { Promotes K.eq S.Service services.old.lists result services.new.lists }
     ensures sound { Sound S.sound services.new.lists }
+    ensures waits { OnOk result (0 < length services.new.lists.pending → IsArmed cx.new) }
     ensures heard { OnOk result (HeardFrom S.needs cx.new 0 services.new.lists.pending) }
+    ensures quiet { Quiet (Ever S.stirs) cx.old cx.new }
     ensures kept { Keeps cx.old cx.new }
 {
     loop {
@@ -68,8 +71,9 @@ where
     K: Eq + Hash + Clone + Drop,
     S: Service<Req> + Load,
     R: Rng,
-    ensures { Picked S.loaded S.Metric.partial_cmp R.drew services.now.lists.ready rng.old
+    ensures picked { Picked S.loaded S.Metric.partial_cmp R.drew services.now.lists.ready rng.old
         result rng.new }
+    ensures none { result ≡ None → length services.now.lists.ready ≡ 0 }
 {
     let count = services.ready_len();
     if count == 0 {

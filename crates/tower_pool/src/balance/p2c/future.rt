@@ -63,6 +63,8 @@ impl<A, E, X, F: Steps<Output = Result<A, E>>> Steps for ResponseFuture<F, X> {
 
     ghost stepped = { Stepped F.Steps.own };
 
+    ghost stirs = { ⟦<Fuse<F> as Steps>⟧.stirs };
+
     #[inline]
     fn step(&mut self, cx: &mut Context<'_>) -> Poll<Result<A, Error<E, X>>> {
         match self.response.step(cx) {

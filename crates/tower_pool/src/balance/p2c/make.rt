@@ -2,7 +2,7 @@
 ghost use Rattle.std.specs.Prelude.{◌≡◌};
 ghost use Rattle.tower_base.specs.AnswersLemmas.{answered_ok};
 ghost use Rattle.tower_base.specs.Gives.{IsStep, MayGive};
-ghost use Rattle.tower_pool.specs.MakeBalance.{Called, CanPoll, IsClone, MakeBalanceView, Polled, Stepped, needs_of};
+ghost use Rattle.tower_pool.specs.MakeBalance.{Called, CanPoll, IsClone, MakeBalanceView, Polled, Stepped, Stirs, needs_of};
 ghost use Rattle.tower_pool.specs.declared.balance.error.MakeError.TheVariants.{Inner};
 ghost use Rattle.tower_pool.specs.declared.balance.p2c.make.State.{State};
 
@@ -77,6 +77,8 @@ where
     ghost polled = { Polled M.Service };
 
     ghost needs = { λ m. M.needs m.maker };
+
+    ghost stirs = { λ old new. M.stirs old.maker new.maker };
 
     ghost called = { Called M.Service R.is_clone };
 
@@ -182,6 +184,8 @@ where
     ghost needs = { needs_of F.needs };
 
     ghost stepped = { Stepped F.Steps.own };
+
+    ghost stirs = { Stirs F.stirs };
 
     fn step(&mut self, cx: &mut Context<'_>) -> Poll<Self::Output> {
         let State::Asked(discover, rng) = &mut self.state else {

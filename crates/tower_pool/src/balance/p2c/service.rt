@@ -1,11 +1,12 @@
 //! The balancer.
-ghost use Rattle.std.specs.Prelude.{◌≡◌, ◌↔◌, ℕ, Ok, IfSome, IsTrue, OnOk, [], false};
+ghost use Rattle.std.specs.Prelude.{◌≡◌, ◌<◌, ◌⊎◌, ◌↔◌, ℕ, Ok, IfSome, IsSome, IsTrue, OnOk, [], false, length};
 ghost use Rattle.futures.specs.Poll.{OnPending};
 ghost use Rattle.futures.specs.Task.{Hears, IsArmed, Keeps};
 ghost use Rattle.tower_base.specs.LastIteration.{AnsweredOrWoken};
+ghost use Rattle.tower_base.specs.Quiet.{Ever, Quiet};
 ghost use Rattle.tower_base.specs.Rng.{New};
 ghost use Rattle.tower_limit.specs.Discover.{MayInsert};
-ghost use Rattle.tower_pool.specs.Balance.{AfterChanges, Called, Changed, Chooses, Chosen, Inserted, IsReady, Needs, Iteration, Polled, Reads, ReadsAll, Sound, count_of, initial, view_of};
+ghost use Rattle.tower_pool.specs.Balance.{AfterChanges, Called, Changed, Chooses, Chosen, Inserted, IsIdle, IsReady, Needs, Iteration, Polled, ReadStirs, Reads, ReadsAll, Sound, Stirs, count_of, initial, push_kept, view_of};
 ghost use Rattle.tower_pool.specs.BalanceReady.{polled_ok};
 ghost use Rattle.tower_pool.specs.ReadyCache.{HeardFrom, MayRefuse};
 
@@ -141,6 +142,7 @@ where
             (λ answer. OnOk answer (self.new.is_over ≡ false → IsArmed cx.new)) }
         ensures heard { IfSome result (λ answer. OnOk answer
             (self.new.is_over ≡ false → (s : ℕ) → D.needs self.new.discover s → Hears cx.new s)) }
+        ensures quiet { Quiet (D.stirs self.old.discover self.new.discover) cx.old cx.new }
         ensures kept { Keeps cx.old cx.new }
     {
         match self.discover.poll_discover(cx) {
@@ -168,6 +170,8 @@ where
         ensures armed { OnOk result (self.new.is_over ≡ false → IsArmed cx.new) }
         ensures heard { OnOk result
             (self.new.is_over ≡ false → (s : ℕ) → D.needs self.new.discover s → Hears cx.new s) }
+        ensures quiet { Quiet (ReadStirs D.discovered K.eq D.stirs (view_of self.old)
+            result (view_of self.new)) cx.old cx.new }
         ensures kept { Keeps cx.old cx.new }
     {
         if self.is_over {
@@ -190,6 +194,9 @@ where
         ensures armed { OnOk result (self.new.is_over ≡ false → IsArmed cx.new) }
         ensures heard { OnOk result
             (self.new.is_over ≡ false → (s : ℕ) → D.needs self.new.discover s → Hears cx.new s) }
+        ensures quiet { Quiet (ReadStirs D.discovered K.eq D.stirs
+            (push_kept K.eq self.old.change (view_of self.old))
+            result (view_of self.new)) cx.old cx.new }
         ensures kept { Keeps cx.old cx.new }
     {
         if let Some((key, service)) = self.change.take() {
@@ -208,40 +215,52 @@ where
     D: Discover<Key = K, Service = S, Error = X>,
     R: Rng,
 {
-    // Keeps the index that is picked. If none is, the poll is pending.
+    // Keeps the index that is picked. If none is, the poll is pending. The discovery and the pending
+    // endpoints wake its task, and if neither is left, nothing does.
     fn choose(&mut self, cx: &mut Context<'_>) -> Option<Poll<Answer<S::Error, X>>>
-        requires { Sound D.sound D.discovered S.sound (view_of self.old) }
+        requires sound { Sound D.sound D.discovered S.sound (view_of self.old) }
+        requires reads { self.old.is_over ≡ false → IsArmed cx.old }
+        requires waits { 0 < length self.old.services.lists.pending → IsArmed cx.old }
         ensures chosen { Chooses K.eq S.Service S.loaded S.Metric.partial_cmp R.drew
             (view_of self.old) result (view_of self.new) }
         ensures sound { Sound D.sound D.discovered S.sound (view_of self.new) }
         ensures armed { IfSome result (λ answer. OnPending answer (IsArmed cx.new)) }
+        ensures waits { 0 < length self.new.services.lists.pending → IsArmed cx.new }
         ensures heard { HeardFrom S.needs cx.old 0 self.old.services.lists.pending
             → HeardFrom S.needs cx.new 0 self.new.services.lists.pending }
         ensures discover { self.new.discover ≡ self.old.discover }
         ensures over { self.new.is_over ≡ self.old.is_over }
+        ensures quiet { Quiet (IsSome result × IsIdle (view_of self.new)) cx.old cx.new }
         ensures kept { Keeps cx.old cx.new }
     {
         self.kept = pick(&self.services, &mut self.rng);
         match self.kept {
             Some(_) => None,
-            None => match self.never.poll(cx) {
-                Poll::Pending => Some(Poll::Pending),
-                Poll::Ready(()) => unreachable!(),
-            },
+            None => {
+                if self.is_over && self.services.is_empty() {
+                    let _: Poll<()> = self.never.poll(cx);
+                }
+                Some(Poll::Pending)
+            }
         }
     }
 
     // Makes one iteration of choosing. Returns an answer, or `None` to go on with the next iteration.
     fn iterate_once(&mut self, cx: &mut Context<'_>) -> Option<Poll<Answer<S::Error, X>>>
-        requires { Sound D.sound D.discovered S.sound (view_of self.old) }
+        requires sound { Sound D.sound D.discovered S.sound (view_of self.old) }
+        requires reads { self.old.is_over ≡ false → IsArmed cx.old }
+        requires waits { 0 < length self.old.services.lists.pending → IsArmed cx.old }
         ensures iteration { Iteration K.eq S.Service S.loaded S.Metric.partial_cmp R.drew
             (view_of self.old) result (view_of self.new) }
         ensures sound { Sound D.sound D.discovered S.sound (view_of self.new) }
         ensures armed { IfSome result (λ answer. OnPending answer (IsArmed cx.new)) }
+        ensures waits { 0 < length self.new.services.lists.pending → IsArmed cx.new }
         ensures heard { HeardFrom S.needs cx.old 0 self.old.services.lists.pending
             → HeardFrom S.needs cx.new 0 self.new.services.lists.pending }
         ensures discover { self.new.discover ≡ self.old.discover }
         ensures over { self.new.is_over ≡ self.old.is_over }
+        ensures quiet { Quiet (Ever S.stirs ⊎ (IsSome result × IsIdle (view_of self.new)))
+            cx.old cx.new }
         ensures kept { Keeps cx.old cx.new }
     {
         let Some(index) = self.kept else {
@@ -256,7 +275,9 @@ where
 
     // Checks and chooses, until a ready endpoint is kept or none is left.
     fn settle(&mut self, cx: &mut Context<'_>) -> Poll<Answer<S::Error, X>>
-        requires { Sound D.sound D.discovered S.sound (view_of self.old) }
+        requires sound { Sound D.sound D.discovered S.sound (view_of self.old) }
+        requires reads { self.old.is_over ≡ false → IsArmed cx.old }
+        requires waits { 0 < length self.old.services.lists.pending → IsArmed cx.old }
         ensures chosen { Chosen K.eq S.Service S.loaded S.Metric.partial_cmp R.drew
             (view_of self.old) result (view_of self.new) }
         ensures sound { Sound D.sound D.discovered S.sound (view_of self.new) }
@@ -265,6 +286,7 @@ where
             → HeardFrom S.needs cx.new 0 self.new.services.lists.pending }
         ensures discover { self.new.discover ≡ self.old.discover }
         ensures over { self.new.is_over ≡ self.old.is_over }
+        ensures quiet { Quiet (Ever S.stirs ⊎ IsIdle (view_of self.new)) cx.old cx.new }
         ensures kept { Keeps cx.old cx.new }
     {
         loop {
@@ -284,7 +306,8 @@ where
 {
     // Does what follows the changes: the promotion, and then the choosing.
     fn serve(&mut self, cx: &mut Context<'_>) -> Poll<Answer<S::Error, X>>
-        requires { Sound D.sound D.discovered S.sound (view_of self.old) }
+        requires sound { Sound D.sound D.discovered S.sound (view_of self.old) }
+        requires reads { self.old.is_over ≡ false → IsArmed cx.old }
         ensures served { AfterChanges K.eq S.Service S.loaded S.Metric.partial_cmp R.drew (Ok tt)
             (view_of self.old) result (view_of self.new) }
         ensures sound { Sound D.sound D.discovered S.sound (view_of self.new) }
@@ -293,6 +316,7 @@ where
             (HeardFrom S.needs cx.new 0 self.new.services.lists.pending) }
         ensures discover { self.new.discover ≡ self.old.discover }
         ensures over { self.new.is_over ≡ self.old.is_over }
+        ensures quiet { Quiet (Ever S.stirs ⊎ IsIdle (view_of self.new)) cx.old cx.new }
         ensures kept { Keeps cx.old cx.new }
     {
         match promote(&mut self.services, cx) {
@@ -325,6 +349,9 @@ where
 
     ghost needs = { λ b. Needs D.needs S.needs (view_of b) };
 
+    ghost stirs = { λ old new. Stirs K.eq S.Service S.loaded S.Metric.partial_cmp R.drew
+        D.discovered D.stirs (view_of old) (view_of new) };
+
     ghost called = { λ old request future new. Called K.eq S.Service (view_of old)
         request future (view_of new) };
 
@@ -340,6 +367,8 @@ where
         ensures armed { OnPending result (IsArmed cx.new) }
         ensures heard { OnPending result
             ((s : ℕ) → Needs D.needs S.needs (view_of self.new) s → Hears cx.new s) }
+        ensures quiet { Quiet (Stirs K.eq S.Service S.loaded S.Metric.partial_cmp R.drew
+            D.discovered D.stirs (view_of self.old) (view_of self.new)) cx.old cx.new }
         ensures kept { Keeps cx.old cx.new }
     {
         match self.update(cx) {

@@ -1,6 +1,7 @@
-use Rattle.futures.specs.Task.{Keeps}
+use Rattle.futures.specs.Task.{IsArmed, Keeps}
+use Rattle.tower_base.specs.Quiet.{Ever, Quiet}
 use Rattle.tower_pool.specs.Balance.{Sound, view_of}
-use Rattle.std.proofs.Common.{◌≡◌}
+use Rattle.std.proofs.Common.{◌≡◌, ◌<◌, false, length}
 use Rattle.tower_pool.specs.ReadyCache.{HeardFrom}
 use Rattle.tower_pool.proofs.BalanceLemmas.{Settling, turns}
 use Rattle.tower_pool.proofs.balance.p2c.service.Balance.settle.Given as goal
@@ -12,6 +13,9 @@ invariant-loop-answer g l = record {
   heard : HeardFrom g.S.Service.needs l.fn.cx 0 l.fn.self.services.lists.pending → HeardFrom g.S.Service.needs l.cx 0 l.self.services.lists.pending;
   discover : l.self.discover ≡ l.fn.self.discover;
   over : l.self.is_over ≡ l.fn.self.is_over;
+  reads : l.self.is_over ≡ false → IsArmed l.cx;
+  waits : 0 < length l.self.services.lists.pending → IsArmed l.cx;
+  quiet : Quiet (Ever g.S.Service.stirs) l.fn.cx l.cx;
   kept : Keeps l.fn.cx l.cx;
 }
 
