@@ -4,7 +4,8 @@ use Rattle.std.specs.declared.alloc.AllocError.{AllocError}
 use Rattle.futures.specs.declared.task.Poll.{Poll}
 use Rattle.futures.specs.declared.task.Poll.TheVariants.{Ready, Pending}
 use Rattle.tower_base.specs.Answers.{answered}
-use Rattle.tower_base.specs.Iterations.{Iterations}
+use Rattle.tower_base.specs.Iterations.{Iterates, Iterations, limit}
+use Rattle.tower_base.specs.Quiet.{Ever}
 use Rattle.tower_latch.specs.declared.Latch.{Ghosts as LatchOf}
 use Rattle.tower_base.specs.declared.service.Executor.{Ghosts as ExecutorOf}
 use Rattle.tower_base.specs.declared.service.Service.{Ghosts as ServiceOf}
@@ -60,6 +61,11 @@ pub record Sound {S Q E L A F X : Type 0} (sound : S → Type 0) (x : ExecutorOf
   pub service : IfSome v.service sound
   pub spawns : (task : ReadyTask S Q E L A F) → CanPoll sound (held_of task) → x.can_spawn v.executor task
 
+-- The reply to a check for an abort (the step `Aborted`) doesn't say whether there is one. A slot's own core always says it.
+abbrev pub is_unclear : {S E : Type 0} → SlotReply S E → Bool
+is_unclear (Truth b) = false
+is_unclear _ = true
+
 -- The reply says that nobody waits for the service any more.
 abbrev pub tells : {S E : Type 0} → SlotReply S E → Bool
 tells (Truth b) = b
@@ -73,6 +79,20 @@ module _ {S E L : Type 0} (l : LatchOf L (Slot S E) (SlotStep S E) (SlotReply S 
   -- A check for an abort (the step `Aborted`) found none, as the latch's `gave` says: in some run of a slot.
   abbrev pub IsWaitedFor : L → Type 0
   IsWaitedFor latch = (reply : SlotReply S E) × l.gave latch Aborted reply × (tells reply ≡ false)
+
+  -- Why a check for an abort may ask for another poll: the latch's causes, or an unclear reply.
+  abbrev pub CheckStirs : (L → Type 0) → L → Type 0
+  CheckStirs stirs latch = stirs latch ⊎ ((reply : SlotReply S E) × l.gave latch Aborted reply × (is_unclear reply ≡ true))
+
+  -- Why the poll of a task's service may ask for another: the service's causes, be it kept or dropped or put into the slot.
+  abbrev pub ServiceStirs : (S → S → Type 0) → S → Option (Held S L) → Type 0
+  ServiceStirs stirs old (Some new) = stirs old new.service
+  ServiceStirs stirs old None = (left : S) × stirs old left
+
+  -- Why a poll of a task may ask for another: the causes of the check for an abort, and those of the service.
+  abbrev pub TaskStirs : (S → S → Type 0) → (L → Type 0) → Option (Held S L) → Option (Held S L) → Type 0
+  TaskStirs service latch (Some old) new = CheckStirs latch old.latch ⊎ ServiceStirs service old.service new
+  TaskStirs service latch None new = ⊥
 
   module _ {Q A F : Type 0} (s : ServiceOf S Q A E F) where
     -- After the service's poll, a service that is ready, or its error, goes into the slot. Then the task has neither the service nor the slot any
@@ -176,6 +196,14 @@ module _ {S Q A E F L X : Type 0} (s : ServiceOf S Q A E F) (l : LatchOf L (Slot
   -- a poll of readiness: iterations until one has an answer, or 64 without one, and then it is pending
   pub record Polled (old : SpawnReadyView S X L) (answer : Poll (Result (Unit {0}) (Error E))) (new : SpawnReadyView S X L) : Type 0 where
     pub iterations : Iterations Iteration Pending old answer new
+
+  -- Why an iteration may ask for another poll: the service's causes, the latch's, or a slot that doesn't know a look.
+  abbrev pub IterationStirs : (L → Type 0) → L → Type 0
+  IterationStirs stirs latch = Ever s.stirs ⊎ stirs latch ⊎ l.gave latch Look Unknown
+
+  -- Why a poll of readiness may ask for another: the causes of its iterations, or the limit: 64 of them in a row gave no answer.
+  abbrev pub Stirs : (L → Type 0) → SpawnReadyView S X L → SpawnReadyView S X L → Type 0
+  Stirs stirs old new = IterationStirs stirs new.latch ⊎ Iterates Iteration limit old new
 
 module _ {S Q A E F : Type 0} (s : ServiceOf S Q A E F) where
   -- The beginning of an iteration: the service is polled if it is here.

@@ -62,6 +62,8 @@ impl<T, E, F: Steps<Output = Result<T, E>>> Steps for ResponseFuture<F> {
 
     ghost stepped = { Stepped F.Steps.own };
 
+    ghost stirs = { ⟦<Fuse<F> as Steps>⟧.stirs };
+
     fn step(&mut self, cx: &mut Context<'_>) -> Poll<Self::Output> {
         match self.response.step(cx) {
             Poll::Ready(Ok(response)) => Poll::Ready(Ok(response)),

@@ -3,7 +3,8 @@ ghost use Rattle.std.specs.Prelude.{◌≡◌, ℕ, IfNone, IfOk, IfSome, IsSome
 ghost use Rattle.futures.specs.Task.{Hears, IsArmed, Keeps};
 ghost use Rattle.futures.specs.Poll.{OnPending};
 ghost use Rattle.tower_base.specs.LastIteration.{AnsweredOrWoken};
-ghost use Rattle.tower_pool.specs.SpawnReady.{Begins, Called, Ends, HandsOver, HandsTo, Looks, New, Iteration, Polled, Sound, Starts, view_of};
+ghost use Rattle.tower_base.specs.Quiet.{Ever, Quiet};
+ghost use Rattle.tower_pool.specs.SpawnReady.{Begins, Called, Ends, HandsOver, HandsTo, Looks, New, Iteration, IterationStirs, Polled, Sound, Starts, Stirs, view_of};
 ghost use Rattle.tower_pool.specs.SpawnReadyReady.{polled_ok};
 ghost use Rattle.tower_pool.specs.declared.spawn_ready.slot_core.SlotStep.{SlotStep as Step};
 
@@ -138,6 +139,9 @@ where
 
     ghost needs = { λ v. L.source v.latch };
 
+    ghost stirs = { λ old new. Stirs S.Service L.Latch X.Executor L.stirs (view_of old)
+        (view_of new) };
+
     ghost called = { λ old request future new. Called S.Service (view_of old)
         request future (view_of new) };
 
@@ -152,6 +156,8 @@ where
             result (view_of self.new) cx.new.is_woken }
         ensures armed { OnPending result (IsArmed cx.new) }
         ensures heard { OnPending result ((s : ℕ) → L.source self.new.latch s → Hears cx.new s) }
+        ensures quiet { Quiet (Stirs S.Service L.Latch X.Executor L.stirs (view_of self.old)
+            (view_of self.new)) cx.old cx.new }
         ensures kept { Keeps cx.old cx.new }
     {
         let polled = self.poll_service(cx);
@@ -188,6 +194,8 @@ where
         ensures here { IfSome result (λ _. IsSome self.new.service) }
         ensures away { IfNone result (self.new.service ≡ None) }
         ensures sound { Sound S.sound X.Executor (view_of self.new) }
+        ensures latch { self.new.latch ≡ self.old.latch }
+        ensures quiet { Quiet (Ever S.stirs) cx.old cx.new }
         ensures kept { Keeps cx.old cx.new }
     {
         let service = self.service.as_mut()?;
@@ -210,6 +218,9 @@ where
             (view_of self.new) cx.new.is_woken }
         ensures armed { OnPending result (IsArmed cx.new) }
         ensures heard { OnPending result ((s : ℕ) → L.source self.new.latch s → Hears cx.new s) }
+        ensures quiet { (start : _) → Begins S.Service start polled (view_of self.old)
+            → Quiet (Stirs S.Service L.Latch X.Executor L.stirs start (view_of self.new))
+            cx.old cx.new }
         ensures kept { Keeps cx.old cx.new }
     {
         if let Some(answer) = self.end_iteration(polled, cx) {
@@ -232,6 +243,9 @@ where
         ensures armed { IfSome result (λ answer. OnPending answer (IsArmed cx.new)) }
         ensures heard { IfSome result
             (λ answer. OnPending answer ((s : ℕ) → L.source self.new.latch s → Hears cx.new s)) }
+        ensures latch { self.new.latch ≡ self.old.latch }
+        ensures quiet { Quiet (IterationStirs S.Service L.Latch X.Executor L.stirs self.new.latch)
+            cx.old cx.new }
         ensures kept { Keeps cx.old cx.new }
     {
         let polled = self.poll_service(cx);
@@ -249,6 +263,9 @@ where
         ensures armed { IfSome result (λ answer. OnPending answer (IsArmed cx.new)) }
         ensures heard { IfSome result
             (λ answer. OnPending answer ((s : ℕ) → L.source self.new.latch s → Hears cx.new s)) }
+        ensures latch { self.new.latch ≡ self.old.latch }
+        ensures quiet { Quiet (IterationStirs S.Service L.Latch X.Executor L.stirs self.new.latch)
+            cx.old cx.new }
         ensures kept { Keeps cx.old cx.new }
     {
         match polled {
@@ -269,6 +286,9 @@ where
         ensures armed { IfSome result (λ answer. OnPending answer (IsArmed cx.new)) }
         ensures heard { IfSome result
             (λ answer. OnPending answer ((s : ℕ) → L.source self.new.latch s → Hears cx.new s)) }
+        ensures latch { self.new.latch ≡ self.old.latch }
+        ensures quiet { Quiet (IterationStirs S.Service L.Latch X.Executor L.stirs self.new.latch)
+            cx.old cx.new }
         ensures kept { Keeps cx.old cx.new }
     {
         let (reply, token) = self.latch.wait(SlotStep::Look, cx);
@@ -293,6 +313,7 @@ where
         ensures hands { IfSome self.old.service (λ service. HandsOver S.Service L.Latch X.Executor
             (view_of self.old) service result (view_of self.new)) }
         ensures sound { Sound S.sound X.Executor (view_of self.new) }
+        ensures latch { self.new.latch ≡ self.old.latch }
         ensures ready { IfSome result (λ answer. OnPending answer ⊥) }
     {
         let Ok(share) = self.latch.share() else {
@@ -307,7 +328,8 @@ where
 
     // Starts the slot, unless it runs already.
     fn start(&mut self)
-        ensures { Starts S.Service L.Latch X.Executor (view_of self.old) (view_of self.new) }
+        ensures starts { Starts S.Service L.Latch X.Executor (view_of self.old) (view_of self.new) }
+        ensures latch { self.new.latch ≡ self.old.latch }
     {
         if !self.is_running {
             self.latch.step(SlotStep::Start);
@@ -324,6 +346,7 @@ where
         ensures hands { HandsTo S.Service L.Latch X.Executor (view_of self.old)
             share service result (view_of self.new) }
         ensures sound { Sound S.sound X.Executor (view_of self.new) }
+        ensures latch { self.new.latch ≡ self.old.latch }
         ensures ready { IfSome result (λ answer. OnPending answer ⊥) }
     {
         match self.executor.spawn(ReadyTask::new(service, share)) {

@@ -3,7 +3,8 @@ ghost use Rattle.std.specs.Prelude.{◌≡◌, ℕ, IfSome, IsSome, None, Some, 
 ghost use Rattle.futures.specs.Poll.{OnPending};
 ghost use Rattle.futures.specs.Task.{Hears, IsArmed, Keeps};
 ghost use Rattle.tower_base.specs.Gives.{IsStep, MayGive};
-ghost use Rattle.tower_pool.specs.SpawnReady.{CanPoll, Drives, IsWaitedFor, StepMade, TaskNeeds, TaskStepped, held_of, tells};
+ghost use Rattle.tower_base.specs.Quiet.{Quiet};
+ghost use Rattle.tower_pool.specs.SpawnReady.{CanPoll, CheckStirs, Drives, IsWaitedFor, ServiceStirs, StepMade, TaskNeeds, TaskStepped, TaskStirs, held_of, tells};
 ghost use Rattle.tower_pool.specs.declared.spawn_ready.slot_core.SlotStep.{SlotStep as Step};
 
 use crate::spawn_ready::slot_core::{SlotCore, SlotReply, SlotStep};
@@ -71,6 +72,7 @@ where
             × (result ≡ tells reply) }
         ensures armed { result ≡ false → IsArmed cx.new }
         ensures heard { result ≡ false → (s : ℕ) → L.source latch.now s → Hears cx.new s }
+        ensures quiet { Quiet (CheckStirs L.Latch L.stirs latch.now) cx.old cx.new }
         ensures kept { Keeps cx.old cx.new }
     {
         let (reply, token) = latch.wait(SlotStep::Aborted, cx);
@@ -97,6 +99,8 @@ where
         ensures armed { OnPending result (IsArmed cx.new) }
         ensures heard { OnPending result
             ((s : ℕ) → TaskNeeds S.needs L.source (held_of self.new) s → Hears cx.new s) }
+        ensures quiet { Quiet (ServiceStirs L.Latch S.stirs service (held_of self.new))
+            cx.old cx.new }
         ensures kept { Keeps cx.old cx.new }
     {
         match service.poll_ready(cx) {
@@ -182,6 +186,8 @@ where
 
     ghost stepped = { λ old answer new. TaskStepped L.Latch S.Service (held_of old)
         answer (held_of new) };
+
+    ghost stirs = { λ old new. TaskStirs L.Latch S.stirs L.stirs (held_of old) (held_of new) };
 
     fn step(&mut self, cx: &mut Context<'_>) -> Poll<()> {
         let Some(Held { service, latch }) = self.held.take() else {
