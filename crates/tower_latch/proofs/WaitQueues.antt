@@ -7,11 +7,25 @@ use Rattle.tower_base.specs.Links.{LinksView}
 use Rattle.tower_base.specs.Order.{has, without, first_or, Apart}
 use Rattle.tower_latch.specs.WaitList.{WaitList, Admits, Enters, Leaves, Looks, empty}
 use Rattle.tower_latch.specs.WaitQueue.{Follows, StandsAs, StandsFor, granted, size, ungranted}
+use Rattle.tower_latch.specs.Wakes.{FreesOne}
+use Rattle.tower_latch.specs.declared.Wakes.{Wakes}
+use Rattle.tower_latch.specs.declared.Wakes.TheVariants.{Wait, Nobody, One, Unstalled, All}
 use Rattle.tower_latch.specs.Waiters.{IsPresent, Waits, are_apart, outside}
 use Rattle.tower_latch.specs.declared.wait_queue.WaitState.TheVariants.{Granted, Waiting, Unknown}
 use Rattle.tower_latch.specs.declared.wait_queue.WaitQueue.{WaitQueue}
 use Rattle.tower_latch.proofs.KeysLemmas.{append_assoc, apart_front, apart_is, at_has, behind, has_append, in_front, is_apart, length_without, or_right, without_append, without_at, without_lacks}
 use Rattle.tower_latch.proofs.Waiters.{admitted, granted_has, grown, pushed, removed, outside_waits, waits_apart, waits_count, waits_present}
+
+abbrev pub IsIn : List ℕ → ℕ → Type 0
+IsIn order key = has order key ≡ true
+
+-- who is freed of those in the order was in any order that has them all
+pub frees_as : (old mid new : List ℕ) (wakes : Wakes) → ((key : ℕ) → IsIn mid key → IsIn old key) → FreesOne IsIn mid new wakes → FreesOne IsIn old new wakes
+frees_as old mid new (Wait key) had frees = absurd frees
+frees_as old mid new Nobody had frees = tt
+frees_as old mid new (One key) had frees = (had key frees.0, frees.1)
+frees_as old mid new Unstalled had frees = absurd frees
+frees_as old mid new All had frees = absurd frees
 
 -- so many were granted, and wait with those in the order
 pub record Kept (count : ℕ) (waiters : LinksView (Unit {0})) : Type 0 where

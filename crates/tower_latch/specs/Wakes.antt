@@ -36,3 +36,9 @@ module _ {C : Type 0} (stalls : C → ℕ → Type 0) where
   -- Nobody else is named: whoever is named stalled in the old core, and stalls no longer.
   abbrev pub NamesOnly : C → C → Wakes → Type 0
   NamesOnly old new wakes = (key : ℕ) → IsNamed wakes key → stalls old key × ¬ (stalls new key)
+
+  -- At most one is named. It stalled in the old core, and no longer does in the new one.
+  abbrev pub FreesOne : C → C → Wakes → Type 0
+  FreesOne old new (One key) = stalls old key × ¬ (stalls new key)
+  FreesOne old new Nobody = ⊤
+  FreesOne old new _ = ⊥

@@ -1,7 +1,7 @@
 //! Cores, which are shared state as a machine without locks, and the lock around a core.
 #![tactic(auto)]
 
-ghost use Rattle.std.specs.Prelude.{◌≡◌, ◌⊎◌, ◌≤◌, ◌+◌, ℕ, Bool, true, ⊤, IfOk, Result};
+ghost use Rattle.std.specs.Prelude.{◌≡◌, ◌≢◌, ◌⊎◌, ◌≤◌, ◌+◌, ℕ, Bool, true, ⊤, IfOk, Result};
 ghost use Rattle.std.specs.declared.alloc.AllocError.{AllocError};
 ghost use Rattle.tower_latch.specs.Latch.{Came};
 ghost use Rattle.tower_latch.specs.Wakes.{IsNamed, NamesAll};
@@ -46,6 +46,9 @@ impl Wakes {
         ensures one { (key : ℕ) → result ≡ Wakes.One key → ((self ≡ Wakes.One key)
             × (other ≡ Wakes.Nobody)) ⊎ ((other ≡ Wakes.One key) × (self ≡ Wakes.Nobody)) }
         ensures all { (self ≡ Wakes.All) ⊎ (other ≡ Wakes.All) → result ≡ Wakes.All }
+        ensures only_all { result ≡ Wakes.All → (self ≡ Wakes.All) ⊎ (other ≡ Wakes.All) }
+        ensures several { result ≡ Wakes.Unstalled → (self ≡ Wakes.Unstalled)
+            ⊎ (other ≡ Wakes.Unstalled) ⊎ ((self ≢ Wakes.Nobody) × (other ≢ Wakes.Nobody)) }
     {
         match (self, other) {
             (Wakes::Nobody, named) | (named, Wakes::Nobody) => named,

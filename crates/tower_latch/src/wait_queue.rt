@@ -37,7 +37,7 @@ pub struct WaitQueue {
 impl WaitQueue {
     ghost use Rattle.tower_latch.specs.WaitList.{Admits, Enters, Leaves, Looks, empty};
     ghost use Rattle.tower_latch.specs.WaitQueue.{Follows, StandsFor, granted, room, size, stalls, touches, ungranted};
-    ghost use Rattle.tower_latch.specs.Wakes.{NamesAll, NamesOnly, OneGoesOn, StallsOn};
+    ghost use Rattle.tower_latch.specs.Wakes.{FreesOne, NamesAll, NamesOnly, OneGoesOn, StallsOn};
 
     /// Creates an empty queue. It allocates nothing until the first `wait`.
     pub fn new(alloc: Global) -> WaitQueue
@@ -120,6 +120,7 @@ impl WaitQueue {
         ensures names { NamesAll stalls self.old self.new result.1 }
         ensures one { OneGoesOn stalls self.new result.1 }
         ensures only { NamesOnly stalls self.old self.new result.1 }
+        ensures most { FreesOne stalls self.old self.new result.1 }
         ensures room { room self.new ≡ room self.old }
         ensures touches { touches self.new ≤ touches self.old + 5 }
     {
@@ -141,6 +142,7 @@ impl WaitQueue {
         ensures names { NamesAll stalls self.old self.new result }
         ensures one { OneGoesOn stalls self.new result }
         ensures only { NamesOnly stalls self.old self.new result }
+        ensures most { FreesOne stalls self.old self.new result }
         ensures fewer { StallsOn stalls self.new self.old }
         ensures room { room self.new ≡ room self.old }
         ensures touches { touches self.new ≤ 2 + touches self.old }

@@ -1,7 +1,7 @@
 use Rattle.std.proofs.Common.{◌≡◌, ◌+◌, Some, true, refl, ap, ◌∙◌, arith, length, slice_get}
 use Rattle.slab.specs.Slab.{slab_len}
 use Rattle.tower_base.specs.Order.{has}
-use Rattle.tower_latch.proofs.KeysLemmas.{has_at, one_gone, only_gone, still_in, was_in}
+use Rattle.tower_latch.proofs.KeysLemmas.{has_at, one_gone, only_gone, still_in, was_in, has_first}
 use Rattle.tower_latch.proofs.Waiters.{admitted}
 use Rattle.tower_latch.proofs.WaitQueues.{Kept, admits_first, first_is, kept_admitted, kept_apart, kept_count, kept_of, kept_present}
 use Rattle.tower_latch.proofs.wait_queue.WaitQueue.admit.Goals as goal
@@ -44,3 +44,10 @@ returns-clause-only c =
     let at : slice_get old.waiters.order 0 ≡ Some c.in-Some.first = ap (λ l. slice_get l 0) first.1 in
     let h : has old.waiters.order c.in-Some.first ≡ true = has_at old.waiters.order 0 c.in-Some.first at in
     only_gone old.waiters.order c.unlink.new.self.order c.in-Some.first c.unlink.ensures.order h
+
+pub returns-clause-most : goal.returns-clause-most
+returns-clause-most c =
+    let old = c.args.self.now in
+    let first = first_is old.waiters.order c.in-Some.first c.in-Some.ensures in
+    let had : has old.waiters.order c.in-Some.first ≡ true = ap (λ l. has l c.in-Some.first) first.1 ∙ has_first c.in-Some.first first.0 in
+    (had, one_gone old.waiters.order c.unlink.new.self.order c.in-Some.first c.unlink.ensures.order c.in-Some.first refl)

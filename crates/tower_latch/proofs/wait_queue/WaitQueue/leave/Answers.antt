@@ -1,8 +1,8 @@
 use Rattle.std.proofs.Common.{◌≡◌, ◌≤◌, ◌-◌, true, false, None, is_some, ◌∙◌, inl, inr, refl, sym, ap, arith, length}
 use Rattle.slab.specs.Slab.{get, slab_len}
 use Rattle.tower_base.specs.Order.{has}
-use Rattle.tower_latch.proofs.KeysLemmas.{apart_is, length_without, one_gone, only_gone, still_in, without_lacks}
-use Rattle.tower_latch.proofs.WaitQueues.{Kept, absent_lacks, count_some, granted_goes, kept_apart, kept_count, kept_gone, kept_left, kept_of, kept_present, kept_taken, lacks_key, linked_leaves, longer, no_shorter, stays_without}
+use Rattle.tower_latch.proofs.KeysLemmas.{apart_is, length_without, one_gone, only_gone, still_in, without_lacks, was_in}
+use Rattle.tower_latch.proofs.WaitQueues.{Kept, absent_lacks, count_some, granted_goes, kept_apart, kept_count, kept_gone, kept_left, kept_of, kept_present, kept_taken, lacks_key, linked_leaves, longer, no_shorter, stays_without, frees_as}
 use Rattle.tower_latch.proofs.wait_queue.WaitQueue.leave.Goals as goal
 
 pub invariant_of-self : goal.invariant_of-self
@@ -117,3 +117,15 @@ returns-clause-only c =
     let old = c.args.self.now in
     let h : has old.waiters.order c.args.key ≡ true = longer old.waiters.order c.args.key (λ same. c.if-len-waiting.false (omega (arith, same, c.len.ensures, c.len-waiting.ensures, ap length c.remove.ensures.order))) in
     only_gone old.waiters.order c.remove.new.self.order c.args.key c.remove.ensures.order h
+
+pub returns-then-len-waiting-clause-most : goal.returns-then-len-waiting-clause-most
+returns-then-len-waiting-clause-most c =
+    frees_as c.args.self.now.waiters.order c.remove.new.self.order c.admit.new.self.waiters.order c.admit.result
+    (λ at h. was_in c.args.self.now.waiters.order c.remove.new.self.order c.args.key at c.remove.ensures.order h) c.admit.ensures.most
+
+pub returns-clause-most : goal.returns-clause-most
+returns-clause-most c =
+    let old = c.args.self.now in
+    let mid = c.remove.new.self in
+    let h : has old.waiters.order c.args.key ≡ true = longer old.waiters.order c.args.key (λ same. c.if-len-waiting.false (omega (arith, same, c.len.ensures, c.len-waiting.ensures, ap length c.remove.ensures.order))) in
+    (h, one_gone old.waiters.order mid.order c.args.key c.remove.ensures.order c.args.key refl)
