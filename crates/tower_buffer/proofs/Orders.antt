@@ -78,7 +78,7 @@ module _ {L S Q A E F : Type 0} (gave : L → MailStep Q F E → MailReply Q F E
   passed latch service failed None answer new p = taken latch service failed answer new p.0 p.1 p.2
   passed latch service failed (Some message) answer new p = lived latch service failed message.0 message.1 answer new p.0 p.1 p.2
 
-  iteration_orderly : (old : WorkerView L S Q) (answer : Option (Poll (Unit {0}))) (new : WorkerView L S Q)
+  pub iteration_orderly : (old : WorkerView L S Q) (answer : Option (Poll (Unit {0}))) (new : WorkerView L S Q)
       → Iteration gave s old answer new → OrderlyIteration gave old answer new
   iteration_orderly old answer new p =
       let r = passed old.latch old.service old.has_failed old.message answer new p in

@@ -64,6 +64,13 @@ module _ {L Q F E : Type 0} (gave : L → MailStep Q F E → MailReply Q F E →
   abbrev pub Polled : BufferView L → Poll (Result (Unit {0}) (Error E)) → BufferView L → Type 0
   Polled old answer new = PolledAt old.reservation old answer new
 
+  -- Why a poll of readiness may ask for another: if it asks for a place, the latch's causes, and mail that doesn't know the key. (A `MailCore` knows
+  -- the key that it told to wait.)
+  abbrev pub StirsAt : Reservation → (L → Type 0) → L → Type 0
+  StirsAt Reserved latch at = ⊥
+  StirsAt Away latch at = latch at ⊎ gave at Reserve Unknown
+  StirsAt (Asking key) latch at = latch at ⊎ gave at (Look key) Unknown
+
   -- what a call returns after the reply: a message that was sent takes the share along
   abbrev pub Sends : BufferView L → L → MailReply Q F E → ResponseState L F (Error E) → BufferView L → Type 0
   Sends old share (Sent id) future new = (future ≡ IsSent share id) × (new ≡ record { latch = old.latch; reservation = Away; share = None })
@@ -109,6 +116,14 @@ module _ {L Q F E A : Type 0} (gave : L → MailStep Q F E → MailReply Q F E �
   Stepped (Told None) answer new = ⊥
   Stepped (IsSent latch id) answer new = (reply : MailReply Q F E) × gave latch (Outcome id) reply × Tells latch id reply answer new
   Stepped (Polls future) answer new = (left : F) × Carries stepped future answer left × (new ≡ Polls left)
+
+  -- Why a poll of the response may ask for another: until its outcome is there, the latch's causes, and mail that doesn't know its message (a
+  -- `MailCore` knows it); and then the inner future's, that came in this poll or before.
+  abbrev pub Stirs : (L → Type 0) → (F → F → Type 0) → ResponseState L F (Error E) → ResponseState L F (Error E) → Type 0
+  Stirs latch inner (Told error) new = ⊥
+  Stirs latch inner (IsSent at id) new = latch at ⊎ gave at (Outcome id) Unknown
+      ⊎ ((future : F) × (left : F) × gave at (Outcome id) (Future future) × (new ≡ Polls left) × inner future left)
+  Stirs latch inner (Polls future) new = (left : F) × (new ≡ Polls left) × inner future left
 
 -- whether a response may be polled: it has an error to return, or waits for its outcome, or its inner future may be polled
 abbrev pub CanPoll : {L F E : Type 0} → (F → Type 0) → ResponseState L F (Error E) → Type 0

@@ -1,10 +1,11 @@
 -- The machine of a buffer's `Worker`. Its steps at the mail: `Take` takes the oldest message; `Live` reports whether somebody still waits for a
 -- message that was taken; and `Answer`, `Fail` and `FailStored` give a message its outcome. `gave latch
 -- step reply` says that mail with the latch's bound had this reply to this step in some run.
-use Rattle.std.specs.Prelude.{◌≡◌, ℕ, Bool, true, false, Option, None, Some, Result, Ok, Err}
+use Rattle.std.specs.Prelude.{◌≡◌, ◌⊎◌, ℕ, Bool, true, false, Option, None, Some, Result, Ok, Err}
 use Rattle.futures.specs.declared.task.Poll.{Poll}
 use Rattle.futures.specs.declared.task.Poll.TheVariants.{Ready, Pending}
-use Rattle.tower_base.specs.Iterations.{Iterations}
+use Rattle.tower_base.specs.Iterations.{Iterates, Iterations, limit}
+use Rattle.tower_base.specs.Quiet.{Ever}
 use Rattle.tower_base.specs.declared.service.Service.{Ghosts as ServiceOf}
 use Rattle.tower_buffer.specs.declared.buffer.mail.MailStep.{MailStep}
 use Rattle.tower_buffer.specs.declared.buffer.mail.MailStep.TheVariants.{Take, Live, Answer, Fail, FailStored}
@@ -80,3 +81,7 @@ module _ {L S Q A E F : Type 0} (gave : L → MailStep Q F E → MailReply Q F E
   -- a poll of the worker: iterations until one returns a result, or 64 without one, and then it is pending
   abbrev pub Stepped : WorkerView L S Q → Poll (Unit {0}) → WorkerView L S Q → Type 0
   Stepped old answer new = Iterations Iteration Pending old answer new
+
+  -- Why a poll of the worker may ask for another: the latch's causes, those of some poll of the service, and 64 iterations in a row without an answer.
+  abbrev pub Stirs : (L → Type 0) → (S → S → Type 0) → WorkerView L S Q → WorkerView L S Q → Type 0
+  Stirs latch service old new = latch old.latch ⊎ Ever service ⊎ Iterates Iteration limit old new

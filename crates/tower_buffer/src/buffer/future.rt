@@ -3,7 +3,8 @@ ghost use Rattle.std.specs.Prelude.{◌≡◌, Some};
 ghost use Rattle.futures.specs.Poll.{OnPending};
 ghost use Rattle.futures.specs.Task.{Covers, Keeps};
 ghost use Rattle.tower_base.specs.Gives.{IsStep, MayGive};
-ghost use Rattle.tower_buffer.specs.Buffer.{CanPoll, Carries, Forgets, Needs, Stepped};
+ghost use Rattle.tower_base.specs.Quiet.{Quiet};
+ghost use Rattle.tower_buffer.specs.Buffer.{CanPoll, Carries, Forgets, Needs, Stepped, Stirs};
 ghost use Rattle.tower_buffer.specs.declared.buffer.reservation.ResponseState.{ResponseState};
 ghost use Rattle.tower_buffer.specs.declared.buffer.reservation.ResponseState.TheVariants.{Told, Sent as IsSent};
 ghost use Rattle.tower_buffer.specs.declared.buffer.error.Error.{Error as BufferError};
@@ -111,6 +112,8 @@ where
 
     ghost stepped = { Stepped L.gave F.stepped };
 
+    ghost stirs = { Stirs L.gave F.stepped L.stirs F.stirs };
+
     fn step(&mut self, cx: &mut Context<'_>) -> Poll<Self::Output> {
         let (latch, id) = match &mut self.state {
             ResponseState::Told(error) => return Poll::Ready(Err(error.take().unwrap())),
@@ -149,6 +152,7 @@ where
     ensures step { Carries F.stepped future.old result future.new }
     ensures again { OnPending result (F.can_poll future.new) }
     ensures registered { OnPending result (Covers cx.new (F.needs future.new)) }
+    ensures quiet { Quiet (F.stirs future.old future.new) cx.old cx.new }
     ensures kept { Keeps cx.old cx.new }
 {
     match future.step(cx) {

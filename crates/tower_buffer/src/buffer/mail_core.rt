@@ -2,6 +2,7 @@
 ghost use Rattle.std.specs.Prelude.{◌≡◌, ◌≢◌, ◌<◌, ◌^◌, ◌-◌, ℕ, true};
 ghost use Rattle.tower_latch.specs.Wakes.{IsNamed};
 ghost use Rattle.futures.specs.Task.{Hears, IsArmed, Keeps};
+ghost use Rattle.tower_base.specs.Quiet.{Quiet};
 ghost use Rattle.tower_buffer.specs.Mail.{is_waiting};
 ghost use Rattle.tower_buffer.specs.MailKeys.{response_key};
 
@@ -34,6 +35,7 @@ pub fn waited<C: Core, L: Latch<C>>(latch: &L, step: C::Step, cx: &mut Context<'
     ensures gave { L.gave latch.now step result }
     ensures armed { C.is_wait result ≡ true → IsArmed cx.new }
     ensures heard { C.is_wait result ≡ true → (s : ℕ) → L.source latch.now s → Hears cx.new s }
+    ensures quiet { Quiet (L.stirs latch.now) cx.old cx.new }
     ensures kept { Keeps cx.old cx.new }
 {
     let (reply, token) = latch.wait(step, cx);

@@ -1,6 +1,6 @@
 //! A share of a bounded queue before a service.
 ghost use Rattle.std.specs.Prelude.{◌≡◌, Some, None, IfErr, IsSome, MatchResult};
-ghost use Rattle.tower_buffer.specs.Buffer.{BufferView, Called, CloneRefused, GivesUp, IsClone, Polled};
+ghost use Rattle.tower_buffer.specs.Buffer.{BufferView, Called, CloneRefused, GivesUp, IsClone, Polled, StirsAt};
 ghost use Rattle.tower_buffer.specs.BufferReady.{ready_after};
 ghost use Rattle.tower_buffer.specs.declared.buffer.reservation.Reservation.TheVariants.{Away, Reserved};
 
@@ -84,6 +84,8 @@ where
     ghost polled = { Polled L.gave L.shares };
 
     ghost needs = { λ b. L.source b.latch };
+
+    ghost stirs = { λ old new. StirsAt L.gave L.shares old.reservation L.stirs new.latch };
 
     ghost called = { Called L.gave L.shares };
 

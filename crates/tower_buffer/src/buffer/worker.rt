@@ -1,12 +1,13 @@
 //! The worker of a `Buffer`.
-ghost use Rattle.std.specs.Prelude.{◌≡◌, ℕ, Some, None, false};
+ghost use Rattle.std.specs.Prelude.{◌≡◌, ◌⊎◌, ℕ, Some, None, false};
 ghost use Rattle.futures.specs.Poll.{OnPending};
 ghost use Rattle.futures.specs.Task.{Covers, Hears, IsArmed, Keeps};
 ghost use Rattle.futures.specs.declared.task.Poll.TheVariants.{Pending};
 ghost use Rattle.tower_base.specs.Gives.{IsStep, MayGive};
+ghost use Rattle.tower_base.specs.Quiet.{Ever, Quiet};
 ghost use Rattle.tower_base.specs.LastIteration.{AnsweredOrWoken};
 ghost use Rattle.tower_buffer.specs.WorkerOrder.{Orderly};
-ghost use Rattle.tower_buffer.specs.Worker.{HandsOn, Needs, Iteration, Serves, Stepped, WorkerView};
+ghost use Rattle.tower_buffer.specs.Worker.{HandsOn, Needs, Iteration, Serves, Stepped, Stirs, WorkerView};
 
 use crate::buffer::mail::{MailReply, MailStep};
 use crate::buffer::mail_core::{Mail, waited};
@@ -98,6 +99,7 @@ where
         ensures armed { result ≡ Some Pending → IsArmed cx.new }
         ensures heard { result ≡ Some Pending → (s : ℕ) → Needs L.source S.needs self.new s
             → Hears cx.new s }
+        ensures quiet { Quiet (L.stirs self.old.latch ⊎ Ever S.stirs) cx.old cx.new }
         ensures kept { Keeps cx.old cx.new }
     {
         let Some((id, request)) = self.message.take() else {
@@ -119,6 +121,7 @@ where
         ensures armed { result ≡ Some Pending → IsArmed cx.new }
         ensures heard { result ≡ Some Pending → (s : ℕ) → Needs L.source S.needs self.new s
             → Hears cx.new s }
+        ensures quiet { Quiet (L.stirs self.old.latch ⊎ Ever S.stirs) cx.old cx.new }
         ensures kept { Keeps cx.old cx.new }
     {
         match waited(&self.latch, MailStep::Take, cx) {
@@ -145,6 +148,7 @@ where
         ensures armed { result ≡ Some Pending → IsArmed cx.new }
         ensures heard { result ≡ Some Pending → (s : ℕ) → Needs L.source S.needs self.new s
             → Hears cx.new s }
+        ensures quiet { Quiet (L.stirs self.old.latch ⊎ Ever S.stirs) cx.old cx.new }
         ensures kept { Keeps cx.old cx.new }
     {
         match self.service.poll_ready(cx) {
@@ -185,6 +189,7 @@ where
         ensures armed { OnPending result (IsArmed cx.new) }
         ensures heard { OnPending result
             ((s : ℕ) → Needs L.source S.needs self.new s → Hears cx.new s) }
+        ensures quiet { Quiet (Stirs L.gave S.Service L.stirs S.stirs self.old self.new) cx.old cx.new }
         ensures kept { Keeps cx.old cx.new }
     {
         for _iteration in 0..TURNS {
@@ -241,6 +246,8 @@ where
 
     ghost stepped = { Stepped L.gave S.Service };
 
+    ghost stirs = { Stirs L.gave S.Service L.stirs S.stirs };
+
     fn step(&mut self, cx: &mut Context<'_>) -> Poll<()>
         requires { S.sound self.old.service }
         ensures step { Stepped L.gave S.Service self.old result self.new }
@@ -248,6 +255,7 @@ where
             self.old result self.new cx.new.is_woken }
         ensures again { OnPending result (S.sound self.new.service) }
         ensures registered { OnPending result (Covers cx.new (Needs L.source S.needs self.new)) }
+        ensures quiet { Quiet (Stirs L.gave S.Service L.stirs S.stirs self.old self.new) cx.old cx.new }
         ensures kept { Keeps cx.old cx.new }
     {
         self.iterate(cx)
