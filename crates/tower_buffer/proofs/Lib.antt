@@ -15,3 +15,4 @@ mod MailAsks
 mod MailFreed
 mod MailStalls
 mod MailOnes
+mod MailFew

@@ -1,18 +1,18 @@
 -- Who waits in mail, and for what.
-use Rattle.std.specs.Prelude.{◌≡◌, ◌≢◌, ◌⊎◌, ◌^◌, ◌-◌, ◌&&◌, ◌||◌, ℕ, Bool, true, false, nat_eq, List, Option, Some}
+use Rattle.std.specs.Prelude.{◌≡◌, ◌≢◌, ◌⊎◌, ◌≤◌, ◌+◌, ◌^◌, ◌-◌, ◌&&◌, ◌||◌, ℕ, Bool, true, false, nat_eq, List, Option, Some}
 use Rattle.slab.specs.Slab.{get}
 use Rattle.tower_base.specs.Order.{has}
 use Rattle.tower_latch.specs.WaitQueue.{stalls as queue_stalls}
 use Rattle.tower_latch.specs.Wakes.{IsNamed}
 use Rattle.tower_latch.specs.declared.wait_queue.WaitQueue.{WaitQueue}
 use Rattle.tower_latch.specs.declared.Wakes.{Wakes}
-use Rattle.tower_latch.specs.declared.Wakes.TheVariants.{Wait, One}
+use Rattle.tower_latch.specs.declared.Wakes.TheVariants.{Wait, One, Unstalled, All}
 use Rattle.tower_buffer.specs.Mail.{At, Entry, SentMessage}
-use Rattle.tower_buffer.specs.MailKeys.{response_key, ticket_key}
+use Rattle.tower_buffer.specs.MailKeys.{response_key, shared_from, ticket_key}
 use Rattle.tower_buffer.specs.MessageSteps.{queued}
 use Rattle.tower_buffer.specs.declared.buffer.mailbox.Mailbox.{Mailbox}
 use Rattle.tower_buffer.specs.declared.buffer.mail.MailStep.{MailStep}
-use Rattle.tower_buffer.specs.declared.buffer.mail.MailStep.TheVariants.{Answer, Fail, FailStored, Forget, WorkerGone}
+use Rattle.tower_buffer.specs.declared.buffer.mail.MailStep.TheVariants.{Answer, Cancel, Fail, FailStored, Forget, Send, Take, Unreserve, WorkerGone}
 use Rattle.tower_buffer.specs.declared.buffer.mail.MailReply.{MailReply}
 use Rattle.tower_buffer.specs.declared.buffer.mail.MailReply.TheVariants.{Done}
 use Rattle.tower_buffer.specs.declared.buffer.message.Message.{Message}
@@ -84,3 +84,31 @@ module _ {Q F E : Type 0} where
   Decides (Fail other e) Done id = other ≡ id
   Decides WorkerGone Done id = Unit {0}
   Decides _ _ id = ⊥
+
+-- A ticket waits whose key others share.
+abbrev pub SharesKey : WaitQueue → Type 0
+SharesKey queue = (key : ℕ) × (shared_from ≤ key) × queue_stalls queue key
+
+-- At most one ticket is named: by its key, or, only if a ticket waits whose key others share, as all who no longer stall.
+abbrev pub NamesOneTicket : WaitQueue → Wakes → Type 0
+NamesOneTicket queue wakes = (wakes ≡ All → ⊥) × (wakes ≡ Unstalled → SharesKey queue)
+
+module _ {Q F E : Type 0} where
+  -- The step may end several waits, or one at a key that others share. A failure closes the mail. If several messages leave the queue, each may give
+  -- its place to a ticket. A place that is given back may go to a ticket, and the worker goes on if no message will be queued any more; so does a place
+  -- whose message is refused, since the worker is gone.
+  abbrev pub EndsSeveral : Mailbox Q F E → MailStep Q F E → MailReply Q F E → Mailbox Q F E → Type 0
+  EndsSeveral old (Fail id e) reply new = reply ≡ Done
+  EndsSeveral old Take reply new = (queued new.messages + 2 ≤ queued old.messages) ⊎ SharesKey old.queue
+  EndsSeveral old Unreserve reply new = (is_over new ≡ true) ⊎ SharesKey old.queue
+  EndsSeveral old (Send request) reply new = (old.has_worker ≡ false) × ((is_over new ≡ true) ⊎ SharesKey old.queue)
+  EndsSeveral old (Cancel key) reply new = SharesKey old.queue
+  EndsSeveral old (Answer id future) reply new = shared_from ≤ id
+  EndsSeveral old (FailStored id) reply new = shared_from ≤ id
+  EndsSeveral old (Forget id) reply new = shared_from ≤ id
+  EndsSeveral old _ reply new = ⊥
+
+  -- Whom a step names at most: all only if it reports that the worker is gone, and all who no longer stall only if it may end several waits. Any other
+  -- step names at most one key.
+  abbrev pub NamesAtMost : Mailbox Q F E → MailStep Q F E → MailReply Q F E → Mailbox Q F E → Wakes → Type 0
+  NamesAtMost old step reply new wakes = (wakes ≡ All → step ≡ WorkerGone) × (wakes ≡ Unstalled → EndsSeveral old step reply new)

@@ -1,7 +1,10 @@
 //! The keys at which callers wait.
 ghost use Rattle.std.specs.Prelude.{◌≡◌, ◌≢◌, ◌^◌, ◌-◌, ℕ};
-ghost use Rattle.tower_latch.specs.Wakes.{IsNamed};
+ghost use Rattle.tower_latch.specs.WaitQueue.{stalls as queue_stalls};
+ghost use Rattle.tower_latch.specs.Wakes.{FreesOne, IsNamed};
+ghost use Rattle.tower_latch.specs.declared.wait_queue.WaitQueue.{WaitQueue};
 ghost use Rattle.tower_buffer.specs.MailKeys.{response_key, ticket_key};
+ghost use Rattle.tower_buffer.specs.MailWakes.{NamesOneTicket};
 
 use tower_latch::Wakes;
 
@@ -39,6 +42,8 @@ pub(crate) fn one(key: usize) -> Wakes
     ensures named { IsNamed result key }
     ensures waits { (at : ℕ) → result ≡ Wakes.Wait at → ⊥ }
     ensures one { (at : ℕ) → result ≡ Wakes.One at → (key ≢ 2 ^ 64 - 1) × (key ≡ at) }
+    ensures unstalled { result ≡ Wakes.Unstalled → key ≡ 2 ^ 64 - 1 }
+    ensures all { result ≡ Wakes.All → ⊥ }
 {
     if key == SHARED {
         return Wakes::Unstalled;
@@ -52,6 +57,8 @@ pub(crate) fn named(wakes: Wakes) -> Wakes
     ensures waits { (key : ℕ) → result ≡ Wakes.Wait key → ⊥ }
     ensures one { (key : ℕ) → result ≡ Wakes.One key
         → (at : ℕ) × (wakes ≡ Wakes.One at) × (ticket_key at ≢ 2 ^ 64 - 1) × (ticket_key at ≡ key) }
+    ensures most { (old new : WaitQueue) → FreesOne queue_stalls old new wakes
+        → NamesOneTicket old result }
 {
     match wakes {
         Wakes::One(key) => one(ticket(key as u64)),

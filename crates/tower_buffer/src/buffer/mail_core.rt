@@ -1,10 +1,10 @@
 //! The core of a `Buffer` and its worker.
-ghost use Rattle.std.specs.Prelude.{◌≡◌, ◌≢◌, ◌<◌, ◌^◌, ◌-◌, ℕ, true};
+ghost use Rattle.std.specs.Prelude.{◌≡◌, ◌≢◌, ◌<◌, ◌≤◌, ◌^◌, ◌-◌, ℕ, true};
 ghost use Rattle.tower_latch.specs.Wakes.{IsNamed};
 ghost use Rattle.futures.specs.Task.{Hears, IsArmed, Keeps};
 ghost use Rattle.tower_base.specs.Quiet.{Quiet};
 ghost use Rattle.tower_buffer.specs.Mail.{is_waiting};
-ghost use Rattle.tower_buffer.specs.MailKeys.{response_key};
+ghost use Rattle.tower_buffer.specs.MailKeys.{response_key, shared_from};
 
 use crate::buffer::keys::{one, response};
 use crate::buffer::mail::{MailReply, MailStep};
@@ -90,7 +90,7 @@ impl<Request: Drop, F: Drop, E: Clone> Core for MailCore<Request, F, E> {
     ghost use Rattle.std.specs.Prelude.{false};
     ghost use Rattle.tower_latch.specs.Wakes.{NamesAll, OneGoesOn};
     ghost use Rattle.tower_buffer.specs.MailKeys.{Asks, key_of};
-    ghost use Rattle.tower_buffer.specs.MailWakes.{stalls};
+    ghost use Rattle.tower_buffer.specs.MailWakes.{NamesAtMost, stalls};
     ghost use Rattle.tower_buffer.specs.Mailbox.{Few, HasRoom, Opens, StandsFor};
     ghost use Rattle.tower_latch.specs.LatchLemmas.{none_held, no_places};
     ghost use Rattle.tower_buffer.specs.MailTerms.{keeps_bound};
@@ -115,8 +115,8 @@ impl<Request: Drop, F: Drop, E: Clone> Core for MailCore<Request, F, E> {
 
     ghost counts = { no_places _ _ keeps_bound };
 
-    /// Makes a step, and names those who may go on: of several, whoever no longer stalls; all once the worker
-    /// is gone. Open mail replies `Memory` to `Reserve` only if room was missing. `Take` reaches at most six
+    /// Makes a step, and names those who may go on: one key; or whoever no longer stalls, if the step may end
+    /// several waits or several share the key; and all only once the worker is gone. Open mail replies `Memory` to `Reserve` only if room was missing. `Take` reaches at most six
     /// entries, of the messages and of the wait queue, for each message that leaves the queue, and any other
     /// step reaches at most six, whatever is stored. Closing isn't counted: `WorkerGone` reaches every message,
     /// and `Fail` drops the wait queue together with the count of its touches.
@@ -126,6 +126,7 @@ impl<Request: Drop, F: Drop, E: Clone> Core for MailCore<Request, F, E> {
         ensures waits { is_waiting result.0 ≡ true → result.1 ≡ Wakes.Wait (key_of step result.0) }
         ensures names { NamesAll stalls self.old self.new result.1 }
         ensures one { OneGoesOn stalls self.new result.1 }
+        ensures most { NamesAtMost self.old step result.0 self.new result.1 }
         ensures told { (key : ℕ) → Asks step key → stalls self.old key
             → is_waiting result.0 ≡ true }
         ensures excused { step ≡ MailStep.Reserve → result.0 ≡ MailReply.Memory
@@ -187,6 +188,8 @@ fn pending<Request, F, E>(reply: &MailReply<Request, F, E>, id: u64) -> Wakes
     ensures waits { (key : ℕ) → result ≡ Wakes.Wait key
         → (is_waiting reply.now ≡ true) × (response_key id ≡ key) }
     ensures one { (key : ℕ) → result ≡ Wakes.One key → ⊥ }
+    ensures unstalled { result ≡ Wakes.Unstalled → ⊥ }
+    ensures all { result ≡ Wakes.All → ⊥ }
 {
     match reply {
         MailReply::Waiting(_) | MailReply::Empty => Wakes::Wait(response(id)),
@@ -200,6 +203,8 @@ fn decided<Request, F, E>(reply: &MailReply<Request, F, E>, id: u64) -> Wakes
     ensures waits { (key : ℕ) → result ≡ Wakes.Wait key → ⊥ }
     ensures one { (key : ℕ) → result ≡ Wakes.One key
         → (reply.now ≡ MailReply.Done) × (response_key id ≢ 2 ^ 64 - 1) × (response_key id ≡ key) }
+    ensures unstalled { result ≡ Wakes.Unstalled → shared_from ≤ id }
+    ensures all { result ≡ Wakes.All → ⊥ }
 {
     match reply {
         MailReply::Done => one(response(id)),

@@ -1,5 +1,5 @@
 //! Mail: the messages on their way to a worker, and the line for places.
-ghost use Rattle.std.specs.Prelude.{◌≡◌, ◌≢◌, ◌<◌, ◌≤◌, ◌+◌, ◌-◌, ◌^◌, Some, None, true, false};
+ghost use Rattle.std.specs.Prelude.{◌≡◌, ◌≢◌, ◌⊎◌, ◌<◌, ◌≤◌, ◌+◌, ◌-◌, ◌^◌, Some, None, true, false};
 ghost use Rattle.slab.specs.Slab.{get};
 ghost use Rattle.tower_base.specs.Order.{first_or};
 ghost use Rattle.tower_latch.specs.Wakes.{OneGoesOn, StallsOn};
@@ -40,7 +40,7 @@ impl<Request, F, E> Mailbox<Request, F, E> {
     ghost use Rattle.std.specs.Prelude.{false, ℕ, nat_eq, ◌&&◌, ◌||◌};
     ghost use Rattle.tower_buffer.specs.Mail.{is_waiting};
     ghost use Rattle.tower_buffer.specs.MailKeys.{key_of};
-    ghost use Rattle.tower_buffer.specs.MailWakes.{NamesPlaces, Stalls, Waiter, WaitsWell, is_over, stalls};
+    ghost use Rattle.tower_buffer.specs.MailWakes.{NamesAtMost, NamesPlaces, Stalls, Waiter, WaitsWell, is_over, stalls};
     ghost use Rattle.tower_buffer.specs.Mail.{initial};
     ghost use Rattle.tower_buffer.specs.Mailbox.{Follows, StandsFor, touches};
 
@@ -82,6 +82,7 @@ impl<Request, F, E> Mailbox<Request, F, E> {
         ensures names { NamesPlaces self.old self.new result.1 }
         ensures pending { WaitsWell self.new result.1 }
         ensures one { OneGoesOn stalls self.new result.1 }
+        ensures most { NamesAtMost self.old MailStep.Part result.0 self.new result.1 }
         ensures touches { touches self.new ≤ touches self.old + 6 }
     {
         if self.buffers == 0 {
@@ -104,6 +105,8 @@ impl<Request, F, E> Mailbox<Request, F, E> {
         ensures named { is_over self.now ≡ true → result ≡ Wakes.One 0 }
         ensures waits { (key : ℕ) → result ≡ Wakes.Wait key → ⊥ }
         ensures one { (key : ℕ) → result ≡ Wakes.One key → (is_over self.now ≡ true) × (0 ≡ key) }
+        ensures most { (result ≡ Wakes.Nobody)
+            ⊎ ((is_over self.now ≡ true) × (result ≡ Wakes.One 0)) }
     {
         if self.is_over() {
             return Wakes::One(WORKER);
@@ -158,6 +161,7 @@ impl<Request, F, E> Mailbox<Request, F, E> {
         ensures names { NamesPlaces self.old self.new result.1 }
         ensures pending { WaitsWell self.new result.1 }
         ensures one { OneGoesOn stalls self.new result.1 }
+        ensures most { NamesAtMost self.old (MailStep.Cancel key) result.0 self.new result.1 }
         ensures touches { touches self.new ≤ touches self.old + 6 }
     {
         if self.closed {
@@ -176,6 +180,7 @@ impl<Request, F, E> Mailbox<Request, F, E> {
         ensures names { NamesPlaces self.old self.new result.1 }
         ensures pending { WaitsWell self.new result.1 }
         ensures one { OneGoesOn stalls self.new result.1 }
+        ensures most { NamesAtMost self.old MailStep.Unreserve result.0 self.new result.1 }
         ensures touches { touches self.new ≤ touches self.old + 6 }
     {
         if self.reserved == 0 {
@@ -197,6 +202,7 @@ impl<Request, F, E> Mailbox<Request, F, E> {
         ensures names { NamesPlaces self.old self.new result.1 }
         ensures pending { WaitsWell self.new result.1 }
         ensures one { OneGoesOn stalls self.new result.1 }
+        ensures most { NamesAtMost self.old MailStep.Reserve result.0 self.new result.1 }
         ensures waits { is_waiting result.0 ≡ true
             → result.1 ≡ Wakes.Wait (key_of MailStep.Reserve result.0) }
         ensures excused { result.0 ≡ MailReply.Memory → room self.old.queue ≤ size self.old.queue }
@@ -214,7 +220,7 @@ impl<Request: Drop, F, E: Clone> Mailbox<Request, F, E> {
     ghost use Rattle.tower_buffer.specs.Mail.{is_waiting};
     ghost use Rattle.tower_buffer.specs.MailKeys.{key_of};
     ghost use Rattle.tower_buffer.specs.Mailbox.{Follows, HasRoom, touches};
-    ghost use Rattle.tower_buffer.specs.MailWakes.{NamesPlaces, Stalls, Waiter, WaitsWell, stalls};
+    ghost use Rattle.tower_buffer.specs.MailWakes.{NamesAtMost, NamesPlaces, Stalls, Waiter, WaitsWell, stalls};
 
     #[inline(always)]
     pub(crate) fn reserve(&mut self) -> (MailReply<Request, F, E>, Wakes)
@@ -223,6 +229,7 @@ impl<Request: Drop, F, E: Clone> Mailbox<Request, F, E> {
         ensures names { NamesPlaces self.old self.new result.1 }
         ensures pending { WaitsWell self.new result.1 }
         ensures one { OneGoesOn stalls self.new result.1 }
+        ensures most { NamesAtMost self.old MailStep.Reserve result.0 self.new result.1 }
         ensures waits { is_waiting result.0 ≡ true
             → result.1 ≡ Wakes.Wait (key_of MailStep.Reserve result.0) }
         ensures excused { result.0 ≡ MailReply.Memory → self.old.closed ≡ false
@@ -254,6 +261,7 @@ impl<Request: Drop, F, E: Clone> Mailbox<Request, F, E> {
         ensures names { NamesPlaces self.old self.new result.1 }
         ensures pending { WaitsWell self.new result.1 }
         ensures one { OneGoesOn stalls self.new result.1 }
+        ensures most { NamesAtMost self.old (MailStep.Look key) result.0 self.new result.1 }
         ensures waits { is_waiting result.0 ≡ true
             → result.1 ≡ Wakes.Wait (key_of (MailStep.Look key) result.0) }
         ensures told { Stalls self.old (Waiter.ticket key) → is_waiting result.0 ≡ true }
@@ -279,6 +287,7 @@ impl<Request: Drop, F, E: Clone> Mailbox<Request, F, E> {
         ensures names { NamesPlaces self.old self.new result.1 }
         ensures pending { WaitsWell self.new result.1 }
         ensures one { OneGoesOn stalls self.new result.1 }
+        ensures most { NamesAtMost self.old (MailStep.Send request) result.0 self.new result.1 }
         ensures touches { touches self.new ≤ touches self.old + 6 }
     {
         if self.reserved == 0 {
@@ -301,6 +310,7 @@ impl<Request: Drop, F, E: Clone> Mailbox<Request, F, E> {
         ensures names { NamesPlaces self.old self.new result.1 }
         ensures pending { WaitsWell self.new result.1 }
         ensures one { OneGoesOn stalls self.new result.1 }
+        ensures most { NamesAtMost self.old (MailStep.Send request) result.0 self.new result.1 }
         ensures touches { touches self.new ≤ touches self.old + 6 }
     {
         match self.messages.shut() {
@@ -319,13 +329,14 @@ impl<Request: Drop, F: Drop, E: Drop> Mailbox<Request, F, E> {
     ghost use Rattle.tower_buffer.specs.MailKeys.{key_of};
     ghost use Rattle.std.specs.Prelude.{ℕ};
     ghost use Rattle.tower_buffer.specs.Mailbox.{Changes, FewEach, Follows, touches};
-    ghost use Rattle.tower_buffer.specs.MailWakes.{NamesPlaces, NamesTickets, Stalls, TicketGoesOn, Waiter, WaitsWell, is_over, stalls};
+    ghost use Rattle.tower_buffer.specs.MailWakes.{NamesAtMost, NamesOneTicket, NamesPlaces, NamesTickets, Stalls, TicketGoesOn, Waiter, WaitsWell, is_over, stalls};
 
     pub(crate) fn take(&mut self) -> (MailReply<Request, F, E>, Wakes)
         ensures follows { Follows self.old MailStep.Take result.0 self.new }
         ensures names { NamesPlaces self.old self.new result.1 }
         ensures pending { WaitsWell self.new result.1 }
         ensures one { OneGoesOn stalls self.new result.1 }
+        ensures most { NamesAtMost self.old MailStep.Take result.0 self.new result.1 }
         ensures waits { is_waiting result.0 ≡ true
             → result.1 ≡ Wakes.Wait (key_of MailStep.Take result.0) }
         ensures told { Stalls self.old Waiter.worker → is_waiting result.0 ≡ true }
@@ -359,6 +370,7 @@ impl<Request: Drop, F: Drop, E: Drop> Mailbox<Request, F, E> {
         ensures same { (is_over self.new ≡ is_over self.old) × (self.new.closed ≡ self.old.closed) }
         ensures tickets { NamesTickets self.old self.new result }
         ensures one { TicketGoesOn self.new.queue result }
+        ensures most { NamesOneTicket self.old.queue result }
         ensures stalls { StallsOn queue_stalls self.new.queue self.old.queue }
         ensures waits { (key : ℕ) → result ≡ Wakes.Wait key → ⊥ }
         ensures fewer { queued self.new.messages + 1 ≡ queued self.old.messages }
@@ -377,6 +389,7 @@ impl<Request: Drop, F: Drop, E: Drop> Mailbox<Request, F, E> {
             × Changes (λ old new. TakesOldest old id request new) self.old self.new }
         ensures tickets { NamesTickets self.old self.new result.1 }
         ensures one { TicketGoesOn self.new.queue result.1 }
+        ensures most { NamesOneTicket self.old.queue result.1 }
         ensures stalls { StallsOn queue_stalls self.new.queue self.old.queue }
         ensures waits { (key : ℕ) → result.1 ≡ Wakes.Wait key → ⊥ }
         ensures fewer { queued self.new.messages + 1 ≡ queued self.old.messages }
@@ -395,6 +408,7 @@ impl<Request: Drop, F: Drop, E: Drop> Mailbox<Request, F, E> {
         ensures names { NamesPlaces self.old self.new result.1 }
         ensures pending { WaitsWell self.new result.1 }
         ensures one { OneGoesOn stalls self.new result.1 }
+        ensures most { NamesAtMost self.old (MailStep.Fail id error) result.0 self.new result.1 }
         ensures touches { touches self.new ≤ touches self.old + 6 }
     {
         if !self.messages.fail(id, error) {
@@ -411,6 +425,7 @@ impl<Request: Drop, F: Drop, E: Drop> Mailbox<Request, F, E> {
         ensures names { NamesPlaces self.old self.new result.1 }
         ensures pending { WaitsWell self.new result.1 }
         ensures one { OneGoesOn stalls self.new result.1 }
+        ensures most { NamesAtMost self.old MailStep.WorkerGone result.0 self.new result.1 }
     {
         self.messages.abandon();
         self.queue = WaitQueue::new(self.alloc);

@@ -4,6 +4,7 @@ use Rattle.tower_buffer.specs.MailKeys.{Asks}
 use Rattle.tower_buffer.specs.MailWakes.{Waiter}
 use Rattle.tower_buffer.specs.declared.buffer.mail.MailStep.{MailStep}
 use Rattle.tower_buffer.specs.declared.buffer.mail.MailStep.TheVariants.{Answer, Cancel, Fail, FailStored, Forget, Join, Live, Look, Outcome, Part, Reserve, Send, Take, Unreserve, WorkerGone}
+use Rattle.tower_buffer.proofs.MailFew.{few_at}
 use Rattle.tower_buffer.proofs.MailFreed.{decides_as, response_goes}
 use Rattle.tower_buffer.proofs.MailAsks.{told_at, told_look, told_outcome, told_take}
 use Rattle.tower_buffer.proofs.MailResponses.{answer_named, fail_named, failure_named, forget_named, gone_named, names_on, outcome_stalls, step_names}
@@ -249,3 +250,42 @@ returns-in-Forget-clause-one g c =
 
 pub returns-in-Outcome-clause-one : goal.returns-in-Outcome-clause-one
 returns-in-Outcome-clause-one g c = λ key e. absurd (c.pending-wakes.ensures.one key e)
+
+pub returns-in-Part-clause-most : goal.returns-in-Part-clause-most
+returns-in-Part-clause-most g c = few_at c.self.inside.mail c.args.self.now c.part.new.self Part c.args.step c.part.result.0 c.part.result.1 c.self.view_is c.in-Part.is c.part.ensures.most
+
+pub returns-in-Reserve-clause-most : goal.returns-in-Reserve-clause-most
+returns-in-Reserve-clause-most g c = few_at c.self.inside.mail c.args.self.now c.reserve.new.self Reserve c.args.step c.reserve.result.0 c.reserve.result.1 c.self.view_is c.in-Reserve.is c.reserve.ensures.most
+
+pub returns-in-Look-clause-most : goal.returns-in-Look-clause-most
+returns-in-Look-clause-most g c = few_at c.self.inside.mail c.args.self.now c.look.new.self (Look c.in-Look.key) c.args.step c.look.result.0 c.look.result.1 c.self.view_is c.in-Look.is c.look.ensures.most
+
+pub returns-in-Cancel-clause-most : goal.returns-in-Cancel-clause-most
+returns-in-Cancel-clause-most g c = few_at c.self.inside.mail c.args.self.now c.cancel.new.self (Cancel c.in-Cancel.key) c.args.step c.cancel.result.0 c.cancel.result.1 c.self.view_is c.in-Cancel.is c.cancel.ensures.most
+
+pub returns-in-Unreserve-clause-most : goal.returns-in-Unreserve-clause-most
+returns-in-Unreserve-clause-most g c = few_at c.self.inside.mail c.args.self.now c.unreserve.new.self Unreserve c.args.step c.unreserve.result.0 c.unreserve.result.1 c.self.view_is c.in-Unreserve.is c.unreserve.ensures.most
+
+pub returns-in-Send-clause-most : goal.returns-in-Send-clause-most
+returns-in-Send-clause-most g c = few_at c.self.inside.mail c.args.self.now c.send.new.self (Send c.in-Send.request) c.args.step c.send.result.0 c.send.result.1 c.self.view_is c.in-Send.is c.send.ensures.most
+
+pub returns-in-Take-clause-most : goal.returns-in-Take-clause-most
+returns-in-Take-clause-most g c = few_at c.self.inside.mail c.args.self.now c.take.new.self Take c.args.step c.take.result.0 c.take.result.1 c.self.view_is c.in-Take.is c.take.ensures.most
+
+pub returns-in-Fail-clause-most : goal.returns-in-Fail-clause-most
+returns-in-Fail-clause-most g c = few_at c.self.inside.mail c.args.self.now c.fail.new.self (Fail c.in-Fail.id c.in-Fail.error) c.args.step c.fail.result.0 c.fail.result.1 c.self.view_is c.in-Fail.is c.fail.ensures.most
+
+pub returns-in-WorkerGone-clause-most : goal.returns-in-WorkerGone-clause-most
+returns-in-WorkerGone-clause-most g c = few_at c.self.inside.mail c.args.self.now c.worker_gone.new.self WorkerGone c.args.step c.worker_gone.result.0 c.worker_gone.result.1 c.self.view_is c.in-WorkerGone.is c.worker_gone.ensures.most
+
+pub returns-in-Outcome-clause-most : goal.returns-in-Outcome-clause-most
+returns-in-Outcome-clause-most g c = ((λ e. absurd (c.pending-wakes.ensures.all e)), (λ e. absurd (c.pending-wakes.ensures.unstalled e)))
+
+pub returns-in-Answer-clause-most : goal.returns-in-Answer-clause-most
+returns-in-Answer-clause-most g c = rw c.in-Answer.is ((λ e. absurd (c.decided-wakes.ensures.all e)), c.decided-wakes.ensures.unstalled)
+
+pub returns-in-FailStored-clause-most : goal.returns-in-FailStored-clause-most
+returns-in-FailStored-clause-most g c = rw c.in-FailStored.is ((λ e. absurd (c.decided-wakes-in-FailStored.ensures.all e)), c.decided-wakes-in-FailStored.ensures.unstalled)
+
+pub returns-in-Forget-clause-most : goal.returns-in-Forget-clause-most
+returns-in-Forget-clause-most g c = rw c.in-Forget.is ((λ e. absurd (c.decided-wakes-in-Forget.ensures.all e)), c.decided-wakes-in-Forget.ensures.unstalled)

@@ -49,3 +49,9 @@ returns-then-has_left-clause-one g c =
 pub returns-clause-one : goal.returns-clause-one
 returns-clause-one g c =
     ticket_goes _ _ _ _ _ c.named-wakes.result (named_goes c.leave-has_left.new.self c.leave-has_left.result.1 c.named-wakes.result c.named-wakes.ensures.one c.leave-has_left.ensures.one)
+
+pub returns-then-has_left-clause-most : goal.returns-then-has_left-clause-most
+returns-then-has_left-clause-most g c = let t = c.named-wakes.ensures.most c.args.self.now.queue c.leave-has_left.new.self c.leave-has_left.ensures.most in ((λ e. absurd (t.0 e)), t.1)
+
+pub returns-clause-most : goal.returns-clause-most
+returns-clause-most g c = let t = c.named-wakes.ensures.most c.args.self.now.queue c.leave-has_left.new.self c.leave-has_left.ensures.most in ((λ e. absurd (t.0 e)), t.1)

@@ -5,6 +5,7 @@ use Rattle.tower_latch.proofs.WaitQueues.{admits_size}
 use Rattle.tower_buffer.proofs.Replies.{refused}
 use Rattle.tower_buffer.proofs.MailNames.{neither_waits, one_named, tickets_named, worker_at_end}
 use Rattle.tower_buffer.proofs.MailOnes.{either_goes, named_goes, ticket_goes, worker_goes}
+use Rattle.tower_buffer.proofs.MailFew.{few_both}
 use Rattle.tower_buffer.proofs.buffer.mailbox.Mailbox.refuse.Goals as goal
 
 pub returns-in-Memory-clause-follows : goal.returns-in-Memory-clause-follows
@@ -50,3 +51,8 @@ returns-clause-one g c =
     either_goes _ _ _ _ _ c.named-wakes.result c.ended.result c.and.result c.and.ensures.one
     (ticket_goes _ _ _ _ _ c.named-wakes.result (named_goes c.admit.new.self c.admit.result c.named-wakes.result c.named-wakes.ensures.one c.admit.ensures.one))
     (worker_goes _ _ _ _ _ c.ended.result (λ key e. let o = c.ended.ensures.one key e in (inl o.0, o.1)))
+
+pub returns-clause-most : goal.returns-clause-most
+returns-clause-most g c =
+    let t = few_both _ _ c.named-wakes.result c.ended.result c.and.result (c.named-wakes.ensures.most c.args.self.now.queue c.admit.new.self c.admit.ensures.most) c.ended.ensures.most c.and.ensures.only_all c.and.ensures.several in
+    ((λ e. absurd (t.0 e)), λ e. (c.requires.gone, t.1 e))

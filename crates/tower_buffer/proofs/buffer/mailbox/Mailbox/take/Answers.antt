@@ -14,6 +14,7 @@ use Rattle.tower_buffer.proofs.MailNames.{neither_waits, none_named, tickets_the
 use Rattle.tower_buffer.proofs.Messages.{holds_as, none_queued}
 use Rattle.tower_buffer.proofs.Moves.{cleared_none, cleared_some, first_has}
 use Rattle.tower_buffer.proofs.MailOnes.{ticket_goes, ticket_then}
+use Rattle.tower_buffer.proofs.MailFew.{few_more}
 use Rattle.tower_buffer.proofs.buffer.mailbox.Mailbox.take.Goals as goal
 
 pub invariant_of-self : goal.invariant_of-self
@@ -42,7 +43,7 @@ clear_first-requires-clause-cancelled g c = λ message at.
     cancelled_is message.fate (sym (c.is_cancelled.ensures.cancelled message there) ∙ c.if-not-is_cancelled.false)
 
 pub clearing-init : goal.clearing-init
-clearing-init g c = (0, (λ messages line h s. (messages, line, refl, h, s)), refl, omega arith, omega arith, refl, (λ key s. inl s), (λ key e. absurd (cc)), (λ none. refl), (λ key e. absurd (cc)))
+clearing-init g c = (0, (λ messages line h s. (messages, line, refl, h, s)), refl, omega arith, omega arith, refl, (λ key s. inl s), (λ key e. absurd (cc)), (λ none. refl), (λ key e. absurd (cc)), ((λ e. absurd (cc e)), (λ e. absurd (cc e))), (λ some. absurd (some refl)), (λ key s. s))
 
 pub clearing-preserved : goal.clearing-preserved
 clearing-preserved g c =
@@ -64,6 +65,10 @@ clearing-preserved g c =
       neither_waits c.clearing.wakes c.clear_first.result c.and-wakes.result c.and-wakes.ensures.waits c.clearing.invariant.7 c.clear_first.ensures.waits,
       (λ none. absurd (cc)),
       ticket_then old.queue c.clear_first.new.self.queue c.clearing.wakes c.clear_first.result c.and-wakes.result c.and-wakes.ensures.one c.clearing.invariant.9 c.clear_first.ensures.stalls c.clear_first.ensures.one,
+      few_more (queued c.args.self.now.messages) (queued old.messages) (queued c.clear_first.new.self.messages) c.args.self.now.queue old.queue c.clearing.wakes c.clear_first.result c.and-wakes.result
+          c.clearing.invariant.12 c.clearing.invariant.10 c.clearing.invariant.11 c.clear_first.ensures.most (c.clear_first.ensures.fewer ∙ size) c.and-wakes.ensures.only_all c.and-wakes.ensures.several,
+      (λ some. omega (arith, c.clearing.invariant.4, c.clear_first.ensures.fewer, size)),
+      (λ key s. c.clearing.invariant.12 key (c.clear_first.ensures.stalls key s)),
     )
 
 pub returns-then-not-is_cancelled-clause-follows : goal.returns-then-not-is_cancelled-clause-follows
@@ -154,3 +159,14 @@ returns-then-not-is_cancelled-clause-one g c =
 
 pub returns-then-cleared-clause-one : goal.returns-then-cleared-clause-one
 returns-then-cleared-clause-one g c = ticket_goes _ _ _ _ _ c.clearing.wakes c.clearing.invariant.9
+
+pub returns-then-not-is_cancelled-clause-most : goal.returns-then-not-is_cancelled-clause-most
+returns-then-not-is_cancelled-clause-most g c =
+    let old = c.clearing.self in
+    let size : queued c.is_cancelled.new.self ≡ queued old.messages = ap length c.is_cancelled.ensures.order in
+    let t = few_more (queued c.args.self.now.messages) (queued old.messages) (queued c.take_first-reply.new.self.messages) c.args.self.now.queue old.queue c.clearing.wakes c.take_first-reply.result.1 c.and.result
+    c.clearing.invariant.12 c.clearing.invariant.10 c.clearing.invariant.11 c.take_first-reply.ensures.most (c.take_first-reply.ensures.fewer ∙ size) c.and.ensures.only_all c.and.ensures.several in
+    ((λ e. absurd (t.0 e)), t.1)
+
+pub returns-then-cleared-clause-most : goal.returns-then-cleared-clause-most
+returns-then-cleared-clause-most g c = ((λ e. absurd (c.clearing.invariant.10.0 e)), c.clearing.invariant.10.1)

@@ -39,3 +39,6 @@ returns-clause-takes g c = (
 
 pub returns-clause-one : goal.returns-clause-one
 returns-clause-one g c = named_goes c.admit.new.self c.admit.result c.named.result c.named.ensures.one c.admit.ensures.one
+
+pub returns-clause-most : goal.returns-clause-most
+returns-clause-most g c = c.named.ensures.most c.args.self.now.queue c.admit.new.self c.admit.ensures.most
