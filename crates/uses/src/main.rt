@@ -12,6 +12,7 @@ mod latch;
 mod load;
 mod load_shed;
 mod make;
+mod own_clock;
 mod permits;
 mod queued;
 mod ready_cache;
@@ -70,6 +71,7 @@ fn main(rt: HostRuntime) -> io::Result<()> {
     within_rate::wait_for_each(rt)?;
     waits::within_rate(rt)?;
     stands::wait_for_the_rate(rt)?;
+    own_clock::wait_for_three_moments(rt)?;
     refusal::tell_apart(rt)?;
     refusal::list(rt)
 }
