@@ -225,6 +225,7 @@ where
         ensures orderly { Orderly L.gave self.old result self.new }
         ensures woken { AnsweredOrWoken (Iteration L.gave S.Service)
             self.old result self.new cx.new.is_woken }
+        ensures quiet { Quiet (Stirs L.gave S.Service L.stirs S.stirs self.old self.new) cx.old cx.new }
     {
         self.step(cx)
     }
