@@ -70,7 +70,8 @@ heard_front needs ss [] i left heard front inside told source n = absurd n
 heard_front needs ss (k ∷ is) i left heard front inside told source n =
     told source (subst (λ service. needs service source) (sym n.1 ∙ get_or-set_at ss i k left n.0 front inside) n.2)
 
-module _ {S E : Type 0} (polled : S → Poll (Result (Unit {0}) E) → S → Type 0) (stirs : S → S → Type 0) (listed : List ℕ) (services : List S) (before : Context) where
+module _ {S E : Type 0} (polled : S → Poll (Result (Unit {0}) E) → S → Type 0) (stirs : S → S → Type 0) (listed : List ℕ) (services : List S)
+    (before : Context) where
   abbrev pub Cause : Type 0
   Cause = EachStirs polled stirs listed services
 

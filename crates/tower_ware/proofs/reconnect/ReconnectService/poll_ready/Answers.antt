@@ -5,7 +5,12 @@ use Rattle.tower_ware.proofs.IterationsQuietLemmas.{quiet_answer, quiet_more, qu
 use Rattle.tower_ware.proofs.reconnect.ReconnectService.poll_ready.Goals as goal
 
 pub loop-iteration-init : goal.loop-iteration-init
-loop-iteration-init g c = record { went = iterates_start _ _; sound = search rules; quiet = quiet_start _ _ _ c.args.cx.now; kept = search rules }
+loop-iteration-init g c = record {
+  went = iterates_start _ _;
+  sound = search rules;
+  quiet = quiet_start _ _ _ c.args.cx.now;
+  kept = search rules;
+}
 
 pub returns-in-Some-clause-polled : goal.returns-in-Some-clause-polled
 returns-in-Some-clause-polled g c = record {
@@ -27,8 +32,8 @@ loop-iteration-preserved g c = record {
       (rw c.in_default.is at c.iterate_once.ensures.iteration);
   sound = search rules;
   quiet = quiet_more (Iteration g.M.Service g.M.Future.Steps g.S.Service g.Target.Clone)
-      (StirsOnce g.M.Service g.M.Future.Steps g.S.Service g.Target.Clone) c.loop-iteration._iteration _ _ c.args.cx.now c.loop-iteration.cx c.iterate_once.new.cx
-      c.loop-iteration.invariant.went c.loop-iteration.invariant.quiet c.iterate_once.ensures.quiet;
+      (StirsOnce g.M.Service g.M.Future.Steps g.S.Service g.Target.Clone) c.loop-iteration._iteration _ _
+      c.args.cx.now c.loop-iteration.cx c.iterate_once.new.cx c.loop-iteration.invariant.went c.loop-iteration.invariant.quiet c.iterate_once.ensures.quiet;
   kept = search rules;
 }
 
@@ -47,4 +52,5 @@ returns-in-Some-clause-quiet g c = quiet_answer (Iteration g.M.Service g.M.Futur
 
 pub returns-clause-quiet : goal.returns-clause-quiet
 returns-clause-quiet g c = quiet_tired (Iteration g.M.Service g.M.Future.Steps g.S.Service g.Target.Clone)
-    (StirsOnce g.M.Service g.M.Future.Steps g.S.Service g.Target.Clone) c.loop-iteration._iteration _ _ c.args.cx.now c.yield_now.new.self (omega arith) c.loop-iteration.invariant.went
+    (StirsOnce g.M.Service g.M.Future.Steps g.S.Service g.Target.Clone) c.loop-iteration._iteration _ _ c.args.cx.now
+    c.yield_now.new.self (omega arith) c.loop-iteration.invariant.went

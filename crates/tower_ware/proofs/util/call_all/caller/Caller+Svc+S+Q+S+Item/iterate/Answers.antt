@@ -5,7 +5,14 @@ use Rattle.tower_ware.proofs.IterationsQuietLemmas.{quiet_answer, quiet_more, qu
 use Rattle.tower_ware.proofs.util.call_all.caller.Caller+Svc+S+Q+S+Item.iterate.Goals as goal
 
 pub loop-iteration-init : goal.loop-iteration-init
-loop-iteration-init g c = record { there = search rules; queue = search rules; flow = search rules; went = iterates_start _ _; quiet = quiet_start _ _ _ c.args.cx.now; kept = search rules }
+loop-iteration-init g c = record {
+  there = search rules;
+  queue = search rules;
+  flow = search rules;
+  went = iterates_start _ _;
+  quiet = quiet_start _ _ _ c.args.cx.now;
+  kept = search rules;
+}
 
 pub returns-in-Some-clause-flowed : goal.returns-in-Some-clause-flowed
 returns-in-Some-clause-flowed g c = record {
@@ -29,8 +36,8 @@ loop-iteration-preserved g c = record {
   went = iterates_more (Iteration g.Svc.Service g.S.Flow g.Q.CallQueue)
       c.loop-iteration._iteration _ _ _ c.loop-iteration.invariant.went (rw c.in_default.is at c.iterate_once.ensures.iteration);
   quiet = quiet_more (Iteration g.Svc.Service g.S.Flow g.Q.CallQueue)
-      (StirsOnce g.Svc.Service g.S.Flow g.Q.CallQueue) c.loop-iteration._iteration _ _ c.args.cx.now c.loop-iteration.cx c.iterate_once.new.cx
-      c.loop-iteration.invariant.went c.loop-iteration.invariant.quiet c.iterate_once.ensures.quiet;
+      (StirsOnce g.Svc.Service g.S.Flow g.Q.CallQueue) c.loop-iteration._iteration _ _
+      c.args.cx.now c.loop-iteration.cx c.iterate_once.new.cx c.loop-iteration.invariant.went c.loop-iteration.invariant.quiet c.iterate_once.ensures.quiet;
   kept = search rules;
 }
 
@@ -49,4 +56,5 @@ returns-in-Some-clause-quiet g c = quiet_answer (Iteration g.Svc.Service g.S.Flo
 
 pub returns-clause-quiet : goal.returns-clause-quiet
 returns-clause-quiet g c = quiet_tired (Iteration g.Svc.Service g.S.Flow g.Q.CallQueue)
-    (StirsOnce g.Svc.Service g.S.Flow g.Q.CallQueue) c.loop-iteration._iteration _ _ c.args.cx.now c.yield_now.new.self (omega arith) c.loop-iteration.invariant.went
+    (StirsOnce g.Svc.Service g.S.Flow g.Q.CallQueue) c.loop-iteration._iteration _ _ c.args.cx.now
+    c.yield_now.new.self (omega arith) c.loop-iteration.invariant.went
