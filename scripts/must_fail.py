@@ -25,21 +25,19 @@ The last line is `N refused, M not, K untried`. The status is 1 if M isn't 0.
 import functools
 import os
 import re
-import runpy
 import shutil
 import subprocess
 import sys
 import tempfile
 import time
-import types
 from collections import Counter
 from concurrent.futures import ThreadPoolExecutor
 from pathlib import Path
 
+import kit
+
 AT_ONCE = 24
 LINE = re.compile(r"^(edit: \w+( gate| alone)*$|(file|old|new|function|proved|crate):.*)", re.M)
-rt = types.SimpleNamespace(**runpy.run_path(os.path.realpath(shutil.which("rt"))))
-rt.rtlib.guarded()  # its first call sets a signal's handler, which only the main thread may
 
 
 class Edit:
@@ -93,7 +91,7 @@ def edits_of(crate):
 
 def applied(edits):
     """The texts of the files that these edits change, or None and the reason, if an old text isn't there once."""
-    return rt.edited("\n".join(it.text for it in edits), f"crates/{edits[0].below or edits[0].crate.name}")
+    return kit.edited("\n".join(it.text for it in edits), f"crates/{edits[0].below or edits[0].crate.name}")
 
 
 def group_of(edits):
@@ -112,7 +110,7 @@ def group_of(edits):
 def over_changed(edit, texts, room):
     """The edit's crate over the library below that it changes, of which a copy with these texts is made in the room.
     That library and those above it are read as texts, the others as they were built."""
-    crate, words = rt.rtlib.Crate(edit.crate.folder, os.getcwd(), {}), []
+    crate, words = kit.Crate(edit.crate.folder, os.getcwd(), {}), []
     changed = next(it for it in crate.below() if it.name == edit.below)
     shutil.copytree(changed.folder, room, ignore=shutil.ignore_patterns("out"), dirs_exist_ok=True)
     for path, text in texts.items():
@@ -131,11 +129,11 @@ def attempt(edits, kept):
     flags = ["--jobs", "1", *(word for name in names for word in ("--only", name))]
     with tempfile.TemporaryDirectory() as room:
         crate, changed = (over_changed(edits[0], texts, room), {}) if edits[0].below else (edits[0].crate, texts)
-        ran = rt.checked(crate, changed, flags, kept)
-        ran = ran if ran.returncode >= 0 else rt.checked(crate, changed, flags, kept)
+        ran = kit.checked(crate, changed, flags, kept)
+        ran = ran if ran.returncode >= 0 else kit.checked(crate, changed, flags, kept)
     lines = ran.stdout.rstrip("\n").split("\n")
     # (what depends on a rejected lemma isn't checked, and antt says so of a file, not of a name)
-    unread = [it for it in lines if rt.unread(it, texts) and "which was rejected" not in it]
+    unread = [it for it in lines if kit.unread(it, texts) and "which was rejected" not in it]
     unread = unread or lines[: 0 if lines[-1].startswith("only=") else 6]
     for it in edits:
         answer = f"BAD EDIT: it does not reach the prover: {' / '.join(unread)}" if unread else it.verdict(ran.stdout)
@@ -165,7 +163,7 @@ def is_proved(crate, is_built):
 
 def main(root, words):
     os.chdir(root)
-    crates = {it.name: it for it in rt.rtlib.crates_below(os.getcwd())}
+    crates = {it.name: it for it in kit.crates_of(root)}
     edits = [edit for name in sorted(crates) for edit in edits_of(crates[name])]
     options, of_crates = {*words} & {"--built", "--gate"}, {*words} & {*crates}
     of_edits = {*words} - options - of_crates
@@ -177,8 +175,7 @@ def main(root, words):
     for it in (it for it in chosen if it.crate in unproved):
         it.answers("NOT TRIED: its crate is not proved without it")
     of_each = [[it for it in chosen if it.crate is crate] for crate in crates.values()]
-    lanes = os.environ.get("RT_JOBS") or max(1, min(rt.processors(), rt.free() // 4_500_000_000))
-    with ThreadPoolExecutor(int(lanes)) as pool:
+    with ThreadPoolExecutor(kit.lanes()) as pool:
         list(pool.map(try_all, sorted(filter(None, of_each), key=len, reverse=True)))
     if late := [it.name for it in chosen if not it.answer]:
         print(f"{len(late)} edits were not tried for want of time: {' '.join(late)}")

@@ -9,7 +9,8 @@ from pathlib import Path
 from unittest import mock
 
 sys.path.insert(0, str(Path(__file__).resolve().parent.parent))
-from must_fail import main, rt
+import kit
+from must_fail import main
 
 BODY = "pub fn {0}(x: usize) -> usize\n    ensures {{ result ≡ {1} }}\n{{\n    let of_{0} = x;\n    of_{0}\n}}\n"
 BODIES = BODY.format("one", "x") + BODY.format("two", "x") + BODY.format("any", "result")
@@ -47,7 +48,7 @@ class Tests(unittest.TestCase):
             text = next(left, "\n".join([*told, "only="]))
             return mock.Mock(stdout=text, returncode=1 if text else -9)
 
-        checked = mock.patch.object(rt, "checked", side_effect=rt.checked if says is None else stand_in)
+        checked = mock.patch.object(kit, "checked", side_effect=kit.checked if says is None else stand_in)
         with tempfile.TemporaryDirectory() as root, checked as checks, mock.patch("builtins.print") as printed:
             texts = {"crates.txt": "tiny:", "crates/tiny/src/lib.rt": LIBRARY, "must-fail/tiny/lib.edits": edits}
             for path, text in {**texts, f"crates/tiny/out/{made}": ""}.items():
