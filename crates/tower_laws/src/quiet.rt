@@ -26,7 +26,8 @@ where
     ensures timeout { AddsNone ⟦<Timeout<S, D> as Service<Request>>⟧.stirs S.stirs (λ t. t.inner) }
     ensures shed { AddsNone ⟦<LoadShed<S> as Service<Request>>⟧.stirs S.stirs (λ shed. shed.inner) }
     ensures stack { (old new : _)
-        → ⟦<Timeout<LoadShed<ConcurrencyLimit<RateLimit<S, C>, L>>, D> as Service<Request>>⟧.stirs old new
+        → ⟦<Timeout<LoadShed<ConcurrencyLimit<RateLimit<S, C>, L>>, D> as Service<Request>>⟧.stirs
+        old new
         → LeafStirs L.Latch L.stirs C.stirs S.stirs old.inner.inner new.inner.inner }
     ensures response { (old new : _)
         → ⟦<<Timeout<S, D> as Service<Request>>::Future as Steps>⟧.stirs old new

@@ -189,7 +189,8 @@ where
         ensures armed { OnPending result (IsArmed cx.new) }
         ensures heard { OnPending result
             ((s : ℕ) → Needs L.source S.needs self.new s → Hears cx.new s) }
-        ensures quiet { Quiet (Stirs L.gave S.Service L.stirs S.stirs self.old self.new) cx.old cx.new }
+        ensures quiet { Quiet (Stirs L.gave S.Service L.stirs S.stirs self.old self.new)
+            cx.old cx.new }
         ensures kept { Keeps cx.old cx.new }
     {
         for _iteration in 0..TURNS {
@@ -225,7 +226,8 @@ where
         ensures orderly { Orderly L.gave self.old result self.new }
         ensures woken { AnsweredOrWoken (Iteration L.gave S.Service)
             self.old result self.new cx.new.is_woken }
-        ensures quiet { Quiet (Stirs L.gave S.Service L.stirs S.stirs self.old self.new) cx.old cx.new }
+        ensures quiet { Quiet (Stirs L.gave S.Service L.stirs S.stirs self.old self.new)
+            cx.old cx.new }
     {
         self.step(cx)
     }
@@ -256,7 +258,8 @@ where
             self.old result self.new cx.new.is_woken }
         ensures again { OnPending result (S.sound self.new.service) }
         ensures registered { OnPending result (Covers cx.new (Needs L.source S.needs self.new)) }
-        ensures quiet { Quiet (Stirs L.gave S.Service L.stirs S.stirs self.old self.new) cx.old cx.new }
+        ensures quiet { Quiet (Stirs L.gave S.Service L.stirs S.stirs self.old self.new)
+            cx.old cx.new }
         ensures kept { Keeps cx.old cx.new }
     {
         self.iterate(cx)
