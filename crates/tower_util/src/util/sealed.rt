@@ -90,11 +90,7 @@ impl<S: Service<Request>, Request> Service<Request> for Sealed<S, Request> {
 }
 
 /// A `Sealed` contains what its service contains.
-impl<S: Contains<Request, Passed, L>, Request, Passed, L: Service<Passed>> Contains<
-    Request,
-    Passed,
-    L,
-> for Sealed<S, Request> {
+impl<S: Contains<R, P, L>, R, P, L: Service<P>> Contains<R, P, L> for Sealed<S, R> {
     ghost inside = { S.inside };
 
     ghost goes = { S.goes };
