@@ -1,13 +1,13 @@
 //! An event loop whose tasks wait for the machine's clock, and that clock.
-ghost use Rattle.std.specs.Prelude.{◌≡◌, ◌⊎◌, true, option_map, IfOk, IsSomeAnd};
+ghost use Rattle.std.specs.Prelude.{◌≡◌, ◌⊎◌, ◌+◌, ◌*◌, ◌<◌, ◌≤◌, ℕ, true, option_map, IfOk, OnOk, IsSomeAnd};
 ghost use Rattle.futures.specs.Runs.{AllItems};
 ghost use Rattle.futures.specs.Task.{Covers, IsLent, Keeps};
 ghost use Rattle.futures.specs.Task.EventLoop.Names.{key_source};
-ghost use Rattle.futures.specs.Task.EventLoop.Settled.{WaitsUntil};
+ghost use Rattle.futures.specs.Task.EventLoop.Settled.{IsFired, WaitsUntil};
 ghost use Rattle.tower_base.specs.SystemClock.{Read};
-ghost use Rattle.tower_time.specs.Clocks.{ClockView, Hears, WakesBy};
+ghost use Rattle.tower_time.specs.Clocks.{ClockView, Hears, WakesBy, nap};
 
-use crate::ticks::{nanos_until, tick_at, tick_from};
+use crate::ticks::{Slept, nanos_until, tick_at, tick_from};
 use futures::executor::{EventLoop, Events, Rest, TaskSet};
 use futures::future::Future;
 use futures::stream::Stream;
@@ -16,9 +16,9 @@ use std::alloc::AllocGlobal;
 use std::marker::Model;
 use std::random::RandomSource;
 use std::sync::Wait;
-use std::time::Duration;
-use std::{io, rt, thread};
+use std::{io, rt};
 use tower_base::service::{Clock, Monotonic, SystemClock};
+use tower_spawn::Spawner;
 
 // The longest sleep in nanoseconds. A wake by another thread doesn't end it, and may be seen so late.
 const LONGEST: u64 = 1_000_000;
@@ -39,6 +39,8 @@ pub struct ClockLoop<R> {
 struct Naps<R> {
     rt: R,
     clock: SystemClock<R>,
+    // The last sleep.
+    slept: Slept,
 }
 
 impl<R: rt::Clock + Copy> ClockLoop<R> {
@@ -50,6 +52,7 @@ impl<R: rt::Clock + Copy> ClockLoop<R> {
             naps: Naps {
                 rt,
                 clock: SystemClock::new(rt)?,
+                slept: Slept::not_yet(),
             },
         })
     }
@@ -74,8 +77,33 @@ impl<R: rt::Clock + Copy> ClockLoop<R> {
         self.event_loop.block_on(rt, &mut self.naps, future)
     }
 
+    /// As `block_on`, and polls the tasks of the spawner too, until no task is left. The thread sleeps while
+    /// all of them wait. Returns an error, too, if another run has the tasks of the spawner.
+    pub fn run_with<W, F, B>(
+        &mut self,
+        rt: &W,
+        future: B,
+        spawner: &Spawner<F>,
+    ) -> io::Result<B::Output>
+    where
+        W: Wait + AllocGlobal,
+        F: Future<Output = ()>,
+        B: Future<Output: Drop>,
+        requires { B.can_poll future }
+        ensures { IfOk result (B.gives future) }
+    {
+        match spawner.beside(rt.alloc(), future) {
+            Ok(both) => self.event_loop.block_on(rt, &mut self.naps, both),
+            Err(error) => Err(error.into()),
+        }
+    }
+
     /// As `block_on`, and polls what is spawned into the set too, until no task is left. Returns an error,
     /// too, if the set is shut down while the future is pending. No other thread may work at the set meanwhile.
+    ///
+    /// It keeps a processor busy while its tasks wait, since another thread may spawn into the set, and only a
+    /// set with a doorbell of its own kind (the kit's `Doorbell::with_driver`) wakes a thread that sleeps in
+    /// this loop. `run_with` sleeps.
     pub fn block_on_with<W, F, B>(
         &mut self,
         rt: &W,
@@ -112,16 +140,26 @@ impl<W: Wait, R: rt::Clock + Copy> Events<W> for Naps<R> {
         Ok(())
     }
 
-    fn wait(&mut self, _rt: &W, rest: &Rest<'_>) -> io::Result<()> {
+    fn wait(&mut self, _rt: &W, rest: &Rest<'_>) -> io::Result<()>
+        ensures slept { OnOk result (self.new.slept.nanos ≡ nap rest.now.until self.new.clock.last) }
+        ensures read { Read self.old.clock self.new.clock }
+    {
+        let moment = self.clock.now();
         let left = match rest.until() {
-            Some(tick) => nanos_until(tick, self.clock.now(), LONGEST),
+            Some(tick) => nanos_until(tick, moment, LONGEST),
             None => LONGEST,
         };
-        thread::sleep(&self.rt, Duration::from_nanos(left));
+        self.slept = Slept::sleep(&self.rt, left);
         Ok(())
     }
 
-    fn dispatch(&mut self, _rt: &W, _cx: &mut Context<'_>) -> io::Result<u64> {
+    fn dispatch(&mut self, _rt: &W, _cx: &mut Context<'_>) -> io::Result<u64>
+        ensures rung { (s : ℕ) → ⊥ → IsFired _cx.new s }
+        ensures kept { Keeps _cx.old _cx.new }
+        ensures now { IfOk result (λ tick. (tick * 1000 ≤ self.new.clock.last)
+            × (self.new.clock.last < tick * 1000 + 1000)) }
+        ensures read { Read self.old.clock self.new.clock }
+    {
         Ok(tick_at(self.clock.now()))
     }
 }
@@ -170,6 +208,7 @@ impl<R> LoopClock<R> {
     }
 }
 
+// It isn't known when `wake_at` asks for another poll, since the kit's `poll_at` doesn't bound that.
 impl<R: rt::Clock + Copy> Clock for LoopClock<R> {
     ghost reading = { λ c. c.clock.last };
 

@@ -1,33 +1,25 @@
 //! Timers that a thread fires, and the clock whose tasks wait at them under any executor.
-ghost use Rattle.std.specs.Prelude.{◌≡◌, option_map};
+ghost use Rattle.std.specs.Prelude.{◌≡◌, true, option_map, MatchOption};
 ghost use Rattle.futures.specs.Task.{Covers, Keeps};
 ghost use Rattle.tower_base.specs.SystemClock.{Read};
-ghost use Rattle.tower_time.specs.Clocks.{ClockView, Hears};
-ghost use Rattle.tower_time.specs.TimerSource.{shared_source};
+ghost use Rattle.tower_time.specs.Clocks.{TimerHears, TimerView, TimerWakesBy};
+ghost use Rattle.tower_time.specs.TimerSource.{armed_tick, shared_source};
 
 mod bell;
+mod doze;
 mod state;
 
-use crate::ticks::{LAST_TICK, nanos_until, tick_at, tick_from};
-use bell::Bell;
+use crate::ticks::{LAST_TICK, tick_at, tick_from};
+use bell::{Bell, Rings, Turned};
 use futures::spin::lock;
-use futures::task::{Context, Poll, Source, Waker};
-use state::State;
+use futures::task::{Context, Poll, Source};
+use state::{Armed, Ended, Look, State, closed, looked, removed, waited};
 use std::alloc::Global;
 use std::marker::Model;
 use std::sync::{Arc, Mutex, Wait};
 use std::thread::{self, Threads};
 use std::{io, rt};
 use tower_base::service::{Clock, Monotonic, SystemClock};
-
-/// The longest sleep of the thread, in nanoseconds: an hour.
-const LONGEST: u64 = 3_600_000_000_000;
-
-/// The shortest sleep of the thread, in nanoseconds: timers that are due within it fire in one turn.
-const SHORTEST: u64 = 500_000;
-
-/// How many timers fire while the lock is held.
-const AT_A_TIME: usize = 32;
 
 #[derive(Drop)]
 struct Shared {
@@ -71,6 +63,7 @@ impl<R: rt::Clock + Copy> Timers<R> {
             clock: self.clock.share(),
             shared: Arc::try_clone(&self.shared).ok(),
             key: None,
+            armed: None,
         }
     }
 
@@ -105,27 +98,29 @@ impl<R: rt::Clock + Copy> Timers<R> {
                 requires { F.pre f }
                 ensures { F.post f result }
             {
-                if scope.spawn(|| self.run(rt)).is_err() {
-                    self.shared.close();
+                if scope.spawn(|| self.run(rt).end()).is_err() {
+                    self.shared.close(rt).end();
                 }
                 let output = f();
-                self.shared.close();
+                self.shared.close(rt).end();
                 output
             },
         )
     }
 
     // Fires timers as they become due, until they are closed.
-    fn run<W: Wait>(&self, rt: &W) {
+    fn run<W: Wait>(&self, rt: &W) -> Ended {
         let mut clock = self.clock.share();
         for _ in rt.forever() {
-            let seen = self.shared.bell.rings();
-            let Some(next) = self.shared.turn(tick_at(clock.now())) else {
-                return;
-            };
-            let left = nanos_until(next, clock.now(), LONGEST);
-            self.shared.bell.sleep(rt, seen, left.max(SHORTEST));
+            let rings = self.shared.bell.rings();
+            match self.shared.turn_after(rt, rings, tick_at(clock.now())) {
+                Ok(turned) => {
+                    let _dozed = self.shared.bell.sleep(rt, turned, clock.now());
+                }
+                Err(ended) => return ended,
+            }
         }
+        unreachable!()
     }
 }
 
@@ -137,49 +132,59 @@ impl Shared {
     }
 
     // Ends the thread, and has each task that waits polled again.
-    fn close(&self) {
-        if let Some(mut state) = lock(&self.state) {
-            let end = state.close();
-            drop(state);
+    fn close<W: Wait>(&self, rt: &W) -> Ended {
+        for _ in rt.forever() {
+            let end = closed(self.state.lock(rt));
             self.bell.ring_if_due(end);
-        }
-        let _ended = self.turn(LAST_TICK);
-    }
-
-    // Fires each timer that is due at `now`, some at a time, and wakes their tasks once the lock is free.
-    // Returns the tick of the next turn. `None` at the end.
-    fn turn(&self, now: u64) -> Option<u64> {
-        for _ in 0..u64::MAX {
-            let mut wakers: [Option<Waker>; AT_A_TIME] = [const { None }; AT_A_TIME];
-            let mut state = lock(&self.state)?;
-            for place in &mut wakers {
-                let Some(waker) = state.fire(now) else {
-                    return state.next_turn();
-                };
-                *place = waker;
+            if let Err(ended) = self.turn(rt, LAST_TICK) {
+                return ended;
             }
         }
-        None
+        unreachable!()
     }
 
-    fn wait_until(&self, key: &mut Option<usize>, when: u64, cx: &mut Context<'_>)
+    // Fires each timer that is due at `now`, one after another, and wakes its task once the lock is free.
+    // Returns the tick of the next turn once no timer is due.
+    fn turn<W: Wait>(&self, rt: &W, now: u64) -> Result<u64, Ended> {
+        for _ in rt.forever() {
+            match looked(self.state.lock(rt), now) {
+                Look::Fired(waker) => drop(waker),
+                Look::Next(tick) => return Ok(tick),
+                Look::Ended(ended) => return Err(ended),
+            }
+        }
+        unreachable!()
+    }
+
+    // A turn of the thread, after a look at the bell.
+    fn turn_after<W: Wait>(&self, rt: &W, rings: Rings, now: u64) -> Result<Turned, Ended> {
+        match self.turn(rt, now) {
+            Ok(tick) => Ok(rings.next_turn(tick)),
+            Err(ended) => {
+                rings.end(&ended);
+                Err(ended)
+            }
+        }
+    }
+
+    // `None` if the task is polled again at once.
+    fn wait_until(&self, key: &mut Option<usize>, when: u64, cx: &mut Context<'_>) -> Option<Armed>
+        ensures armed { MatchOption result (cx.new.is_woken ≡ true) (λ armed. armed.tick ≡ when) }
         ensures registered { Covers cx.new (λ s. s ≡ self.now.source.id) }
         ensures kept { Keeps cx.old cx.new }
     {
-        let Some(mut state) = lock(&self.state) else {
+        let Some(state) = lock(&self.state) else {
             let _pending: Poll<()> = cx.yield_now();
-            return;
+            return None;
         };
-        let notice = state.wait(key, when, cx, &self.source);
-        drop(state);
+        let (notice, armed) = waited(state, key, when, cx, &self.source);
         self.bell.ring_if_due(notice);
+        armed
     }
 
     fn leave(&self, key: usize) {
-        if let Some(mut state) = lock(&self.state) {
-            let waker = state.remove(key);
-            drop(state);
-            drop(waker);
+        if let Some(state) = lock(&self.state) {
+            drop(removed(state, key));
         }
     }
 }
@@ -195,12 +200,18 @@ pub struct TimerClock<R> {
     clock: SystemClock<R>,
     shared: Option<Arc<Shared>>,
     key: Option<usize>,
+    // The timer that the last wait armed.
+    armed: Option<Armed>,
 }
 
 impl<R> Model for TimerClock<R> {
-    ghost Value = { ClockView R };
+    ghost Value = { TimerView R };
 
-    ghost view = { λ c. record { clock = c.clock; source = option_map shared_source c.shared } };
+    ghost view = { λ c. record {
+      clock = c.clock;
+      source = option_map shared_source c.shared;
+      armed = option_map armed_tick c.armed;
+    } };
 }
 
 impl<R: Drop> Drop for TimerClock<R> {
@@ -209,6 +220,7 @@ impl<R: Drop> Drop for TimerClock<R> {
             clock: _,
             shared,
             key,
+            armed: _,
         } = self;
         if let Some(shared) = shared
             && let Some(key) = key
@@ -218,6 +230,7 @@ impl<R: Drop> Drop for TimerClock<R> {
     }
 }
 
+// It isn't known when `wake_at` asks for another poll, since the kit's `register` doesn't bound that.
 impl<R: rt::Clock + Copy> Clock for TimerClock<R> {
     ghost reading = { λ c. c.clock.last };
 
@@ -225,7 +238,9 @@ impl<R: rt::Clock + Copy> Clock for TimerClock<R> {
 
     ghost shared = { λ c other. other.clock ≡ c.clock };
 
-    ghost hears = { Hears };
+    ghost hears = { TimerHears };
+
+    ghost wakes_by = { TimerWakesBy };
 
     fn now(&mut self) -> u64 {
         self.clock.now()
@@ -240,16 +255,18 @@ impl<R: rt::Clock + Copy> Clock for TimerClock<R> {
             clock: self.clock.share(),
             shared,
             key: None,
+            armed: None,
         }
     }
 
     fn wake_at(&mut self, deadline: u128, cx: &mut Context<'_>) {
-        match &self.shared {
+        self.armed = match &self.shared {
             Some(shared) => shared.wait_until(&mut self.key, tick_from(deadline), cx),
             None => {
                 let _pending: Poll<()> = cx.yield_now();
+                None
             }
-        }
+        };
     }
 }
 
