@@ -4,6 +4,7 @@
 pub mod builder;
 pub mod layer;
 pub mod projection;
+pub mod time;
 pub mod util;
 
 pub use builder::ServiceBuilder;
@@ -16,7 +17,6 @@ pub use tower_limit::{discover, limit, load};
 pub use tower_pool::{balance, ready_cache, spawn_ready};
 pub use tower_refusal::{Cause, Never, Own, Refusal, StackError};
 pub use tower_retry::{hedge, retry};
-pub use tower_time as time;
 pub use tower_util::make;
 pub use tower_util::make::MakeService;
 pub use tower_ware::{filter, load_shed, reconnect, steer, timeout};
