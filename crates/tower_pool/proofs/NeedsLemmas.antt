@@ -4,7 +4,7 @@ use Rattle.std.proofs.lemmas.List.{drop_all}
 use Rattle.futures.specs.Task.{Hears, Keeps, Lasting}
 use Rattle.futures.specs.declared.task.context.Context.{Context}
 use Rattle.tower_pool.specs.Balance.{BalanceView, Needs}
-use Rattle.tower_pool.specs.ReadyCache.{HeardFrom, PendingNeeds, PendingView, put_back, pending_entry, is_pending}
+use Rattle.tower_pool.specs.ReadyCache.{HeardFrom, PendingNeeds, PendingView}
 
 none_after : (K : Type 0) {S : Type 0} (needs : S → ℕ → Type 0) (n source : ℕ) → PendingNeeds {K = K} needs (drop n []) source → ⊥
 none_after K needs zero source h = h

@@ -1,4 +1,4 @@
-use Rattle.std.proofs.Common.{rules, arith, None, Some, inl, inr, sym, subst, ◌∙◌}
+use Rattle.std.proofs.Common.{rules, arith, None, inl, inr, sym, subst, ◌∙◌}
 use Rattle.tower_base.specs.IterationsLemmas.{iterates_more, iterates_start, iterations_answer, iterations_tired}
 use Rattle.tower_pool.specs.SpawnReady.{Iteration, IterationStirs, view_of}
 use Rattle.tower_pool.proofs.SpawnReadyLemmas.{begun_and_ended}
