@@ -9,6 +9,7 @@ mod meter;
 mod meter_core;
 mod metered;
 mod reading;
+mod text;
 
 pub use bounds::{BOUNDS, Bounds, NotGrowing};
 pub use kinds::{Kinds, KindsFn, NoKinds};
@@ -16,3 +17,4 @@ pub use meter::Meter;
 pub use meter_core::{MeterCore, MeterReply, MeterStep};
 pub use metered::{MeterLayer, Metered, ResponseFuture};
 pub use reading::{BUCKETS, KINDS, Reading};
+pub use text::{CONTENT_TYPE, Named, Text};

@@ -7,7 +7,7 @@ use crate::reading::Reading;
 use tower_latch::{Core, Wakes};
 
 /// A step of a `MeterCore`. Times are in nanoseconds.
-#[derive(Drop)]
+#[derive(Debug, Drop)]
 pub enum MeterStep {
     /// A call was made.
     Call,
@@ -24,7 +24,7 @@ pub enum MeterStep {
 }
 
 /// The reply of a `MeterCore` to a step.
-#[derive(Drop)]
+#[derive(Debug, Drop)]
 pub enum MeterReply {
     /// It is counted.
     Done,

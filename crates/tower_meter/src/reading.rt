@@ -74,6 +74,13 @@ impl Reading {
         }
     }
 
+    /// Returns the number of answers, which the sums of `kinds` and of `buckets` are.
+    pub fn answers(&self) -> u64
+        ensures { result ≡ self.now.ok + self.now.err }
+    {
+        self.ok + self.err
+    }
+
     #[inline(always)]
     pub(crate) fn begin(&mut self)
         requires { self.old.calls < most }
