@@ -4,3 +4,5 @@ pub mod MeterCore
 pub mod Metered
 pub mod MeteredLends
 pub mod Tally
+pub mod Traced
+pub mod TracedLends

@@ -10,6 +10,7 @@ mod meter_core;
 mod metered;
 mod reading;
 mod text;
+mod traced;
 
 pub use bounds::{BOUNDS, Bounds, NotGrowing};
 pub use kinds::{Kinds, KindsFn, NoKinds};
@@ -18,3 +19,4 @@ pub use meter_core::{MeterCore, MeterReply, MeterStep};
 pub use metered::{MeterLayer, Metered, ResponseFuture};
 pub use reading::{BUCKETS, KINDS, Reading};
 pub use text::{CONTENT_TYPE, Named, Text};
+pub use traced::{Trace, Traced, TracedFuture, TracedLayer};
