@@ -52,20 +52,20 @@ module _ {L : Type 0} (l : LatchOf L MeterCore MeterStep MeterReply Bounds) wher
     pub terms : l.terms other ≡ l.terms latch
 
   -- One step says that the call passes uncounted.
-  abbrev pub Passes : L → Type 0
-  Passes latch = (reply : MeterReply) × l.gave latch Uncounted reply
+  abbrev pub SaysUncounted : L → Type 0
+  SaysUncounted latch = (reply : MeterReply) × l.gave latch Uncounted reply
 
   -- The call has the share exactly if the reply says that it was counted.
   abbrev pub Holds : L → L → MeterReply → Option L → Type 0
   Holds latch share Done held = held ≡ Some share
-  Holds latch share _ held = (held ≡ None) × Passes latch
+  Holds latch share _ held = (held ≡ None) × SaysUncounted latch
 
   -- The latch refuses the share, and the call isn't counted.
   pub record Refused (latch : L) (held : Option L) : Type 0 where
     pub error : AllocError
     pub shared : l.shares latch (Err error)
     pub none : held ≡ None
-    pub passes : Passes latch
+    pub says : SaysUncounted latch
 
   -- The share is created, and one step counts the call, if one more can be counted.
   pub record Asked (latch : L) (held : Option L) : Type 0 where

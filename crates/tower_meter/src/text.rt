@@ -11,13 +11,13 @@ pub const CONTENT_TYPE: &'static str = "text/plain; version=0.0.4";
 /// A reading with the names that its lines carry. The names are the program's own words, never a
 /// request's: each other name makes lines of its own, which whoever reads them keeps.
 #[derive(Clone, Copy)]
-pub struct Named<'a> {
+pub struct Named {
     /// The label `service` of each line.
     pub service: &'static str,
     /// The label `kind` of the answers, from kind 0 on. A kind past the last name is called by its number,
     /// and shown if it isn't 0.
-    pub kinds: &'a [&'static str],
-    pub reading: &'a Reading,
+    pub kinds: &'static [&'static str],
+    pub reading: Reading,
 }
 
 /// Readings in Prometheus' text format, version 0.0.4. Times are in seconds, exact to the nanosecond.
@@ -25,12 +25,12 @@ pub struct Named<'a> {
 /// One text has all readings of a program: its lines of one metric stand together, as the format wants.
 #[derive(Clone, Copy)]
 pub struct Text<'a> {
-    meters: &'a [Named<'a>],
+    meters: &'a [Named],
 }
 
 impl<'a> Text<'a> {
     /// Creates the text of these readings. No two have the same name of a service.
-    pub fn new(meters: &'a [Named<'a>]) -> Text<'a> {
+    pub fn new(meters: &'a [Named]) -> Text<'a> {
         Text { meters }
     }
 }
@@ -114,15 +114,15 @@ impl Display for Escaped<'_> {
 
 // One line: a number of a metric, with the name of the service and maybe one more label.
 #[derive(Clone, Copy)]
-struct Line<'a, V, N> {
+struct Line<V, N> {
     name: &'static str,
     suffix: &'static str,
-    service: &'a str,
+    service: &'static str,
     label: Option<(&'static str, V)>,
     number: N,
 }
 
-impl<V: Display, N: Display> Display for Line<'_, V, N> {
+impl<V: Display, N: Display> Display for Line<V, N> {
     fn fmt<W: fmt::Write>(&self, f: &mut fmt::Formatter<W>) -> fmt::Result {
         let service = Escaped(self.service);
         write!(f, "{}{}{{service=\"{service}\"", self.name, self.suffix)?;
@@ -133,8 +133,8 @@ impl<V: Display, N: Display> Display for Line<'_, V, N> {
     }
 }
 
-impl<'a> Named<'a> {
-    fn plain<N>(&self, name: &'static str, suffix: &'static str, number: N) -> Line<'a, u64, N> {
+impl Named {
+    fn plain<N>(&self, name: &'static str, suffix: &'static str, number: N) -> Line<u64, N> {
         Line {
             name,
             suffix,
@@ -151,7 +151,7 @@ impl<'a> Named<'a> {
         label: &'static str,
         value: V,
         number: u64,
-    ) -> Line<'a, V, u64> {
+    ) -> Line<V, u64> {
         Line {
             name,
             suffix,
@@ -171,7 +171,7 @@ impl<'a> Named<'a> {
             err,
             dropped,
             ..
-        } = self.reading;
+        } = &self.reading;
         for (outcome, number) in [("ok", *ok), ("err", *err), ("dropped", *dropped)] {
             write!(f, "{}", self.labelled(name, "", "outcome", outcome, number))?;
         }
@@ -236,7 +236,7 @@ impl Text<'_> {
     {
         write!(f, "{metric}")?;
         for meter in self.meters.iter() {
-            write!(f, "{}", meter.plain(metric.name, "", of(meter.reading)))?;
+            write!(f, "{}", meter.plain(metric.name, "", of(&meter.reading)))?;
         }
         Ok(())
     }

@@ -94,9 +94,9 @@ where
 
     fn call(&mut self, request: Request) -> Self::Future {
         let start = self.clock.now();
-        self.trace.on_call(&request);
+        let span = self.trace.on_call(&request);
         let inner = self.inner.call(request);
-        TracedFuture::new(inner, self.clock.share(), self.trace, start)
+        TracedFuture::new(inner, self.clock.share(), self.trace, span, start)
     }
 }
 

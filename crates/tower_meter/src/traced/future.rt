@@ -30,6 +30,7 @@ where
     of: PhantomData<(Request, T, E)>,
     clock: C,
     trace: N,
+    span: N::Span,
     start: u64,
     is_open: bool,
 }
@@ -40,18 +41,19 @@ where
     N: Trace<Request, T, E>,
 {
     fn drop(self)
-        ensures { self.is_open ≡ true → (nanos : ℕ) × N.told self.trace (Event.dropped nanos) }
+        ensures { self.is_open ≡ true → (nanos : ℕ) × N.told self.trace (Event.dropped self.span nanos) }
     {
         let Open {
             of: _,
             mut clock,
             trace,
+            span,
             start,
             is_open,
         } = self;
         if is_open {
             let nanos = clock.now().saturating_sub(start);
-            trace.on_drop(nanos);
+            trace.on_drop(&span, nanos);
         }
     }
 }
@@ -61,12 +63,13 @@ where
     C: Clock,
     N: Trace<Request, T, E>,
 {
-    ghost Value = { TracedFutureView F C N };
+    ghost Value = { TracedFutureView F C N N.Span };
 
     ghost view = { λ f. record {
       inner = f.inner;
       clock = f.end.clock;
       trace = f.end.trace;
+      span = f.end.span;
       start = f.end.start;
       is_open = f.end.is_open;
     } };
@@ -81,12 +84,14 @@ where
         inner: F,
         clock: C,
         trace: N,
+        span: N::Span,
         start: u64,
     ) -> TracedFuture<Request, T, E, F, C, N>
         ensures { result ≡ record {
           inner = inner;
           clock = clock;
           trace = trace;
+          span = span;
           start = start;
           is_open = true;
         } }
@@ -97,6 +102,7 @@ where
                 of: PhantomData,
                 clock,
                 trace,
+                span,
                 start,
                 is_open: true,
             },
@@ -151,7 +157,7 @@ where
         if self.end.is_open {
             self.end.is_open = false;
             let nanos = self.end.clock.now().saturating_sub(self.end.start);
-            self.end.trace.on_answer(&answer, nanos);
+            self.end.trace.on_answer(&self.end.span, &answer, nanos);
         }
         Poll::Ready(answer)
     }
