@@ -13,18 +13,24 @@ from common import TOP
 FUNCTION = re.compile(r"\bfn (\w+)|(\byield_now\()")
 LINE = re.compile(r"^(\S+ \w+): .+ \| (\S+)$", re.M)
 
-calls = Counter()
+# A future's `poll`, which no clause keeps quiet, is its `step`, which one does.
+POLL = re.compile(r"^    fn poll\(&mut self, cx.*?^    }\n", re.M | re.S)
+STEP = "{\n        self.step(cx)\n    }\n"
+
+calls, bad = Counter(), []
 for file in sorted(TOP.glob("crates/tower*/src/**/*.rt")):
     if "tower_bench" in file.parts:
         continue
-    name = ""
-    for function, call in FUNCTION.findall(re.sub("//.*", "", file.read_text(encoding="utf-8"))):
+    text, name = file.read_text(encoding="utf-8"), ""
+    polls = POLL.findall(text) if " Steps for " in text else []
+    bad += [f"a poll that isn't one step: {file}" for poll in polls if not poll.endswith(STEP)]
+    for function, call in FUNCTION.findall(re.sub("//.*", "", text)):
         name = function or name
         calls[f"{file.relative_to(TOP / 'crates')} {name}"] += bool(call)
 text = (TOP / "scripts/yields.txt").read_text(encoding="utf-8")
 told = LINE.findall(text)
 lines = Counter(place for place, _ in told)
-bad = [f"no line in yields.txt: {it}" for it in (+calls - lines).elements()]
+bad += [f"no line in yields.txt: {it}" for it in (+calls - lines).elements()]
 bad += [f"no such call: {it}" for it in (lines - calls).elements()]
 bad += [f"no such file: {it}" for _, it in told if not (TOP / it).is_file()]
 bad += ["yields.txt has a line of another form"] * (len(told) != len(re.findall("^(?!#).+$", text, re.M)))
