@@ -3,7 +3,8 @@
 could ask to be polled again where no clause forbids it, as in the wait of a latch, and nobody would have said why.
 
 A line of yields.txt is `FILE FUNCTION: REASON | SEEN`: why this call may ask for another poll, and the file that has
-seen it. It prints each call without a line, each line without a call, and each file that isn't there."""
+seen it. It prints each call without a line, each line without a call, each file that isn't there, and each `poll`
+beside a `step` that does more than that step."""
 import re
 import sys
 from collections import Counter
