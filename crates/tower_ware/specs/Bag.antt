@@ -31,7 +31,7 @@ module _ {F T : Type 0} (f : StepsOf F T) where
 
 -- why a poll of such a queue may ask for another: the causes of one of its futures
 abbrev pub BagStirs : {F : Type 0} → (F → F → Type 0) → List F → Type 0
-BagStirs stirs = SomeCall (λ future. (left : _) × stirs future left)
+BagStirs {F} stirs = SomeCall (λ future. (left : F) × stirs future left)
 
 -- the relations of a `Bag` of such futures
 abbrev pub bag : {F T : Type 0} → StepsOf F T → (F → Type 0) → CallQueueOf (Queue F) T F
