@@ -1,5 +1,5 @@
 //! How a paused loop moves its time.
-ghost use Rattle.std.specs.Prelude.{◌≡◌, ◌<◌, ◌-◌, ◌^◌, ℕ, max, None, IsSome, IfOk, OnOk, IfErr, IsErr, IsSomeAnd};
+ghost use Rattle.std.specs.Prelude.{◌≡◌, ◌<◌, ◌-◌, ◌^◌, ℕ, max, None, IsSome, IfOk, OnOk, OnErr, IsErr, IsSomeAnd};
 ghost use Rattle.futures.specs.Task.{Keeps};
 ghost use Rattle.futures.specs.Task.EventLoop.Settled.{IsFired};
 
@@ -38,7 +38,7 @@ impl Shown {
     }
 
     /// Has the bell rung once no task can go on.
-    pub fn ring_at_rest(&self, bell: Bell) -> Result<(), AllocError> {
+    pub(crate) fn ring_at_rest(&self, bell: Bell) -> Result<(), AllocError> {
         let mut idle = lock(&self.idle).ok_or(AllocError)?;
         idle.push(bell)?;
         Ok(())
@@ -81,9 +81,9 @@ impl Jumps {
     // end of the rest. If that has none, it is a deadlock.
     fn go_on(&mut self, rest: &Rest<'_>) -> io::Result<()>
         ensures stands { IsSomeAnd self.new.rings (λ _. Unit {0}) → self.new.now ≡ self.old.now }
-        ensures moved { self.new.rings ≡ None → OnOk result
-            (IsSomeAnd rest.now.until (λ tick. (tick < 2 ^ 64 - 1) × (self.new.now ≡ max self.old.now tick))) }
-        ensures stays { IfErr result (λ _. (self.new.now ≡ self.old.now) × IsSome self.new.deadlock) }
+        ensures moved { self.new.rings ≡ None → OnOk result (IsSomeAnd rest.now.until
+            (λ tick. (tick < 2 ^ 64 - 1) × (self.new.now ≡ max self.old.now tick))) }
+        ensures stays { OnErr result ((self.new.now ≡ self.old.now) × IsSome self.new.deadlock) }
         ensures goes { OnOk result (self.new.deadlock ≡ self.old.deadlock) }
         ensures stuck { self.new.rings ≡ None → rest.now.until ≡ None → IsErr result }
     {
@@ -115,9 +115,9 @@ impl<W: Wait> Events<W> for Jumps {
 
     fn wait(&mut self, _rt: &W, rest: &Rest<'_>) -> io::Result<()>
         ensures stands { IsSomeAnd self.new.rings (λ _. Unit {0}) → self.new.now ≡ self.old.now }
-        ensures moved { self.new.rings ≡ None → OnOk result
-            (IsSomeAnd rest.now.until (λ tick. (tick < 2 ^ 64 - 1) × (self.new.now ≡ max self.old.now tick))) }
-        ensures stays { IfErr result (λ _. (self.new.now ≡ self.old.now) × IsSome self.new.deadlock) }
+        ensures moved { self.new.rings ≡ None → OnOk result (IsSomeAnd rest.now.until
+            (λ tick. (tick < 2 ^ 64 - 1) × (self.new.now ≡ max self.old.now tick))) }
+        ensures stays { OnErr result ((self.new.now ≡ self.old.now) × IsSome self.new.deadlock) }
         ensures goes { OnOk result (self.new.deadlock ≡ self.old.deadlock) }
     {
         self.go_on(rest)

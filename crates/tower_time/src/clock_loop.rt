@@ -141,7 +141,8 @@ impl<W: Wait, R: rt::Clock + Copy> Events<W> for Naps<R> {
     }
 
     fn wait(&mut self, _rt: &W, rest: &Rest<'_>) -> io::Result<()>
-        ensures slept { OnOk result (self.new.slept.nanos ≡ nap rest.now.until self.new.clock.last) }
+        ensures slept { OnOk result
+            (self.new.slept.nanos ≡ nap rest.now.until self.new.clock.last) }
         ensures read { Read self.old.clock self.new.clock }
     {
         let moment = self.clock.now();

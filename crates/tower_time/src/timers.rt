@@ -111,7 +111,7 @@ impl<R: rt::Clock + Copy> Timers<R> {
     // Fires timers as they become due, until they are closed.
     fn run<W: Wait>(&self, rt: &W) -> Ended {
         let mut clock = self.clock.share();
-        for _ in rt.forever() {
+        for _turn in rt.forever() {
             let rings = self.shared.bell.rings();
             match self.shared.turn_after(rt, rings, tick_at(clock.now())) {
                 Ok(turned) => {
@@ -146,7 +146,7 @@ impl Shared {
     // Fires each timer that is due at `now`, one after another, and wakes its task once the lock is free.
     // Returns the tick of the next turn once no timer is due.
     fn turn<W: Wait>(&self, rt: &W, now: u64) -> Result<u64, Ended> {
-        for _ in rt.forever() {
+        for _look in rt.forever() {
             match looked(self.state.lock(rt), now) {
                 Look::Fired(waker) => drop(waker),
                 Look::Next(tick) => return Ok(tick),

@@ -97,7 +97,8 @@ impl Bell {
     /// Sleeps from the moment, in nanoseconds, to the tick of the next turn, and not at all if the bell
     /// rang since the turn began.
     pub fn sleep<W: Wait>(&self, rt: &W, turned: Turned, moment: u64) -> Dozed
-        ensures { (result.rings ≡ turned.rings.count) × (result.nanos ≡ thread_nap turned.tick moment) }
+        ensures rings { result.rings ≡ turned.rings.count }
+        ensures nanos { result.nanos ≡ thread_nap turned.tick moment }
     {
         let Turned { rings, tick } = turned;
         let left = nanos_until(tick, moment, LONGEST);

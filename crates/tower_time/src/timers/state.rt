@@ -142,7 +142,8 @@ impl State {
     ) -> Option<(bool, Armed)>
         ensures left { get self.old.wakers key ≢ None → self.old.is_running ≡ true
             → self.old.wheel.elapsed < when → IsSome result }
-        ensures armed { IfSome result (λ it. (it.1.tick ≡ when) × (deadline_of self.new.wheel key ≡ Some when)
+        ensures armed { IfSome result (λ it. (it.1.tick ≡ when)
+            × (deadline_of self.new.wheel key ≡ Some when)
             × IsLeftIn cx.old cx.new (unwrap_or (get self.new.wakers key) None)) }
         ensures unheard { MatchOption result (self.new.next ≡ self.old.next)
             (λ it. it.0 ≡ false → self.new.next ≡ self.old.next) }
@@ -262,7 +263,8 @@ pub enum Look {
 
 /// Fires one timer that is due at `now`. The lock is free at the end, so the task is woken without it.
 pub fn looked(mut state: MutexGuard<'_, State>, now: u64) -> Look
-    ensures { Looks (mutex_guard_value state.entry).wheel (get (mutex_guard_value state.entry).wakers) now result }
+    ensures { Looks (mutex_guard_value state.entry).wheel
+        (get (mutex_guard_value state.entry).wakers) now result }
 {
     if let Some(waker) = state.fire(now) {
         return Look::Fired(waker);
