@@ -3,6 +3,7 @@ newer kit changes it, tests/kit.py says what changed. `prove` uses it, too, so s
 import os
 import runpy
 import shutil
+import sys
 import types
 from pathlib import Path
 
@@ -28,3 +29,9 @@ def stamp(root):
     for crate in crates_of(root):
         if Path(crate.rlib).is_dir():
             Path(crate.folder, "out/rlib/stamp").write_text(crate.stamp(), encoding="utf-8")
+
+
+if __name__ == "__main__":
+    # `rt try` with these words, without the check beside it, which takes as long again and looks for reserved names.
+    rtlib.RATTLE = "true"
+    sys.exit(rt.main(["try", *sys.argv[1:]]))

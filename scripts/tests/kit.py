@@ -23,6 +23,8 @@ class Tests(unittest.TestCase):
             (kit.Crate.sources_below, "(self)"),
             (kit.Crate.below, "(self)"),
             (kit.Crate.count, "(self, pattern)"),
+            (kit.Crate.try_unproved, "(self, flags, arguments)"),
+            (kit.rt.main, "(words)"),
         ):
             self.assertEqual(str(inspect.signature(call)), takes, call)
 
