@@ -1,7 +1,7 @@
 #!/usr/bin/env python3
-"""scripts/tests/trouble.py [types|proofs]: each program of trouble.txt is refused, and what `./prove` prints of it has
-its row of docs/TROUBLE.md alone. Without it a row would no longer fit once the kit says something else, or a user would
-be told what doesn't help. The libraries are read as texts, so none is proved."""
+"""scripts/tests/trouble.py [types] [proofs] [NAME ..]: each program of trouble.txt, or of a part, or those named, is
+refused, and what `./prove` prints of it has its row of docs/TROUBLE.md alone. Without it a row would no longer fit once
+the kit says something else, or a user would be told what doesn't help. The libraries are read as texts, unproved."""
 import re
 import runpy
 import shutil
@@ -56,27 +56,29 @@ def tell(programs, said, wrong):
     told = {}
     for part in PROVE["advice"](said):
         for name in {*re.findall(r"^(?:src/|fn trouble::)(\w+)", part, re.M)} & {*programs}:
-            told.setdefault(name, []).extend(it.strip() for it in part.split("\n") if it.startswith("    "))
-    for name, rows in told.items():
+            told.setdefault(name, []).append(part)
+    for name, parts in told.items():
+        rows = re.findall(r"(?m)^    (.*)", "\n".join(parts))
         if not rows or any(not it.startswith(programs[name][0]) for it in rows):
-            wrong.append(f"{name}: expected {programs[name][0]}\n    came {rows}")
+            wrong.append("\n    ".join([f"{name}: expected {programs[name][0]}, and came", *parts]))
     return told
 
 
-def main(kinds):
+def main(words):
     texts = (TOP / "scripts/tests/trouble.txt").read_text(encoding="utf-8").split("\nProofs\n")
     wrong, number = [], 0
     for kind, text in zip(("types", "proofs"), texts):
         found = re.findall(r"(?ms)^=== (\w+): (.*?)\n(.*?)(?=^=== |\Z)", text)
-        programs, number = {name: (row, body) for name, row, body in found}, number + len(found)
-        while programs and kind in (kinds or ("types", "proofs")):
+        programs = {name: (row, body) for name, row, body in found if {name, kind} & {*words} or not words}
+        number += len(programs)
+        while programs:
             flags = ("--only", "") if kind == "types" else [it for name in programs for it in ("--only", name)]
             said = check(programs, *flags)
             told = tell(programs, said, wrong)
             if not told:
                 wrong += [f"{it}: nothing was said of it" for it in programs] + said[-9:]
             programs = {name: it for name, it in programs.items() if name not in told} if told else {}
-    print(*wrong, f"trouble: {number} programs, of which {len(wrong)} were told something else", sep="\n")
+    print(*wrong, f"trouble: {number} programs, of which {len(wrong)} were told otherwise", sep="\n")
     return len(wrong) > 0
 
 
