@@ -45,6 +45,9 @@ impl<Request, S: Service<Request>> Service<Request> for Counted<S> {
 
     ghost polled = { Polled S.Service };
 
+    // A poll asks for another only if that of the inner service does.
+    ghost stirs = { λ old new. S.stirs old.inner new.inner };
+
     ghost called = { Called S.Service };
 
     ghost readies = { λ old new p. S.readies old.inner new.inner p.polled };

@@ -36,6 +36,9 @@ impl<'a, Request, S: Service<Request>> Service<Request> for CountErrors<'a, S> {
 
     ghost polled = { S.polled };
 
+    // A poll asks for another only if that of the inner service does.
+    ghost stirs = { S.stirs };
+
     ghost called = { λ old request future new. S.ready old × S.called old request future new };
 
     ghost readies = { S.readies };
@@ -76,6 +79,8 @@ impl<'a, F: Steps<Output = Result<A, E>>, A, E> Steps for CountErrorsFuture<'a, 
     ghost needs = { F.needs };
 
     ghost stepped = { F.stepped };
+
+    ghost stirs = { F.stirs };
 
     fn step(&mut self, cx: &mut Context<'_>) -> Poll<Result<A, E>> {
         let answer = self.inner.step(cx);

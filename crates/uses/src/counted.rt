@@ -46,6 +46,9 @@ impl<Request, S: Service<Request>> Service<Request> for Counted<S> {
     // If it is pending, it waits for what its service waits for.
     ghost needs = { S.needs };
 
+    // It asks to be polled again only if its service does.
+    ghost stirs = { S.stirs };
+
     ghost called = { λ old request future new. S.ready old × S.called old request future new };
 
     ghost readies = { S.readies };
