@@ -2,14 +2,15 @@
 """scripts/hostile.py: plays random scripts over a hostile party. Without it only what somebody thought of is played.
 
 Each generator hostile/NAME.py writes files CRATE.NAME.script, of 10000 events at least, whose answers and notes a plain
-machine tells. They are played with the proved programs, up to the first file of which a line is wrong. The scripts are
-always the same, but others for another SEED."""
+machine tells. They are played with the proved programs, up to the first file of which a line is wrong; and once more
+with parties that wake their task at each poll, whatever they return, where each line is the same. The scripts are always
+the same, but others for another SEED."""
 import subprocess
 import sys
 import tempfile
 from pathlib import Path
 
-from common import TOP, program_of
+from common import TOP, play, program_of, scripts_of, text_of
 
 with tempfile.TemporaryDirectory() as room:
     # (what the generators share writes nothing)
@@ -22,3 +23,9 @@ with tempfile.TemporaryDirectory() as room:
         print(f"hostile: {file.stem}: {events} events, {said[:2000]}", end="", flush=True)
         if events < 10_000 or not said.endswith(" scripts, 0 lines wrong\n"):
             sys.exit(1)
+        scripts = scripts_of(file.read_text(encoding="utf-8"))
+        asked = [[line.asked for line in script] for script in scripts]
+        for script, stirred in zip(scripts, play(words[0], asked, "; stirs"), strict=True):
+            for line, came in zip(script[1:], stirred[1:], strict=True):
+                if text_of(line) != text_of(came):
+                    sys.exit(f"hostile: {file.stem}: if each poll wakes its task\n  {text_of(line)}\n  {text_of(came)}")
