@@ -41,7 +41,8 @@ where
     N: Trace<Request, T, E>,
 {
     fn drop(self)
-        ensures { self.is_open ≡ true → (nanos : ℕ) × N.told self.trace (Event.dropped self.span nanos) }
+        ensures { self.is_open ≡ true → (nanos : ℕ)
+            × N.told self.trace (Event.dropped self.span nanos) }
     {
         let Open {
             of: _,
