@@ -1,5 +1,6 @@
 pub mod Projections
 pub mod Refusal
+pub mod RefusalKinds
 pub mod WaitRuns
 pub mod WaitRunsLemmas
 pub mod Waits

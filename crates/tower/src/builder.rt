@@ -8,6 +8,7 @@ use crate::layer::util::{Identity, Stack};
 use crate::layer::{Layer, LayerFn, layer_fn};
 use crate::limit::{ConcurrencyLimitLayer, RateLimitLayer};
 use crate::load_shed::LoadShedLayer;
+use crate::meter::{Meter, MeterLayer, TracedLayer};
 use crate::retry::RetryLayer;
 use crate::timeout::TimeoutLayer;
 use crate::util::{
@@ -139,6 +140,29 @@ impl<L> ServiceBuilder<L> {
         ensures { result ≡ record { inner = record {}; outer = self } }
     {
         self.layer(LoadShedLayer::new())
+    }
+
+    /// Adds counts of what passes, at this meter. The Rust has no such method.
+    pub fn metered<M, C, K>(
+        self,
+        meter: Meter<M>,
+        clock: C,
+        kinds: K,
+    ) -> ServiceBuilder<Stack<MeterLayer<M, C, K>, L>>
+        ensures { result ≡ record {
+          inner = record { latch = meter.latch; clock = clock; kinds = kinds };
+          outer = self;
+        } }
+    {
+        self.layer(MeterLayer::new(meter, clock, kinds))
+    }
+
+    /// Tells of each call and answer, for logs. The Rust has no such method.
+    pub fn traced<C, N>(self, clock: C, trace: N) -> ServiceBuilder<Stack<TracedLayer<C, N>, L>>
+        ensures { result
+            ≡ record { inner = record { clock = clock; trace = trace }; outer = self } }
+    {
+        self.layer(TracedLayer::new(clock, trace))
     }
 
     /// Adds retries, which clones of the policy decide.

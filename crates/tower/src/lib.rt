@@ -3,6 +3,7 @@
 
 pub mod builder;
 pub mod layer;
+pub mod meter;
 pub mod projection;
 pub mod time;
 pub mod util;

@@ -5,6 +5,7 @@ ghost use Rattle.tower.specs.Waits.{Waited, Answered, Each};
 ghost use Rattle.tower_util.specs.declared.util.oneshot.State.TheVariants.{NotReady};
 
 use crate::filter::{AsyncFilter, AsyncPredicate, Filter, Predicate};
+use crate::meter::{Meter, Metered, Traced};
 use crate::util;
 use crate::util::{
     AndThen, CallAll, MapErr, MapFuture, MapRequest, MapResponse, MapResult, Oneshot, Ready,
@@ -82,6 +83,30 @@ pub trait ServiceExt<Request>: Service<Request> {
         ensures { result ≡ record { inner = self; predicate = predicate } }
     {
         AsyncFilter::new(self, predicate)
+    }
+
+    /// Counts what passes at this meter. The Rust has no such method.
+    final fn metered<M, C, K>(self, meter: Meter<M>, clock: C, kinds: K) -> Metered<Self, M, C, K>
+    where
+        Self: Sized,
+        ensures { result ≡ record {
+          inner = self;
+          latch = meter.latch;
+          clock = clock;
+          kinds = kinds;
+          since = None;
+        } }
+    {
+        Metered::new(self, meter, clock, kinds)
+    }
+
+    /// Tells of each call and answer, for logs. The Rust has no such method.
+    final fn traced<C, N>(self, clock: C, trace: N) -> Traced<Self, C, N>
+    where
+        Self: Sized,
+        ensures { result ≡ record { inner = self; clock = clock; trace = trace; since = None } }
+    {
+        Traced::new(self, clock, trace)
     }
 
     /// Goes on from each response with a future that the closure makes of it.
