@@ -60,7 +60,10 @@ def script(words):
 
 
 def called(words, folder, given=""):
-    ran = subprocess.run(words, cwd=folder, input=given.encode(), capture_output=True, check=False, timeout=600)
+    try:
+        ran = subprocess.run(words, cwd=folder, input=given.encode(), capture_output=True, check=False, timeout=900)
+    except subprocess.TimeoutExpired as error:
+        return 1, "", f"{error}"
     out, said = ran.stdout.decode(errors="replace"), ran.stderr.decode(errors="replace")
     return ran.returncode, out, out + said
 
