@@ -107,6 +107,49 @@ fn deadline_past_the_last_tick_lasts_until_the_end(rt: HostRuntime) -> Result<()
     Ok(())
 }
 
+/// More than half of 2^16, in which a key or a count might wrap.
+const MANY: usize = 40_000;
+
+// Has a clock wait, then a share of it, and so on.
+fn wait_often<R, C>(rt: &R, solo: &Solo, clock: C) -> io::Result<Vec<C>>
+where
+    R: AllocGlobal,
+    C: Clock,
+{
+    let mut clocks = Vec::new(rt.alloc());
+    let mut last = clock;
+    for _ in 0..MANY {
+        let next = last.share();
+        let (_is_woken, left) = left_for_ever(solo, last);
+        clocks.push(left)?;
+        last = next;
+    }
+    Ok(clocks)
+}
+
+// How many timers there are once all clocks wait, at the end, and once the clocks are dropped.
+fn counts<R>(rt: R) -> io::Result<(usize, usize, usize)>
+where
+    R: Wait + RandomSource + AllocGlobal + Threads + ReadsClock + Copy + Sync,
+{
+    let timers = Timers::new(rt, rt.alloc())?;
+    let solo = Solo::new(&rt, Doorbell::spinning())?;
+    let waiting = || -> io::Result<(Vec<_>, usize)> {
+        let clocks = wait_often(&rt, &solo, timers.clock())?;
+        Ok((clocks, timers.len()))
+    };
+    let (clocks, count) = timers.beside(&rt, waiting)?;
+    let at_the_end = timers.len();
+    drop(clocks);
+    Ok((count, at_the_end, timers.len()))
+}
+
+#[test]
+fn each_share_has_a_timer_until_its_drop(rt: HostRuntime) -> Result<(), Fail> {
+    assert_eq!(rt; counts(rt)?, (MANY, MANY, 0));
+    Ok(())
+}
+
 // What a call told before a thread fires the timers, after it, and outside its loop.
 fn busy<R>(rt: R) -> io::Result<[(u64, u64); 3]>
 where
@@ -125,6 +168,24 @@ where
 {
     let tasks = ClockLoop::new(rt, &rt)?;
     one_call(&rt, tasks.clock(), LIMIT)
+}
+
+// One response in its loop.
+fn in_its_loop<R>(rt: R) -> io::Result<(u64, u64)>
+where
+    R: Wait + RandomSource + AllocGlobal + ReadsClock + Copy,
+{
+    let board = Board::new();
+    let mut tasks = ClockLoop::new(rt, &rt)?;
+    let flight = Flight::new(&tasks.clock(), &board, WAIT, LIMIT);
+    tasks.block_on(&rt, flight)?;
+    Ok(board.told())
+}
+
+#[test]
+fn not_busy_in_its_loop(rt: HostRuntime) -> Result<(), Fail> {
+    assert_eq!(rt; in_its_loop(rt)?, (1, 0));
+    Ok(())
 }
 
 // Without a thread that fires the timers, and outside its loop, a clock's task is polled all the while.
