@@ -31,11 +31,13 @@ use tower_base::service::Service;
 /// ready join the ready ones. A call makes its endpoint pending again, and so does a check that finds it
 /// busy. Each key has at most one ready endpoint, and at most one pending endpoint that isn't cancelled.
 ///
+/// A dropped cache drops the pending endpoints first, and then the ready ones.
+///
 /// A clone of a key must equal the key.
 #[derive(Drop)]
 pub struct ReadyCache<K: Eq + Hash + Clone, S, Req> {
-    ready: IndexMap<K, S>,
     pending: Pending<K, S>,
+    ready: IndexMap<K, S>,
     of: PhantomData<Req>,
 }
 
@@ -71,8 +73,8 @@ impl<K: Eq + Hash + Clone + Drop, S: Service<Req>, Req> ReadyCache<K, S, Req> {
         ensures sound { Sound S.sound result.lists }
     {
         ReadyCache {
-            ready: IndexMap::new(alloc),
             pending: Pending::new(alloc),
+            ready: IndexMap::new(alloc),
             of: PhantomData,
         }
     }
@@ -305,6 +307,8 @@ impl<K: Eq + Hash + Clone + Drop, S: Service<Req>, Req> ReadyCache<K, S, Req> {
         ensures quiet { Quiet (AtKey K.eq key.now self.old.lists.ready
             (StirsAt S.stirs self.old.lists.ready)) cx.old cx.new }
         ensures kept { Keeps cx.old cx.new }
+        // An endpoint that goes back to the pending ones takes no memory.
+        ensures room { self.new.room.endpoints ≡ self.old.room.endpoints }
         ensures touches { self.new.touches ≤ self.old.touches + 2 }
     {
         match self.ready.get_index_of(key) {
@@ -337,6 +341,8 @@ impl<K: Eq + Hash + Clone + Drop, S: Service<Req>, Req> ReadyCache<K, S, Req> {
         // It asks for another poll only if the poll of that endpoint may.
         ensures quiet { Quiet (StirsAt S.stirs self.old.lists.ready index) cx.old cx.new }
         ensures kept { Keeps cx.old cx.new }
+        // An endpoint that goes back to the pending ones takes no memory.
+        ensures room { self.new.room.endpoints ≡ self.old.room.endpoints }
         ensures touches { self.new.touches ≤ self.old.touches + 2 }
     {
         if index >= self.ready.len() {
@@ -368,6 +374,8 @@ impl<K: Eq + Hash + Clone + Drop, S: Service<Req>, Req> ReadyCache<K, S, Req> {
             (λ index. Called K.eq S.Service self.old.lists index request result self.new.lists) }
         ensures sound { Sound S.sound self.new.lists }
         ensures can_poll { S.Future.can_poll result }
+        // The endpoint that goes back to the pending ones takes no memory.
+        ensures room { self.new.room.endpoints ≡ self.old.room.endpoints }
         ensures touches { self.new.touches ≤ self.old.touches + 2 }
     {
         let index = self.ready.get_index_of(key).unwrap();
@@ -383,6 +391,8 @@ impl<K: Eq + Hash + Clone + Drop, S: Service<Req>, Req> ReadyCache<K, S, Req> {
         ensures called { Called K.eq S.Service self.old.lists index request result self.new.lists }
         ensures sound { Sound S.sound self.new.lists }
         ensures can_poll { S.Future.can_poll result }
+        // The endpoint that goes back to the pending ones takes no memory.
+        ensures room { self.new.room.endpoints ≡ self.old.room.endpoints }
         ensures touches { self.new.touches ≤ self.old.touches + 2 }
     {
         let (key, mut service) = self.ready.swap_remove_index(index).unwrap();
