@@ -3,7 +3,7 @@
 import sys
 
 from spawn import Answered, Party
-from stage import LAST_MOMENT, Hostile, Inner, Plan, Play, Stage, write_hostile
+from stage import LAST_MOMENT, Hostile, Inner, Plan, Play, Stage, how_many, write_hostile
 
 PASSES = 64
 NO_ROOM = "error out of memory"
@@ -227,7 +227,7 @@ def ready_cache(rng):
 
     extras = [push] * 9 + [poll] * 4 + [look] * 3 + [check, check_index, evict, find, find_index, replace] + [call_index, push_and_call] * 2
     hostile = Fleet(rng, play, extras, {"extra": 1})
-    for _ in range(rng.randrange(60, 100)):
+    for _ in range(how_many(rng)):
         hostile.step()
     return hostile.end("drop cache", cache.services())
 
@@ -387,7 +387,7 @@ def balance(rng):
     hostile = Fleet(rng, play, extras, {**Hostile.WEIGHTS, "extra": 50, "turn": 0})
     hostile.extras.extend([hostile.endpoint] * 5)
     service.plans = hostile.plans
-    for _ in range(rng.randrange(60, 100)):
+    for _ in range(how_many(rng)):
         hostile.step()
     play.handles = [None]
     return hostile.end("drop a", service.cache.services())

@@ -3,7 +3,7 @@
 import sys
 
 from spawn import Party
-from stage import Inner, Play, Stage, within, write_hostile
+from stage import Inner, Play, Stage, how_many, times, within, write_hostile
 
 PASSES = 64
 CLOSED = "error buffer's worker closed unexpectedly"
@@ -339,7 +339,7 @@ def buffer(rng):
         play.ask("work", worker.work())
 
     def drop_worker():
-        if rng.random() < 0.2:
+        if rng.random() < 0.2 / times(rng):
             answer = None if worker.inner else "skipped"
             if worker.inner:
                 worker.gone()
@@ -350,7 +350,7 @@ def buffer(rng):
         play.ask(f"shares {mail.shares}")
 
     hostile = Party(rng, play, [work] * 14 + [drop_worker, shares, shares], clones=True)
-    left = rng.randrange(60, 100)
+    left = how_many(rng)
     while left > 0:
         hostile.step()
         # Not much comes once the mail is closed.

@@ -3,7 +3,7 @@
 import sys
 
 from script import Script
-from stage import Hostile, Inner, Stage, within, write_hostile
+from stage import Hostile, Inner, Stage, how_many, within, write_hostile
 
 PASSES = 64
 
@@ -183,7 +183,7 @@ def scripts(word, queue):
         calls = Calls(stage, queue(), sent, is_closed)
         play = Stream(stage, f"{word} {sent}{' closed' * is_closed}", calls)
         hostile = HostileStream(rng, play, clones=False)
-        for _ in range(rng.randrange(30, 100)):
+        for _ in range(how_many(rng, 30)):
             hostile.step()
             if not calls.is_there and rng.random() < 0.5:
                 break

@@ -3,7 +3,7 @@
 import sys
 
 from retry import Refused, Sleep
-from stage import LAST_MOMENT, Hostile, Inner, Part, Play, Stage, within, write_hostile
+from stage import LAST_MOMENT, Hostile, Inner, Part, Play, Stage, how_many, within, write_hostile
 
 NO_COPY = 90
 ONCE = 91
@@ -404,7 +404,7 @@ class Hedging(Hostile):
 def select(rng):
     stage = Stage()
     service = Select(Twice(stage.others, "p"), Inner(stage.services, "a"), Inner(stage.others, "b"))
-    return Hedging(rng, Play(stage, "select", service), clones=False, others=True).steps(rng.randrange(60, 100))
+    return Hedging(rng, Play(stage, "select", service), clones=False, others=True).steps(how_many(rng))
 
 
 def delay(rng):
@@ -416,7 +416,7 @@ def delay(rng):
     play = Play(stage, "longest_delay" if is_longest else "delay", service)
     sleeps = lambda: [future.sleep for future in play.futures[-6:] if isinstance(future, Delayed)]
     marks = lambda: [sleep.deadline for sleep in sleeps() if sleep]
-    return Hedging(rng, play, clones=False, marks=marks).steps(rng.randrange(60, 100))
+    return Hedging(rng, play, clones=False, marks=marks).steps(how_many(rng))
 
 
 def latency(rng):
@@ -425,7 +425,7 @@ def latency(rng):
     stage.told()
     play = Play(stage, "latency", service)
     marks = lambda: [future.start for future in play.futures[-4:] if future]
-    return Hostile(rng, play, others=True, marks=marks).steps(rng.randrange(60, 100))
+    return Hostile(rng, play, others=True, marks=marks).steps(how_many(rng))
 
 
 def hedge(rng):
@@ -455,7 +455,7 @@ def hedge(rng):
             return deadlines
         return [periods.made + (periods.present + later) * periods.length for later in (1, 2)]
 
-    return Hedging(rng, play, clones=False, others=True, marks=marks).steps(rng.randrange(60, 100))
+    return Hedging(rng, play, clones=False, others=True, marks=marks).steps(how_many(rng))
 
 
 if __name__ == "__main__":

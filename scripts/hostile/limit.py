@@ -2,7 +2,7 @@
 
 import sys
 
-from stage import HANDLES, Hostile, Inner, Play, Shares, Stage, within, write_hostile
+from stage import HANDLES, Hostile, Inner, Play, Shares, Stage, how_many, within, write_hostile
 
 
 class RateLimit:
@@ -40,7 +40,7 @@ def rate_limit(rng):
     service = RateLimit(stage, number, period)
     play = Play(stage, f"rate_limit {number} {period}", service)
     marks = lambda: [moment + period for moment in service.moments[-number:]]
-    return Hostile(rng, play, clones=False, marks=marks).steps(rng.randrange(60, 100))
+    return Hostile(rng, play, clones=False, marks=marks).steps(how_many(rng))
 
 
 class Line:
@@ -218,7 +218,7 @@ def concurrency_limit(rng):
     hostile = Crowd(rng, play, extras=[free] * is_watched)
     for _ in range(rng.randrange(1, len(HANDLES))):
         hostile.clone()
-    return hostile.steps(rng.randrange(60, 100))
+    return hostile.steps(how_many(rng))
 
 
 if __name__ == "__main__":

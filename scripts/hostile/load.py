@@ -2,7 +2,7 @@
 
 import sys
 
-from stage import Hostile, Inner, Play, Shares, Stage, write_hostile
+from stage import Hostile, Inner, Play, Shares, Stage, how_many, write_hostile
 
 
 class PendingRequests(Shares):
@@ -78,7 +78,7 @@ def pending_requests(rng):
         service.shares = rng.choice([0, 1, 2, 5, 255, 255])
         play.ask(f"shares {service.shares}")
 
-    return Hostile(rng, play, clones=False, extras=[load, load, load, shares]).steps(rng.randrange(60, 100))
+    return Hostile(rng, play, clones=False, extras=[load, load, load, shares]).steps(how_many(rng))
 
 
 if __name__ == "__main__":

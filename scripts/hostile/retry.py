@@ -3,7 +3,7 @@
 import sys
 from collections import Counter
 
-from stage import LAST_MOMENT, Hostile, Inner, Part, Play, Stage, within, write_hostile
+from stage import LAST_MOMENT, Hostile, Inner, Part, Play, Stage, how_many, within, write_hostile
 
 PASSES = 64
 SECOND = 10**9
@@ -170,7 +170,7 @@ def retry(rng):
         rule.words[:] = words_of(rng)
         play.ask(f"policy {', '.join(rule.words)}")
 
-    return Hostile(rng, play, extras=[policy]).steps(rng.randrange(60, 100))
+    return Hostile(rng, play, extras=[policy]).steps(how_many(rng))
 
 
 class Budget:
@@ -265,7 +265,7 @@ def budget(rng):
             play.ask(f"count {note}", str(notes.count(note)))
 
     extras = [deposit] * 10 + [withdraw] * 10 + [spend]
-    return Alone(rng, play, marks=budget.marks, extras=extras).steps(rng.randrange(60, 100))
+    return Alone(rng, play, marks=budget.marks, extras=extras).steps(how_many(rng))
 
 
 class Paying:
@@ -320,7 +320,7 @@ def retry_budget(rng):
     numbers = terms(rng)
     budget = Budget(stage, *numbers)
     play = Play(stage, first_of("retry_budget", *numbers), Retry(Paying(budget), Inner(stage.services, "s")))
-    return Failing(rng, play, budget.marks).steps(rng.randrange(60, 100))
+    return Failing(rng, play, budget.marks).steps(how_many(rng))
 
 
 class Sleep:
@@ -444,7 +444,7 @@ def backoff(rng):
     extras = [make, make_of_a_clone, clone, skip, drop, drop] + [wait] * 8 + [future] * 14
     marks = lambda: [sleep.deadline for sleep in waits[-6:] if sleep]
     hostile = Alone(rng, play, marks=marks, extras=extras)
-    for _ in range(rng.randrange(60, 100)):
+    for _ in range(how_many(rng)):
         hostile.step()
     play.ended = [kept[0], maker]
     return play.end()
@@ -477,7 +477,7 @@ def retry_backoff(rng):
     play = Play(stage, first, Retry(policy, Inner(stage.services, "s")))
     waits = lambda: [future.wait for future in play.futures[-6:] if isinstance(future, Attempts)]
     marks = lambda: [wait.deadline for wait in waits() if wait]
-    return Failing(rng, play, marks).steps(rng.randrange(60, 100))
+    return Failing(rng, play, marks).steps(how_many(rng))
 
 
 if __name__ == "__main__":

@@ -2,7 +2,7 @@
 
 import sys
 
-from stage import Answered, Hostile, Inner, Play, Stage, within, write_hostile
+from stage import Answered, Hostile, Inner, Play, Stage, how_many, times, within, write_hostile
 
 PASSES = 64
 
@@ -218,7 +218,7 @@ class Party(Hostile):
 
     def __init__(self, rng, play, extras, clones=False):
         super().__init__(rng, play, clones=clones, extras=extras)
-        self.breaks = rng.random() < 0.5
+        self.breaks = rng.random() < 0.5 / times(rng)
 
     def state(self):
         state = super().state()
@@ -240,9 +240,9 @@ def spawn_ready(rng):
             play.ask("task", tasks.poll())
 
     def drop():
-        if rng.random() < 0.1:
+        if rng.random() < 0.1 / times(rng):
             play.drop_handle(0)
-        elif rng.random() < 0.1:
+        elif rng.random() < 0.1 / times(rng):
             tasks.drop_newest()
             play.ask("drop task")
         else:
@@ -257,7 +257,7 @@ def spawn_ready(rng):
         play.ask(f"shares {latch.shares}")
 
     hostile = Party(rng, play, [task] * 10 + [drop, room, shares])
-    left = rng.randrange(60, 100)
+    left = how_many(rng)
     while left > 0:
         hostile.step()
         # Not much comes once the service is gone.

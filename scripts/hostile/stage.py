@@ -2,12 +2,16 @@
 
 import os
 import random
+from itertools import islice
+from string import ascii_lowercase
 
 from script import Script, events, write
 
-EVENTS = 10_000
+# With LONG scripts are ever longer, and no handle is dropped: so there are ever more handles and responses.
+LONG = "LONG" in os.environ
+EVENTS = 100_000 if LONG else 10_000
 LAST_MOMENT = 2**64 - 1
-HANDLES = "abcdef"
+HANDLES = ascii_lowercase if LONG else "abcdef"
 
 
 class Stage:
@@ -361,10 +365,11 @@ class Hostile:
     # Mostly one of the last six that may be polled.
     def future(self):
         futures, is_live = self.play.futures, self.play.is_live
-        fitting = [number for number, future in enumerate(futures) if future and is_live[number]]
+        newest_first = (number for number in reversed(range(len(futures))) if futures[number] and is_live[number])
+        fitting = [*islice(newest_first, 6)][::-1]
         if not fitting and self.rng.random() < 0.9:
             return self.poll()
-        self.play.future(self.place(fitting[-6:], len(futures) + 1))
+        self.play.future(self.place(fitting, len(futures) + 1))
 
     def drop_future(self):
         futures = self.play.futures
@@ -376,6 +381,8 @@ class Hostile:
             self.play.clone(self.handle())
 
     def drop_handle(self):
+        if LONG:
+            return
         if sum(handle is not None for handle in self.play.handles) > 1 or self.rng.random() < 0.1:
             self.play.drop_handle(self.handle())
 
@@ -424,11 +431,23 @@ class Hostile:
         return ["echo", "fail", f"echo {polls}", f"fail {polls}", f"ok {value} after {polls}", f"err {value}"]
 
 
+def times(rng):
+    """How many times as long a script is as without LONG. What ends it comes so much seldomer."""
+    return getattr(rng, "times", 1)
+
+
+def how_many(rng, least=60):
+    """How much a script asks."""
+    return rng.randrange(least, 100) * times(rng)
+
+
 def write_hostile(folder, crate, name, scripts):
     """Writes scripts, each of a random source, until there are events enough."""
     rng = random.Random(name + os.environ.get("SEED", ""))
     texts, count = [], 0
     while count < EVENTS:
+        # With LONG each is twice as long as the one before it, up to 512 times.
+        rng.times = 2 ** min(len(texts), 9) if LONG else 1
         texts.append(scripts(rng))
         count += events(texts[-1])
     write(os.path.join(folder, f"{crate}.{name}.script"), texts)

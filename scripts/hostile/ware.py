@@ -2,7 +2,7 @@
 
 import sys
 
-from stage import Answered, Hostile, Inner, Part, Play, Response, Stage, within, write_hostile
+from stage import Answered, Hostile, Inner, Part, Play, Response, Stage, how_many, within, write_hostile
 
 PASSES = 64
 
@@ -60,7 +60,7 @@ def timeout(rng):
     duration = rng.choice([0, 1, 10, 10, 1000, 2**64 - 1])
     play = Play(stage, f"timeout {duration}", Timeout(stage, Inner(stage.services, "s"), duration))
     marks = lambda: [future.deadline for future in play.futures[-4:] if future]
-    return Hostile(rng, play, marks=marks).steps(rng.randrange(60, 100))
+    return Hostile(rng, play, marks=marks).steps(how_many(rng))
 
 
 class LoadShed:
@@ -105,7 +105,7 @@ class Shed:
 def load_shed(rng):
     stage = Stage()
     play = Play(stage, "load_shed", LoadShed(Inner(stage.services, "s")), always=True)
-    return Hostile(rng, play).steps(rng.randrange(60, 100))
+    return Hostile(rng, play).steps(how_many(rng))
 
 
 class Doubling(Part):
@@ -168,7 +168,7 @@ class Filtered(Answered):
 def filtered(rng):
     stage = Stage()
     service = Filter(stage, Inner(stage.services, "s"), Doubling(stage.others, "p"))
-    return Hostile(rng, Play(stage, "filter", service), others=True).steps(rng.randrange(60, 100))
+    return Hostile(rng, Play(stage, "filter", service), others=True).steps(how_many(rng))
 
 
 class AsyncFilter(Filtering):
@@ -230,7 +230,7 @@ def async_filter(rng):
     stage = Stage()
     polls = rng.randrange(4)
     service = AsyncFilter(stage, Inner(stage.services, "s"), Doubling(stage.others, "p"), polls)
-    return Hostile(rng, Play(stage, f"async_filter {polls}", service), others=True).steps(rng.randrange(60, 100))
+    return Hostile(rng, Play(stage, f"async_filter {polls}", service), others=True).steps(how_many(rng))
 
 
 class Maker(Inner):
@@ -368,7 +368,7 @@ def reconnect(rng):
     stage = Stage()
     linked = rng.random() < 0.3
     play = Play(stage, "reconnect linked" if linked else "reconnect", Reconnect(stage, linked))
-    return HostileMaker(rng, play).steps(rng.randrange(60, 100))
+    return HostileMaker(rng, play).steps(how_many(rng))
 
 
 class Steer:
@@ -424,7 +424,7 @@ def steer(rng):
     services = [Inner(stage.others if number else stage.services, "abcccc"[number]) for number in range(count)]
     turns = rng.random() < 0.75
     service = Steer(stage, Part(stage.others, "p"), services, place, turns)
-    return Hostile(rng, Play(stage, f"steer {count} {place}{' turning' * turns}", service), others=True).steps(rng.randrange(60, 100))
+    return Hostile(rng, Play(stage, f"steer {count} {place}{' turning' * turns}", service), others=True).steps(how_many(rng))
 
 
 if __name__ == "__main__":
