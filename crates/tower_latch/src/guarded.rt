@@ -39,6 +39,7 @@ pub struct Guarded<C: Core, R> {
 impl<C: Core, R> Model for Guarded<C, R> {
     ghost Value = { GuardedView C.Terms };
 
+    // The view leaves out `rt`: it never changes, and only serves to park.
     ghost view = { λ g. record {
       share = g.share;
       source = (arc_value g.shared).source.id;

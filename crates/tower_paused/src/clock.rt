@@ -29,6 +29,7 @@ pub struct PausedClock {
 impl Model for PausedClock {
     ghost Value = { PausedView };
 
+    // The view leaves out `shown`: the loop moves it, and `last` tells what was read of it.
     ghost view = { λ c. record { last = c.last; source = option_map key_source c.key } };
 }
 

@@ -19,6 +19,7 @@ pub struct HandClock<'a> {
 impl<'a> Model for HandClock<'a> {
     ghost Value = { ℕ };
 
+    // The view leaves out `moment`: others set it, and the view is what was read of it.
     ghost view = { λ c. c.last };
 }
 

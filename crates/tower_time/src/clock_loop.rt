@@ -182,6 +182,7 @@ pub struct LoopClock<R> {
 impl<R> Model for LoopClock<R> {
     ghost Value = { ClockView R };
 
+    // The view leaves out `keys`: it never changes, and only issues `key` at the first wait.
     ghost view = { λ c. record { clock = c.clock; source = option_map key_source c.key } };
 }
 

@@ -207,6 +207,7 @@ pub struct TimerClock<R> {
 impl<R> Model for TimerClock<R> {
     ghost Value = { TimerView R };
 
+    // The view leaves out `key`: it only finds the timer, and `armed` tells what that waits for.
     ghost view = { λ c. record {
       clock = c.clock;
       source = option_map shared_source c.shared;

@@ -29,6 +29,7 @@ pub struct BufferLayer<Request, E: Clone, X, R> {
 impl<Request, E: Clone, X, R> Model for BufferLayer<Request, E, X, R> {
     ghost Value = { BufferLayerView X };
 
+    // The view leaves out `rt` and `alloc`: neither changes, and both only serve to make a latch.
     ghost view = { λ l. record { bound = l.bound; executor = l.executor } };
 
     // `Buffer::pair` requires both.

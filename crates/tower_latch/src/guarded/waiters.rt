@@ -26,6 +26,7 @@ pub struct Waiters {
 impl Model for Waiters {
     ghost Value = { List (List Waiter) };
 
+    // The view leaves out `alloc` and `kept`: the invariant tells how many are kept.
     ghost view = { λ w. w.crowds.items };
 
     ghost invariant = { λ w. w.kept ≡ crowded w.crowds.items };

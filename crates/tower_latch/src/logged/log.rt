@@ -39,6 +39,7 @@ pub struct LogTable<S, R> {
 impl<S, R> Model for LogTable<S, R> {
     ghost Value = { TableId };
 
+    // The view leaves out `keeper`: the invariant tells what it knows.
     ghost view = { λ t. t.cell.table.shared.table_id };
 
     ghost invariant = { λ t. (t.keeper.table_id ≡ t.cell.table.shared.table_id)

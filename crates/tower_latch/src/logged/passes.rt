@@ -33,6 +33,7 @@ pub struct Pass<C: Core, K: Log<C>> {
 impl<C: Core, K: Log<C>> Model for Pass<C, K> {
     ghost Value = { List (ℕ × C.Step × C.Reply) };
 
+    // The view leaves out `token` and `share`: the invariant tells both.
     ghost view = { λ p. p.receipts.items };
 
     ghost invariant = { λ p. (p.share.parts ≡ 1) × (p.share.amount ≡ length p.receipts.items)
@@ -63,6 +64,7 @@ pub struct Held<C: Core, K: Log<C>> {
 impl<C: Core, K: Log<C>> Model for Held<C, K> {
     ghost Value = { List (C.Step × C.Reply) };
 
+    // The view leaves out `core`, `book`, `rest` and `keeper`: the invariant tells of each.
     ghost view = { λ h. h.history.items };
 
     ghost invariant = { λ h. LeadsTo C.opens C.steps K.opening h.history.items h.core

@@ -26,6 +26,7 @@ pub struct SpawnReadyLayer<R, X, Request> {
 impl<R, X, Request> Model for SpawnReadyLayer<R, X, Request> {
     ghost Value = { X };
 
+    // The view leaves out `rt` and `alloc`: neither changes, and both only serve to make a slot.
     ghost view = { λ l. l.executor };
 }
 

@@ -22,6 +22,7 @@ pub struct ConcurrencyLimitLayer<R> {
 impl<R> Model for ConcurrencyLimitLayer<R> {
     ghost Value = { ℕ };
 
+    // The view leaves out `rt` and `alloc`: neither changes, and both only serve to make a latch.
     ghost view = { λ l. l.max };
 }
 

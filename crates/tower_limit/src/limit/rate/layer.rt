@@ -20,6 +20,7 @@ pub struct RateLimitLayer<C> {
 impl<C> Model for RateLimitLayer<C> {
     ghost Value = { RateLimitLayerView C };
 
+    // The view leaves out `alloc`: it never changes, and has no state.
     ghost view = { λ l. record { num = l.rate.num; per = l.rate.per; clock = l.clock } };
 }
 

@@ -53,6 +53,7 @@ impl<R: Wait + Copy> Spare<R> {
 impl<D, R, C> Model for PendingRequestsDiscover<D, R, C> {
     ghost Value = { PendingRequestsDiscoverView D C };
 
+    // The view leaves out `rt`, `alloc` and `spare`: a spare only decides which poll allocates.
     ghost view = { λ p. record { discover = p.discover; completion = p.completion } };
 }
 

@@ -19,6 +19,7 @@ pub struct MakeBalanceLayer<M, R, Req, K: Clone> {
 impl<M, R, Req, K: Clone> Model for MakeBalanceLayer<M, R, Req, K> {
     ghost Value = { R };
 
+    // The view leaves out `alloc`: it never changes, and has no state.
     ghost view = { λ l. l.rng };
 
     // `MakeBalance::new` requires it.

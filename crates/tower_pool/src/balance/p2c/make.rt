@@ -32,6 +32,7 @@ pub struct MakeBalance<M, R, Req, K: Clone> {
 impl<M, R, Req, K: Clone> Model for MakeBalance<M, R, Req, K> {
     ghost Value = { MakeBalanceView M R };
 
+    // The view leaves out `alloc`: it never changes, and has no state.
     ghost view = { λ m. record { maker = m.maker; rng = m.rng } };
 
     // `Balance::from_rng` requires it.
@@ -137,6 +138,7 @@ pub struct MakeFuture<F, R, Req, K: Clone> {
 impl<F, R, Req, K: Clone> Model for MakeFuture<F, R, Req, K> {
     ghost Value = { State F R };
 
+    // The view leaves out `alloc`: it never changes, and has no state.
     ghost view = { λ f. f.state };
 
     // `Balance::from_rng` requires it.
