@@ -18,7 +18,8 @@ TOP = Path(__file__).resolve().parent.parent
 TRY = [sys.executable, str(TOP / "scripts/kit.py")]
 # They measure, and take long unproved.
 MEASURE = {"tower_bench", "bench_threads"}
-TEXTS = "forgets_nothing.py columns.py links.sh vocabulary.py lint.sh tests/kit.py tests/prove.py tests/trouble.py"
+TEXTS = "forgets_nothing.py columns.py links.sh yields.py lock_model.py unseen_fields.py counters.py "
+TEXTS += "vocabulary.py lint.sh tests/kit.py tests/prove.py tests/trouble.py"
 
 
 def layout(crate):
