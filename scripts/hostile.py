@@ -34,9 +34,8 @@ with tempfile.TemporaryDirectory() as room:
             sys.exit(1)
         if LONG:
             continue
-        scripts = scripts_of(file.read_text(encoding="utf-8"))
-        asked = [[line.asked for line in script] for script in scripts]
-        for script, stirred in zip(scripts, play(words[0], asked, "; stirs"), strict=True):
+        asked = [[line.asked for line in script] for script in scripts_of(file.read_text(encoding="utf-8"))]
+        for script, stirred in zip(play(words[0], asked), play(words[0], asked, "; stirs"), strict=True):
             for line, came in zip(script[1:], stirred[1:], strict=True):
                 if text_of(line) != text_of(came):
                     sys.exit(f"hostile: {file.stem}: if each poll wakes its task\n  {text_of(line)}\n  {text_of(came)}")
